@@ -1,0 +1,2 @@
+-- The starred examples of document 01.
+pub mod Starred

@@ -1,0 +1,4 @@
+pub mod Search
+pub mod Listed
+pub mod PatternSet
+pub mod Answer

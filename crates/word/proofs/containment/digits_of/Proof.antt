@@ -1,0 +1,86 @@
+-- `word::containment::digits_of` meets its contract: as many digits as were copied agree.
+-- Assumes nothing.
+use Prim.Native.Nat.{ℕ, _-_, _≤_, _<_}
+use mathlib.Core.Path.{_≡_, refl, sym, ap, _∙_}
+use borrow.Author.Needs.{needs}
+use native.Mathlib.Omega.{arith}
+use native.Mathlib.Numerals.{add-one}
+use lib.ListN.{length, getD, take, length-set}
+use lib.Seq.{take-all, take-suc, take-suc-set}
+use Rattle.word.proofs.containment.digits_of.Statement.{statement}
+use Rattle.word.proofs.containment.digits_of.Tie as tie
+use Rattle.word.proofs.containment.digits_of.Reads as reads
+use Rattle.word.proofs.containment.digits_of.Lts as lts
+
+abbrev Inv-loop : tie.InvT-loop
+Inv-loop s digits₀ i₀ digits i = (take i digits ≡ take i s) × (length digits ≡ 8) × (i ≤ length s) × (i ≤ 8)
+
+abbrev μ-loop : tie.MeasureT-loop
+μ-loop s digits₀ i₀ digits i = 8 - i
+
+-- src/containment.rt:53:5
+loop-holds : tie.Need-loop-holds Inv-loop μ-loop
+loop-holds c = search needs
+
+-- src/containment.rt:55:13
+returns : tie.Need-returns Inv-loop μ-loop
+returns c =
+    let l = c .before .before .loop in
+    let s = c .before .before .before .args .s .now in
+    let whole : l .i ≡ length s = omega arith in
+    let eight : length s ≤ 8 = omega arith in
+    ap (λ (k : ℕ). take k (l .digits)) (sym whole) ∙ l .inv .0 ∙ take-all (l .i) s (omega arith) ∙ sym (take-all 8 s eight)
+
+-- src/containment.rt:57:21
+shared-slice-read-digits : tie.Need-shared-slice-read-digits Inv-loop μ-loop
+shared-slice-read-digits c = search needs
+
+-- src/containment.rt:57:9
+array-write-digits : tie.Need-array-write-digits Inv-loop μ-loop
+array-write-digits c = search needs
+
+-- src/containment.rt:58:9
+add-i : tie.Need-add-i Inv-loop μ-loop
+add-i c = search needs
+
+-- src/containment.rt:53:5
+loop-less : tie.Need-loop-less Inv-loop μ-loop
+loop-less c = search needs
+
+-- src/containment.rt:53:5
+loop-again : tie.Need-loop-again Inv-loop μ-loop
+loop-again c =
+    let l = c .before .before .before .loop in
+    let s = c .before .before .before .before .args .s .now in
+    let more : l .i < length s = omega arith in
+    let room : l .i < length (l .digits) = omega arith in (
+      rw (add-one, take-suc-set (l .digits) (l .i) (getD s (l .i) 0) room, take-suc s (l .i) 0 more, l .inv .0) refl,
+      length-set (l .digits) (l .i) (getD s (l .i) 0) ∙ l .inv .1,
+      omega arith,
+      omega arith,
+    )
+
+-- src/containment.rt:48:1
+returns-2 : tie.Need-returns-2 Inv-loop μ-loop
+returns-2 c =
+    let l = c .before .loop in
+    let s = c .before .before .args .s .now in
+    let all : l .i ≡ 8 = omega arith in
+    let long : length (l .digits) ≤ length s = omega arith in
+    take-all (length s) (l .digits) long ∙ sym (take-all 8 (l .digits) (omega arith)) ∙ ap (λ (k : ℕ). take k (l .digits)) (sym all) ∙ l .inv .0 ∙
+    ap (λ (k : ℕ). take k s) all
+
+pub digits-of-spec : {M : Type 1} → statement M
+digits-of-spec =
+    tie.close
+    (tie.spec
+    Inv-loop
+    μ-loop
+    loop-holds
+    returns
+    shared-slice-read-digits
+    array-write-digits
+    add-i
+    loop-less
+    loop-again
+    returns-2)

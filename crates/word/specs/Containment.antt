@@ -1,0 +1,35 @@
+-- The answer of the public operation `contains`, and the patterns that a set in memory holds.
+use Prim.Native.Nat.{ℕ, zero, suc}
+use mathlib.Core.Bool.{Bool, true, false, not, cond, _||_}
+use mathlib.Core.List.{List, [], _∷_}
+use lib.ListN.{length, take}
+use lib.Dec.{ltb, eqb}
+use Rattle.word.specs.Word.{contains, isPerm}
+use Rattle.word.specs.Finding.{Finding, clean, fault, test, firstFault}
+use Rattle.word.specs.declared.refusal.Refusal.the-variants.{Oversize, NoPermutation}
+use Rattle.word.specs.declared.containment.Contained.{Contained}
+use Rattle.word.specs.declared.containment.Contained.the-variants.{Yes, No, Refused}
+
+-- "a digit run is none, or a pattern is ε" (01, refusal 3): a pattern is a permutation of at least one entry
+abbrev pub isPattern : List ℕ → Bool
+isPattern β = cond (eqb (length β) 0) false (isPerm β)
+
+-- "Containment takes one pattern and one permutation of up to 20 entries (ε allowed); it tests 2 and 3, the pattern first" (01)
+abbrev pub containmentTests : List ℕ → List ℕ → List Finding
+containmentTests β w =
+    test Oversize (ltb 8 (length β)) ∷ test NoPermutation (not (isPattern β)) ∷
+    test Oversize (ltb 20 (length w)) ∷ test NoPermutation (not (isPerm w)) ∷ []
+
+abbrev pub answerOf : Finding → Bool → Contained
+answerOf (fault r i) b = Refused r i
+answerOf clean b = cond b Yes No
+
+abbrev pub containment : List ℕ → List ℕ → Contained
+containment β w = answerOf (firstFault (containmentTests β w)) (contains β w)
+
+-- the patterns of a set in memory: of each of the first `count` rows as many digits as its length says
+abbrev pub patternsOf : List (List ℕ) → List ℕ → ℕ → List (List ℕ)
+patternsOf rows lengths zero = []
+patternsOf [] lengths (suc n) = []
+patternsOf (r ∷ rows) [] (suc n) = []
+patternsOf (r ∷ rows) (k ∷ lengths) (suc n) = take k r ∷ patternsOf rows lengths n

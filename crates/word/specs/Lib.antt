@@ -1,0 +1,14 @@
+-- The definitions of the crate word, and then its laws.
+pub mod Lists
+pub mod Word
+pub mod Refusal
+pub mod Finding
+pub mod Copy
+pub mod Containment
+pub mod ListLaws
+pub mod IsoLaws
+pub mod ContainsLaws
+pub mod CopyLaws
+pub mod BumpLaws
+pub mod PermLaws
+pub mod AscendLaws

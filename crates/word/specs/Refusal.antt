@@ -1,0 +1,19 @@
+-- The number of each refusal in the table of document 01.
+use Prim.Native.Nat.{ℕ}
+use Rattle.word.specs.declared.refusal.Refusal.{Refusal}
+use Rattle.word.specs.declared.refusal.Refusal.the-variants.{Misspelt, Oversize, NoPermutation, Repeated, Rootless, Width, NoPosition, Childless, NoTarget, LiveGap, Irreversible, ShortTable, ShortPage}
+
+abbrev pub numberOf : Refusal → ℕ
+numberOf Misspelt = 1
+numberOf Oversize = 2
+numberOf NoPermutation = 3
+numberOf Repeated = 4
+numberOf Rootless = 5
+numberOf Width = 6
+numberOf NoPosition = 7
+numberOf Childless = 8
+numberOf NoTarget = 9
+numberOf LiveGap = 10
+numberOf Irreversible = 11
+numberOf ShortTable = 12
+numberOf ShortPage = 13
