@@ -1,8 +1,8 @@
 -- `word::containment::any_in` meets its contract: a pattern of the set stands in the word if one from the index on does.
 -- Assumes nothing.
-use Prim.Native.Nat.{ℕ, _-_, _<_, _≤_}
-use mathlib.Core.Path.{_≡_, refl, sym, ap, _∙_}
-use mathlib.Core.Bool.{Bool, true, false, not}
+use Prim.Native.Nat.{_-_}
+use mathlib.Core.Path.{_≡_, sym, _∙_}
+use mathlib.Core.Bool.{not}
 use mathlib.Core.List.{[]}
 use borrow.Author.Needs.{needs}
 use native.Mathlib.Omega.{arith}
@@ -12,9 +12,6 @@ use Rattle.word.specs.Containment.{patternsOf}
 use Rattle.word.proofs.PatternSet.{found-contains, some-from, some-start, some-counted, some-end, some-here, some-later}
 use Rattle.word.proofs.containment.any_in.Statement.{statement}
 use Rattle.word.proofs.containment.any_in.Tie as tie
-use Rattle.word.proofs.containment.any_in.Reads as reads
-use Rattle.word.proofs.containment.any_in.Lts as lts
-use Rattle.word.proofs.copy.first_copy.Reads as first-copy-reads
 
 abbrev Inv-loop : tie.InvT-loop
 Inv-loop count w set lengths i₀ i = not (avoids (patternsOf set lengths count) w) ≡ some-from set lengths count w i
@@ -22,39 +19,31 @@ Inv-loop count w set lengths i₀ i = not (avoids (patternsOf set lengths count)
 abbrev μ-loop : tie.MeasureT-loop
 μ-loop count w set lengths i₀ i = 24 - i
 
--- src/containment.rt:68:5
 loop-holds : tie.Need-loop-holds Inv-loop μ-loop
 loop-holds c =
     let a = c .before .args in
     some-start (a .t1) (a .t2) (a .count) (a .w .now)
 
--- src/containment.rt:70:13
 returns : tie.Need-returns Inv-loop μ-loop
 returns c =
     let a = c .before .before .before .before .args in
     sym (c .before .before .loop .inv ∙ some-counted (a .t1) (a .t2) (a .count) (a .w .now) (c .before .before .loop .i) (omega arith))
 
--- src/containment.rt:72:31
 mul-first-copy : tie.Need-mul-first-copy Inv-loop μ-loop
 mul-first-copy c = search needs
 
--- src/containment.rt:72:31
 array-copy-out-first-copy : tie.Need-array-copy-out-first-copy Inv-loop μ-loop
 array-copy-out-first-copy c = search needs
 
--- src/containment.rt:72:39
 array-read-first-copy : tie.Need-array-read-first-copy Inv-loop μ-loop
 array-read-first-copy c = search needs
 
--- src/containment.rt:72:39
 cast-first-copy : tie.Need-cast-first-copy Inv-loop μ-loop
 cast-first-copy c = search needs
 
--- src/containment.rt:72:13
 first-copy-requires : tie.Need-first-copy-requires Inv-loop μ-loop
 first-copy-requires c κs = search needs
 
--- src/containment.rt:74:13
 returns-2 : tie.Need-returns-2 Inv-loop μ-loop
 returns-2 c =
     let a = c .before .before .before .before .before .before .before .args in
@@ -62,15 +51,12 @@ returns-2 c =
     let copy = found-contains (take (getD (a .t2) (l .i) 0) (getD (a .t1) (l .i) [])) (a .w .now) (c .before .first-copy .result) (c .before .first-copy .ensures) in
     sym (l .inv ∙ some-here (a .t1) (a .t2) (a .count) (a .w .now) (l .i) (search needs) (search needs) (omega arith) (sym copy ∙ c .if2 .taken))
 
--- src/containment.rt:76:9
 add-i : tie.Need-add-i Inv-loop μ-loop
 add-i c = search needs
 
--- src/containment.rt:68:5
 loop-less : tie.Need-loop-less Inv-loop μ-loop
 loop-less c = search needs
 
--- src/containment.rt:68:5
 loop-again : tie.Need-loop-again Inv-loop μ-loop
 loop-again c =
     let a = c .before .before .before .before .before .before .before .args in
@@ -78,7 +64,6 @@ loop-again c =
     let copy = found-contains (take (getD (a .t2) (l .i) 0) (getD (a .t1) (l .i) [])) (a .w .now) (c .before .first-copy .result) (c .before .first-copy .ensures) in
     l .inv ∙ some-later (a .t1) (a .t2) (a .count) (a .w .now) (l .i) (search needs) (search needs) (omega arith) (sym copy ∙ c .if2 .left)
 
--- src/containment.rt:64:1
 returns-3 : tie.Need-returns-3 Inv-loop μ-loop
 returns-3 c =
     let a = c .before .before .before .args in

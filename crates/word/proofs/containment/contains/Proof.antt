@@ -1,11 +1,10 @@
 -- `word::containment::contains` meets its contract: each test that led to a return decides one test of the definition.
 -- Assumes nothing.
 use Prim.Native.Nat.{ℕ}
-use mathlib.Core.Path.{_≡_, refl, sym, ap, _∙_}
+use mathlib.Core.Path.{_≡_, sym, ap, _∙_}
 use mathlib.Core.Bool.{Bool, true, false, cond}
 use mathlib.Core.List.{List}
 use borrow.Author.Needs.{needs}
-use native.Mathlib.Omega.{arith}
 use lib.ListN.{length, take}
 use lib.Seq.{take-all}
 use Rattle.word.specs.declared.containment.Contained.{Contained}
@@ -18,47 +17,35 @@ use Rattle.word.proofs.PatternSet.{found-contains}
 use borrow.Author.Needs.{needs}
 use Rattle.word.proofs.containment.contains.Statement.{statement}
 use Rattle.word.proofs.containment.contains.Tie as tie
-use Rattle.word.proofs.containment.contains.Reads as reads
-use Rattle.word.proofs.containment.contains.Lts as lts
-use Rattle.word.proofs.containment.digits_of.Reads as digits-of-reads
-use Rattle.word.proofs.copy.first_copy.Reads as first-copy-reads
-use Rattle.word.proofs.permutation.is_permutation.Reads as is-permutation-reads
 
--- src/containment.rt:25:9
 returns : tie.Need-returns
 returns c =
     let a = c .before .before .before .args in
     sym (long-pattern (a .pattern .now) (a .permutation .now) (c .if1 .taken))
 
--- src/containment.rt:28:9
 returns-2 : tie.Need-returns-2
 returns-2 c =
     let a = c .before .before .before .before .args in
     sym (empty-pattern (a .pattern .now) (a .permutation .now) (c .before .if1 .left) (c .if2 .taken))
 
--- src/containment.rt:30:9
 is-permutation-requires : tie.Need-is-permutation-requires
 is-permutation-requires c κs = search needs
 
--- src/containment.rt:31:9
 returns-3 : tie.Need-returns-3
 returns-3 c =
     let a = c .before .before .before .before .before .before .args in
     let p : isPerm (a .pattern .now) ≡ false = sym (c .before .is-permutation .ensures) ∙ not-true _ (c .if3 .taken) in
     sym (no-pattern (a .pattern .now) (a .permutation .now) (c .before .before .before .if1 .left) (c .before .before .if2 .left) p)
 
--- src/containment.rt:34:9
 returns-4 : tie.Need-returns-4
 returns-4 c =
     let a = c .before .before .before .before .before .before .before .args in
     let p : isPerm (a .pattern .now) ≡ true = sym (c .before .before .is-permutation .ensures) ∙ not-false _ (c .before .if3 .left) in
     sym (long-word (a .pattern .now) (a .permutation .now) (c .before .before .before .before .if1 .left) (c .before .before .before .if2 .left) p (c .if4 .taken))
 
--- src/containment.rt:36:9
 is-permutation-requires-2 : tie.Need-is-permutation-requires-2
 is-permutation-requires-2 c κs = search needs
 
--- src/containment.rt:37:9
 returns-5 : tie.Need-returns-5
 returns-5 c =
     let a = c .before .before .before .before .before .before .before .before .before .args in
@@ -66,11 +53,9 @@ returns-5 c =
     let w : isPerm (a .permutation .now) ≡ false = sym (c .before .is-permutation2 .ensures) ∙ not-true _ (c .if5 .taken) in
     sym (no-word (a .pattern .now) (a .permutation .now) (c .before .before .before .before .before .before .if1 .left) (c .before .before .before .before .before .if2 .left) p (c .before .before .if4 .left) w)
 
--- src/containment.rt:39:27
 digits-of-requires : tie.Need-digits-of-requires
 digits-of-requires c κs = search needs
 
--- src/containment.rt:39:9
 first-copy-requires : tie.Need-first-copy-requires
 first-copy-requires c κs = search needs
 
@@ -88,11 +73,9 @@ searched c =
     answered (a .pattern .now) (a .permutation .now) (c .before .before .before .before .before .before .before .before .if1 .left) (c .before .before .before .before .before .before .before .if2 .left) p (c .before .before .before .before .if4 .left) w ∙
     ap {B = Contained} (λ (b : Bool). cond b Yes No) (sym (copy ∙ ap (λ (β : List ℕ). contains β (a .permutation .now)) same))
 
--- src/containment.rt:21:1
 returns-6 : tie.Need-returns-6
 returns-6 c = sym (searched (c .before) ∙ ap {B = Contained} (λ (b : Bool). cond b Yes No) (c .if6 .taken))
 
--- src/containment.rt:21:1
 returns-7 : tie.Need-returns-7
 returns-7 c = sym (searched (c .before) ∙ ap {B = Contained} (λ (b : Bool). cond b Yes No) (c .if6 .left))
 

@@ -9,8 +9,6 @@ use lib.ListN.{length, getD, take, length-set}
 use lib.Seq.{take-all, take-suc, take-suc-set}
 use Rattle.word.proofs.containment.digits_of.Statement.{statement}
 use Rattle.word.proofs.containment.digits_of.Tie as tie
-use Rattle.word.proofs.containment.digits_of.Reads as reads
-use Rattle.word.proofs.containment.digits_of.Lts as lts
 
 abbrev Inv-loop : tie.InvT-loop
 Inv-loop s digits₀ i₀ digits i = (take i digits ≡ take i s) × (length digits ≡ 8) × (i ≤ length s) × (i ≤ 8)
@@ -18,11 +16,9 @@ Inv-loop s digits₀ i₀ digits i = (take i digits ≡ take i s) × (length dig
 abbrev μ-loop : tie.MeasureT-loop
 μ-loop s digits₀ i₀ digits i = 8 - i
 
--- src/containment.rt:53:5
 loop-holds : tie.Need-loop-holds Inv-loop μ-loop
 loop-holds c = search needs
 
--- src/containment.rt:55:13
 returns : tie.Need-returns Inv-loop μ-loop
 returns c =
     let l = c .before .before .loop in
@@ -31,23 +27,18 @@ returns c =
     let eight : length s ≤ 8 = omega arith in
     ap (λ (k : ℕ). take k (l .digits)) (sym whole) ∙ l .inv .0 ∙ take-all (l .i) s (omega arith) ∙ sym (take-all 8 s eight)
 
--- src/containment.rt:57:21
 shared-slice-read-digits : tie.Need-shared-slice-read-digits Inv-loop μ-loop
 shared-slice-read-digits c = search needs
 
--- src/containment.rt:57:9
 array-write-digits : tie.Need-array-write-digits Inv-loop μ-loop
 array-write-digits c = search needs
 
--- src/containment.rt:58:9
 add-i : tie.Need-add-i Inv-loop μ-loop
 add-i c = search needs
 
--- src/containment.rt:53:5
 loop-less : tie.Need-loop-less Inv-loop μ-loop
 loop-less c = search needs
 
--- src/containment.rt:53:5
 loop-again : tie.Need-loop-again Inv-loop μ-loop
 loop-again c =
     let l = c .before .before .before .loop in
@@ -60,7 +51,6 @@ loop-again c =
       omega arith,
     )
 
--- src/containment.rt:48:1
 returns-2 : tie.Need-returns-2 Inv-loop μ-loop
 returns-2 c =
     let l = c .before .loop in

@@ -1,21 +1,16 @@
 -- `word::copy::first_copy` meets its contract: the walk keeps the first copy among what is left to try, and what is left falls.
 -- Assumes nothing.
-use Prim.Native.Nat.{ℕ, zero, suc, _+_, _-_, _≤_, _<_}
-use mathlib.Core.Path.{_≡_, refl, sym, ap, _∙_}
-use mathlib.Core.Bool.{Bool, true, false}
-use mathlib.Core.List.{List, [], _∷_, _++_, map}
+use Prim.Native.Nat.{_-_, _≤_, _<_}
+use mathlib.Core.Path.{_≡_, sym, ap, _∙_}
+use mathlib.Core.Bool.{true, false}
 use borrow.Author.Needs.{needs}
 use native.Mathlib.Omega.{arith}
-use lib.ListN.{length, getD, take, drop, set, replicate}
-use Rattle.word.specs.Word.{entry, firstCopy}
+use lib.ListN.{length, getD, take, drop}
 use Rattle.word.specs.Copy.{shown}
 use Rattle.word.specs.IsoLaws.{fits}
 use Rattle.word.proofs.Search.{Walk, weight, empty-copy, length-cut, walk-start, walk-skip, walk-on, walk-found, walk-back, walk-none, pairs-none, pair-passed, pair-failed, weight-skip, weight-place, weight-back}
 use Rattle.word.proofs.copy.first_copy.Statement.{statement}
 use Rattle.word.proofs.copy.first_copy.Tie as tie
-use Rattle.word.proofs.copy.first_copy.Reads as reads
-use Rattle.word.proofs.copy.first_copy.Lts as lts
-use Rattle.word.proofs.copy.capped.Reads as capped-reads
 
 abbrev Inv-pairs : tie.InvT-pairs
 Inv-pairs len w p k at entries d i x j₀ j =
@@ -42,73 +37,59 @@ abbrev μ-copy : tie.MeasureT-copy
 μ-copy len w p k at₀ entries₀ d₀ i₀ at entries d i =
     weight k (length w) at d i
 
--- src/copy.rt:27:9
 capped-requires :
     tie.Need-capped-requires Inv-pairs μ-pairs Inv-positions μ-positions Inv-copy μ-copy
 capped-requires c κs = search needs
 
--- src/copy.rt:30:9
 returns : tie.Need-returns Inv-pairs μ-pairs Inv-positions μ-positions Inv-copy μ-copy
 returns c =
     let a = c .before .before .before .args in
     let eight : length (a .t1) ≡ 8 = search needs in
     sym (empty-copy (take (a .len) (a .t1)) (a .w .now) (length-cut (a .t1) (a .w .now) (a .len) (c .before .capped .result) eight (c .before .capped .ensures) ∙ c .if1 .taken))
 
--- src/copy.rt:35:5
 copy-holds : tie.Need-copy-holds Inv-pairs μ-pairs Inv-positions μ-positions Inv-copy μ-copy
 copy-holds c =
     let a = c .before .before .before .args in
     let eight : length (a .t1) ≡ 8 = search needs in
     walk-start (a .t1) (a .w .now) (a .len) (c .before .capped .result) eight (c .before .capped .ensures) (c .if1 .left)
 
--- src/copy.rt:36:9
 positions-holds :
     tie.Need-positions-holds Inv-pairs μ-pairs Inv-positions μ-positions Inv-copy μ-copy
 positions-holds c = search needs
 
--- src/copy.rt:36:27
 sub-positions : tie.Need-sub-positions Inv-pairs μ-pairs Inv-positions μ-positions Inv-copy μ-copy
 sub-positions c = search needs
 
--- src/copy.rt:36:36
 sub-positions-2 :
     tie.Need-sub-positions-2 Inv-pairs μ-pairs Inv-positions μ-positions Inv-copy μ-copy
 sub-positions-2 c = search needs
 
--- src/copy.rt:37:21
 shared-slice-read-x :
     tie.Need-shared-slice-read-x Inv-pairs μ-pairs Inv-positions μ-positions Inv-copy μ-copy
 shared-slice-read-x c = search needs
 
--- src/copy.rt:38:13
 add-i : tie.Need-add-i Inv-pairs μ-pairs Inv-positions μ-positions Inv-copy μ-copy
 add-i c = search needs
 
--- src/copy.rt:40:13
 pairs-holds : tie.Need-pairs-holds Inv-pairs μ-pairs Inv-positions μ-positions Inv-copy μ-copy
 pairs-holds c = search needs
 
--- src/copy.rt:41:29
 array-read-below :
     tie.Need-array-read-below Inv-pairs μ-pairs Inv-positions μ-positions Inv-copy μ-copy
 array-read-below c = search needs
 
--- src/copy.rt:41:36
 array-read-below-2 :
     tie.Need-array-read-below-2 Inv-pairs μ-pairs Inv-positions μ-positions Inv-copy μ-copy
 array-read-below-2 c = search needs
 
--- src/copy.rt:42:35
 array-read-found-below :
     tie.Need-array-read-found-below Inv-pairs μ-pairs Inv-positions μ-positions Inv-copy μ-copy
 array-read-found-below c = search needs
 
--- src/copy.rt:36:9
 positions-less :
     tie.Need-positions-less Inv-pairs μ-pairs Inv-positions μ-positions Inv-copy μ-copy
 positions-less c = search needs
 
--- src/copy.rt:36:9
 positions-again :
     tie.Need-positions-again Inv-pairs μ-pairs Inv-positions μ-positions Inv-copy μ-copy
 positions-again c =
@@ -127,15 +108,12 @@ positions-again c =
       omega (arith, s .inv .1, weight-skip (k .result) (length (a .w .now)) (s .at) (s .d) (s .i) (W .inside) more),
     )
 
--- src/copy.rt:46:17
 add-j : tie.Need-add-j Inv-pairs μ-pairs Inv-positions μ-positions Inv-copy μ-copy
 add-j c = search needs
 
--- src/copy.rt:40:13
 pairs-less : tie.Need-pairs-less Inv-pairs μ-pairs Inv-positions μ-positions Inv-copy μ-copy
 pairs-less c = search needs
 
--- src/copy.rt:40:13
 pairs-again : tie.Need-pairs-again Inv-pairs μ-pairs Inv-positions μ-positions Inv-copy μ-copy
 pairs-again c =
     let a = c .before .before .before .before .before .before .before .before .before .before .args in
@@ -150,21 +128,17 @@ pairs-again c =
           (omega (arith, W .inside, k .ensures)) (omega (arith, W .inside, W .values, k .ensures)) j (c .if2 .left),
     )
 
--- src/copy.rt:48:13
 mul-at : tie.Need-mul-at Inv-pairs μ-pairs Inv-positions μ-positions Inv-copy μ-copy
 mul-at c = search needs
 
--- src/copy.rt:48:13
 array-write-at :
     tie.Need-array-write-at Inv-pairs μ-pairs Inv-positions μ-positions Inv-copy μ-copy
 array-write-at c = search needs
 
--- src/copy.rt:49:13
 array-write-entries :
     tie.Need-array-write-entries Inv-pairs μ-pairs Inv-positions μ-positions Inv-copy μ-copy
 array-write-entries c = search needs
 
--- src/copy.rt:50:13
 add-d : tie.Need-add-d Inv-pairs μ-pairs Inv-positions μ-positions Inv-copy μ-copy
 add-d c = search needs
 
@@ -184,7 +158,6 @@ passed c =
     pairs-none (a .t1) (s .entries) (getD (a .t1) (s .d) 0) (getD (a .w .now) (s .i) 0) (s .d) (c .before .pairs .j)
     (omega (arith, W .inside, k .ensures)) (omega (arith, W .inside, W .values, k .ensures)) (omega arith)
 
--- src/copy.rt:35:5
 copy-less : tie.Need-copy-less Inv-pairs μ-pairs Inv-positions μ-positions Inv-copy μ-copy
 copy-less c =
     let a = c .before .before .before .before .before .before .before .before .before .before .args in
@@ -195,7 +168,6 @@ copy-less c =
     let less = weight-place (k .result) (length (a .w .now)) (s .at) (s .d) (s .i) (W .inside) more (omega (arith, W .inside, W .positions, k .ensures)) in
     omega (arith, s .inv .1, less)
 
--- src/copy.rt:35:5
 copy-again : tie.Need-copy-again Inv-pairs μ-pairs Inv-positions μ-positions Inv-copy μ-copy
 copy-again c =
     let a = c .before .before .before .before .before .before .before .before .before .before .args in
@@ -205,7 +177,6 @@ copy-again c =
     let more : s .i < length (a .w .now) = omega arith in
     walk-on (a .t1) (a .w .now) (a .len) (k .result) eight (k .ensures) (s .at) (s .entries) (s .d) (s .i) (s .inv .0) more (passed (c .before)) (c .if3 .left)
 
--- src/copy.rt:57:13
 returns-2 : tie.Need-returns-2 Inv-pairs μ-pairs Inv-positions μ-positions Inv-copy μ-copy
 returns-2 c =
     let a = c .before .before .before .before .before .before .before .args in
@@ -215,26 +186,21 @@ returns-2 c =
     let none-left = walk-none (a .t1) (a .w .now) (a .len) (k .result) eight (k .ensures) (s .at) (s .entries) (s .d) (s .i) (s .inv .0) (omega arith) (c .if4 .taken) in
     sym (ap shown none-left)
 
--- src/copy.rt:62:9
 sub-d : tie.Need-sub-d Inv-pairs μ-pairs Inv-positions μ-positions Inv-copy μ-copy
 sub-d c = search needs
 
--- src/copy.rt:63:13
 mul-i : tie.Need-mul-i Inv-pairs μ-pairs Inv-positions μ-positions Inv-copy μ-copy
 mul-i c = search needs
 
--- src/copy.rt:63:13
 array-read-i : tie.Need-array-read-i Inv-pairs μ-pairs Inv-positions μ-positions Inv-copy μ-copy
 array-read-i c = search needs
 
--- src/copy.rt:35:5
 copy-less-2 : tie.Need-copy-less-2 Inv-pairs μ-pairs Inv-positions μ-positions Inv-copy μ-copy
 copy-less-2 c =
     let s = c .before .before .positions in
     let back = weight-back (c .before .before .before .before .before .capped .result) (length (c .before .before .before .before .before .before .before .args .w .now)) (s .at) (s .d) (s .i) (c .if4 .left) in
     omega (arith, s .inv .1, back)
 
--- src/copy.rt:35:5
 copy-again-2 : tie.Need-copy-again-2 Inv-pairs μ-pairs Inv-positions μ-positions Inv-copy μ-copy
 copy-again-2 c =
     let a = c .before .before .before .before .before .before .before .args in
@@ -243,7 +209,6 @@ copy-again-2 c =
     let eight : length (a .t1) ≡ 8 = search needs in
     walk-back (a .t1) (a .w .now) (a .len) (k .result) eight (k .ensures) (s .at) (s .entries) (s .d) (s .i) (s .inv .0) (omega arith) (c .if4 .left)
 
--- src/copy.rt:24:1
 returns-3 : tie.Need-returns-3 Inv-pairs μ-pairs Inv-positions μ-positions Inv-copy μ-copy
 returns-3 c =
     let a = c .before .before .before .before .before .before .before .before .before .before .args in

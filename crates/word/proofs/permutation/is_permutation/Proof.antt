@@ -1,19 +1,14 @@
 -- `word::permutation::is_permutation` meets its contract: the list is a permutation if what is left of it is listed.
 -- Assumes nothing.
-use Prim.Native.Nat.{ℕ, _-_, _<_, _≤_}
-use mathlib.Core.Path.{_≡_, refl, sym, ap, _∙_}
-use mathlib.Core.Bool.{Bool, true, false}
+use Prim.Native.Nat.{_-_, _<_, _≤_}
+use mathlib.Core.Path.{_≡_, sym, _∙_}
 use borrow.Author.Needs.{needs}
 use native.Mathlib.Omega.{arith}
-use lib.ListN.{length, getD, drop, drop-of-length-le}
+use lib.ListN.{length, getD, drop}
 use Rattle.word.specs.Word.{isPerm}
 use Rattle.word.proofs.Listed.{listed, listed-whole, listed-none, listed-above, listed-twice, listed-next, listed-end}
 use Rattle.word.proofs.permutation.is_permutation.Statement.{statement}
 use Rattle.word.proofs.permutation.is_permutation.Tie as tie
-use Rattle.word.proofs.permutation.is_permutation.Reads as reads
-use Rattle.word.proofs.permutation.is_permutation.Lts as lts
-use Rattle.word.proofs.permutation.stands.Reads as stands-reads
-use Rattle.word.proofs.permutation.wide.Reads as wide-reads
 
 abbrev Inv-loop : tie.InvT-loop
 Inv-loop s i₀ i = isPerm s ≡ listed (length s) (drop i s)
@@ -21,26 +16,21 @@ Inv-loop s i₀ i = isPerm s ≡ listed (length s) (drop i s)
 abbrev μ-loop : tie.MeasureT-loop
 μ-loop s i₀ i = length s - i
 
--- src/permutation.rt:25:5
 loop-holds : tie.Need-loop-holds Inv-loop μ-loop
 loop-holds c = listed-whole (c .before .args .s .now)
 
--- src/permutation.rt:26:17
 shared-slice-read-x : tie.Need-shared-slice-read-x Inv-loop μ-loop
 shared-slice-read-x c = search needs
 
--- src/permutation.rt:28:13
 returns : tie.Need-returns Inv-loop μ-loop
 returns c =
     let s = c .before .before .before .before .before .args .s .now in
     let l = c .before .before .before .loop in
     sym (l .inv ∙ listed-none (length s) s (l .i) (omega arith) (c .if1 .taken))
 
--- src/permutation.rt:30:22
 wide-requires : tie.Need-wide-requires Inv-loop μ-loop
 wide-requires c κs = search needs
 
--- src/permutation.rt:31:13
 returns-2 : tie.Need-returns-2 Inv-loop μ-loop
 returns-2 c =
     let s = c .before .before .before .before .before .before .before .args .s .now in
@@ -48,30 +38,24 @@ returns-2 c =
     let above : length s < getD s (l .i) 0 = omega (arith, c .before .wide .ensures) in
     sym (l .inv ∙ listed-above (length s) s (l .i) (omega arith) above)
 
--- src/permutation.rt:33:22
 add-stands : tie.Need-add-stands Inv-loop μ-loop
 add-stands c = search needs
 
--- src/permutation.rt:33:12
 stands-requires : tie.Need-stands-requires Inv-loop μ-loop
 stands-requires c κs = search needs
 
--- src/permutation.rt:34:13
 returns-3 : tie.Need-returns-3 Inv-loop μ-loop
 returns-3 c =
     let s = c .before .before .before .before .before .before .before .before .before .args .s .now in
     let l = c .before .before .before .before .before .before .before .loop in
     sym (l .inv ∙ listed-twice (length s) s (l .i) (omega arith) (sym (c .before .stands .ensures) ∙ c .if3 .taken))
 
--- src/permutation.rt:36:9
 add-i : tie.Need-add-i Inv-loop μ-loop
 add-i c = search needs
 
--- src/permutation.rt:25:5
 loop-less : tie.Need-loop-less Inv-loop μ-loop
 loop-less c = search needs
 
--- src/permutation.rt:25:5
 loop-again : tie.Need-loop-again Inv-loop μ-loop
 loop-again c =
     let s = c .before .before .before .before .before .before .before .before .before .args .s .now in
@@ -79,7 +63,6 @@ loop-again c =
     let inside : getD s (l .i) 0 ≤ length s = omega (arith, c .before .before .before .wide .ensures) in
     l .inv ∙ listed-next (length s) s (l .i) (omega arith) (c .before .before .before .before .if1 .left) inside (sym (c .before .stands .ensures) ∙ c .if3 .left)
 
--- src/permutation.rt:21:1
 returns-4 : tie.Need-returns-4 Inv-loop μ-loop
 returns-4 c =
     let s = c .before .before .before .args .s .now in

@@ -1,7 +1,7 @@
 -- `word::permutation::stands` meets its contract: what stands from `from` on is what stands from the index on.
 -- Assumes nothing.
 use Prim.Native.Nat.{_-_}
-use mathlib.Core.Path.{_≡_, refl, sym, _∙_}
+use mathlib.Core.Path.{_≡_, sym, _∙_}
 use borrow.Author.Needs.{needs}
 use native.Mathlib.Omega.{arith}
 use lib.ListN.{length, drop}
@@ -9,8 +9,6 @@ use Rattle.word.specs.Word.{has}
 use Rattle.word.proofs.Listed.{has-here, has-later, has-none}
 use Rattle.word.proofs.permutation.stands.Statement.{statement}
 use Rattle.word.proofs.permutation.stands.Tie as tie
-use Rattle.word.proofs.permutation.stands.Reads as reads
-use Rattle.word.proofs.permutation.stands.Lts as lts
 
 abbrev Inv-loop : tie.InvT-loop
 Inv-loop s from x i₀ i = has x (drop from s) ≡ has x (drop i s)
@@ -18,35 +16,28 @@ Inv-loop s from x i₀ i = has x (drop from s) ≡ has x (drop i s)
 abbrev μ-loop : tie.MeasureT-loop
 μ-loop s from x i₀ i = length s - i
 
--- src/permutation.rt:11:5
 loop-holds : tie.Need-loop-holds Inv-loop μ-loop
 loop-holds c = search needs
 
--- src/permutation.rt:12:12
 shared-slice-read-if1 : tie.Need-shared-slice-read-if1 Inv-loop μ-loop
 shared-slice-read-if1 c = search needs
 
--- src/permutation.rt:13:13
 returns : tie.Need-returns Inv-loop μ-loop
 returns c =
     let a = c .before .before .before .before .args in
     sym (c .before .before .before .loop .inv ∙ has-here (a .x) (a .s .now) (c .before .before .before .loop .i) (omega arith) (c .if1 .taken))
 
--- src/permutation.rt:15:9
 add-i : tie.Need-add-i Inv-loop μ-loop
 add-i c = search needs
 
--- src/permutation.rt:11:5
 loop-less : tie.Need-loop-less Inv-loop μ-loop
 loop-less c = search needs
 
--- src/permutation.rt:11:5
 loop-again : tie.Need-loop-again Inv-loop μ-loop
 loop-again c =
     let a = c .before .before .before .before .args in
     c .before .before .before .loop .inv ∙ has-later (a .x) (a .s .now) (c .before .before .before .loop .i) (omega arith) (c .if1 .left)
 
--- src/permutation.rt:7:1
 returns-2 : tie.Need-returns-2 Inv-loop μ-loop
 returns-2 c =
     let a = c .before .before .args in
