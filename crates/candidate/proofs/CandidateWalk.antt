@@ -1,0 +1,335 @@
+-- The walks of the candidate search: over the patterns, over the spacings of a total, over the totals.
+-- Assumes nothing.
+use Prim.Native.Nat.{ℕ, zero, suc, _+_, _-_, _≤_, _<_}
+use mathlib.Core.Path.{_≡_, refl, sym, ap, _∙_}
+use mathlib.Core.Bool.{Bool, true, false, not, cond, _&&_, _||_}
+use mathlib.Core.List.{List, [], _∷_, _++_, map, List·Memᴰ, List·Memᴰ·head, List·Memᴰ·tail, List·Memᴰ·not-nil}
+use mathlib.Core.Logic.{_↔_, _⊎_, inl, inr}
+use native.Mathlib.Nat.{sub-zero}
+use native.Mathlib.Numerals.{add-one}
+use native.Mathlib.Omega.{arith}
+use lib.ListN.{length, getD, take, drop}
+use lib.Seq.{getD-set-same, getD-set-other}
+use Rattle.word.specs.Lists.{all, any, keep, each, row}
+use Rattle.word.specs.Word.{avoids, longest, under, reduce, has, distinct, entry, within, isPerm}
+use Rattle.word.specs.PermLaws.{perm-bounds, perm-distinct}
+use Rattle.cell.specs.Claim.{DeletionClaim}
+use Rattle.cell.specs.CandidateLaws.{irreversible-law}
+use Rattle.candidate.specs.Tabled.{Tabled, IsCandidate}
+use Rattle.word.specs.Containment.{patternsOf}
+use Rattle.word.specs.ListLaws.{same-or-not}
+use Rattle.cell.specs.Cell.{total, without, free, vectors, mOf, compared}
+use Rattle.cell.specs.Built.{level, built}
+use Rattle.cell.specs.Candidate.{headLength, hit, violates, violated, irreversible}
+use Rattle.candidate.specs.Lookup.{Says, Flags}
+use Rattle.candidate.specs.Ready.{Ready, patternAt, Needs, Given, FlaggedFor, FreeAnswer, TotalAnswer, EntryAnswer}
+use Rattle.spacing.specs.SpacingOrder.{firstVector, later, Follows, vectors-first, first-length, first-total}
+use Rattle.candidate.proofs.HitLaws.{hit-short}
+use Rattle.candidate.proofs.BasisWalk.{from, from-start, from-counted, from-end, from-cons}
+
+-- a part that is cut again at its own length
+pub take-again : (n : ℕ) (l : List ℕ) → take (length (take n l)) l ≡ take n l
+take-again zero l = refl
+take-again (suc n) [] = refl
+take-again (suc n) (x ∷ l) = ap {B = List ℕ} (λ r. x ∷ r) (take-again n l)
+
+-- what is looked up for the pattern at place i
+pub ready : (set : List (List ℕ)) (lengths : List ℕ) (count : ℕ) (p R g levels gone : List ℕ) (needs : List (List ℕ)) (t i : ℕ) →
+    Given set lengths count p R → length g ≡ suc (length p) → total g ≡ t → Says levels (suc (length p)) (level g) →
+    Flags gone 9 (λ v. has v (map (entry p) R)) → Needs set lengths count t needs → i < count → length (patternAt set lengths i) ≤ 8 →
+    Ready p R g (patternAt set lengths i) levels gone (getD needs i [])
+ready set lengths count p R g levels gone needs t i G size e L F N h eight =
+    record {
+      perm = G .perm;
+      short = G .short;
+      inside = G .inside;
+      size = size;
+      pattern = G .patterns i h;
+      digits = eight;
+      said-levels = L;
+      said-gone = F;
+      said-need = rw e (N i h);
+    }
+
+-- over the patterns: some one from place i on violates
+
+module _ (f : List ℕ → Bool) (set : List (List ℕ)) (lengths : List ℕ) (count : ℕ) where
+  pub some-start : any f (patternsOf set lengths count) ≡ any f (from set lengths count 0)
+  some-start = ap (any f) (from-start set lengths count)
+
+  pub some-counted : (i : ℕ) → count ≤ i → any f (from set lengths count i) ≡ false
+  some-counted i h = ap (any f) (from-counted set lengths count i h)
+
+  pub some-end : (i : ℕ) → length set ≤ i → any f (from set lengths count i) ≡ false
+  some-end i h = ap (any f) (from-end set lengths count i h)
+
+  module _ (i : ℕ) (hr : i < length set) (hl : i < length lengths) (hn : i < count) where
+    pub some-here : f (patternAt set lengths i) ≡ true → any f (from set lengths count i) ≡ true
+    some-here e = ap (any f) (from-cons set lengths count i hr hl hn) ∙ rw e refl
+
+    pub some-later : f (patternAt set lengths i) ≡ false → any f (from set lengths count i) ≡ any f (from set lengths count (i + 1))
+    some-later e = ap (any f) (from-cons set lengths count i hr hl hn) ∙ rw e refl
+
+-- the violation by one pattern
+pub violates-missed : (P : List (List ℕ)) (p R g β : List ℕ) → hit p R g β ≡ false → violates P p R g β ≡ false
+unfolding violates
+violates-missed P p R g β e = rw e refl
+
+pub violates-hit : (P : List (List ℕ)) (p R g β w : List ℕ) → hit p R g β ≡ true → w ≡ built (without R p) g (reduce (drop (headLength β (total g)) β)) →
+    violates P p R g β ≡ avoids P w
+unfolding violates
+violates-hit P p R g β w e q = rw (e, q) refl
+
+-- over the spacings of one total, in lexicographic order
+
+any-append : (f : List ℕ → Bool) (k l : List (List ℕ)) → any f (k ++ l) ≡ any f k || any f l
+any-append f [] l = refl
+any-append f (x ∷ k) l = go (f x) (any-append f k l)
+  where
+    go : (c : Bool) → any f (k ++ l) ≡ any f k || any f l → c || any f (k ++ l) ≡ (c || any f k) || any f l
+    go true e = refl
+    go false e = e
+
+pub any-keep : (h f : List ℕ → Bool) (l : List (List ℕ)) → any f (keep h l) ≡ any (λ x. h x && f x) l
+any-keep h f [] = refl
+any-keep h f (x ∷ l) = go (h x) (any-keep h f l)
+  where
+    go : (c : Bool) → any f (keep h l) ≡ any (λ x. h x && f x) l → any f (cond c (x ∷ keep h l) (keep h l)) ≡ (c && f x) || any (λ x. h x && f x) l
+    go true e = ap (λ (b : Bool). f x || b) e
+    go false e = e
+
+module _ (f : List ℕ → Bool) where
+  pub walk-start : (k t : ℕ) → any f (vectors (suc k) t) ≡ any f (firstVector k t ∷ later (firstVector k t))
+  walk-start k t = ap (any f) (vectors-first k t)
+
+  pub walk-here : (v : List ℕ) → f v ≡ true → any f (v ∷ later v) ≡ true
+  walk-here v e = rw e refl
+
+  pub walk-last : (v n : List ℕ) (found : Bool) → Follows v found n → f v ≡ false → found ≡ false → any f (v ∷ later v) ≡ false
+  walk-last v n found F e h = rw (e, F .rest, h) refl
+
+  pub walk-next : (v n : List ℕ) (found : Bool) → Follows v found n → f v ≡ false → found ≡ true → any f (v ∷ later v) ≡ any f (n ∷ later n)
+  walk-next v n found F e h = rw (e, F .rest, h) refl
+
+  -- over the totals from t on
+  unfoldable pub from-total : ℕ → ℕ → ℕ → Bool
+  from-total k m t = any f (each (vectors (suc k)) (row t (m - t)))
+
+  pub totals-start : (k m : ℕ) → any f (each (vectors (suc k)) (row 0 m)) ≡ from-total k m 0
+  unfolding from-total
+  totals-start k m = rw (sub-zero m) refl
+
+  pub totals-end : (k m t : ℕ) → m ≤ t → from-total k m t ≡ false
+  unfolding from-total
+  totals-end k m t h = go (m - t) (omega arith)
+    where
+      go : (n : ℕ) → n ≡ 0 → any f (each (vectors (suc k)) (row t n)) ≡ false
+      go n e = rw e refl
+
+  totals-cons : (k m t : ℕ) → t < m → from-total k m t ≡ any f (vectors (suc k) t) || from-total k m (t + 1)
+  unfolding from-total
+  totals-cons k m t h = rw (add-one t) (go (m - t) (m - suc t) (omega arith))
+    where
+      go : (n r : ℕ) → n ≡ suc r →
+          any f (each (vectors (suc k)) (row t n)) ≡ any f (vectors (suc k) t) || any f (each (vectors (suc k)) (row (suc t) r))
+      go n r e = rw e (any-append f (vectors (suc k) t) (each (vectors (suc k)) (row (suc t) r)))
+
+  pub totals-here : (k m t : ℕ) → t < m → any f (vectors (suc k) t) ≡ true → from-total k m t ≡ true
+  totals-here k m t h e = totals-cons k m t h ∙ rw e refl
+
+  pub totals-later : (k m t : ℕ) → t < m → any f (vectors (suc k) t) ≡ false → from-total k m t ≡ from-total k m (t + 1)
+  totals-later k m t h e = totals-cons k m t h ∙ rw e refl
+
+-- the needed levels of one more pattern
+pub needs-more : (set : List (List ℕ)) (lengths : List ℕ) (i t : ℕ) (needs : List (List ℕ)) (need : List ℕ) → Needs set lengths i t needs →
+    i < length needs → (t ≤ length (patternAt set lengths i) → Says need 9 (under (drop (headLength (patternAt set lengths i) t) (patternAt set lengths i)))) →
+    Needs set lengths (i + 1) t (lib.ListN.set needs i need)
+needs-more set lengths i t needs need N room new j h = go (same-or-not j i)
+  where
+    go : (j ≡ i) ⊎ (j ≡ i → ⊥) → t ≤ length (patternAt set lengths j) →
+        Says (getD (lib.ListN.set needs i need) j []) 9 (under (drop (headLength (patternAt set lengths j) t) (patternAt set lengths j)))
+    go (inl e) = rw (e, getD-set-same needs i need [] room) new
+    go (inr e) = rw (getD-set-other needs i j need [] e) (N j (omega arith))
+
+-- what `spacing_violated` looks up, for the positions R and the spacing g
+pub record Looked (set : List (List ℕ)) (lengths : List ℕ) (count : ℕ) (needs : List (List ℕ)) (p gone levels : List ℕ) (t : ℕ) (R g : List ℕ) : Type 0 where
+  pub given : Given set lengths count p R
+  pub flags : Flags gone 9 (λ v. has v (map (entry p) R))
+  pub size : length g ≡ suc (length p)
+  pub whole : total g ≡ t
+  pub said : Says levels (suc (length p)) (level g)
+  pub needed : Needs set lengths count t needs
+
+module _ (set : List (List ℕ)) (lengths : List ℕ) (count : ℕ) (needs : List (List ℕ)) (p gone levels : List ℕ) (t : ℕ) where
+  -- the patterns before place i do not violate
+  abbrev pub Passed : ℕ → Type 0
+  Passed i =
+      (R g : List ℕ) → Looked set lengths count needs p gone levels t R g →
+      violated (patternsOf set lengths count) p R g ≡ any (violates (patternsOf set lengths count) p R g) (from set lengths count i)
+
+  pub passed-start : Passed 0
+  unfolding violated
+  passed-start R g L = some-start (violates (patternsOf set lengths count) p R g) set lengths count
+
+  pub passed-end : (i : ℕ) → count ≤ i → Passed i → (R g : List ℕ) → Looked set lengths count needs p gone levels t R g →
+      false ≡ violated (patternsOf set lengths count) p R g
+  passed-end i h I R g L = sym (I R g L ∙ some-counted (violates (patternsOf set lengths count) p R g) set lengths count i h)
+
+  module _ (i : ℕ) (hr : i < length set) (hl : i < length lengths) (hn : i < count) (eight : length (patternAt set lengths i) ≤ 8) (I : Passed i) where
+    pub look : (R g : List ℕ) → Looked set lengths count needs p gone levels t R g → Ready p R g (patternAt set lengths i) levels gone (getD needs i [])
+    look R g L = ready set lengths count p R g levels gone needs t i (L .given) (L .size) (L .whole) (L .said) (L .flags) (L .needed) hn eight
+
+    later-passed : ((R g : List ℕ) → Looked set lengths count needs p gone levels t R g → violates (patternsOf set lengths count) p R g (patternAt set lengths i) ≡ false) → Passed (i + 1)
+    later-passed e R g L = I R g L ∙ some-later (violates (patternsOf set lengths count) p R g) set lengths count i hr hl hn (e R g L)
+
+    -- a pattern that is not longer than the total
+    pub passed-short : length (patternAt set lengths i) ≤ t → Passed (i + 1)
+    passed-short h =
+        later-passed (λ R g L. violates-missed (patternsOf set lengths count) p R g (patternAt set lengths i)
+        (hit-short p R g (patternAt set lengths i) t (L .whole) h))
+
+    module _ (r : Bool) (hits : (R g : List ℕ) → Ready p R g (patternAt set lengths i) levels gone (getD needs i []) → total g ≡ t → r ≡ hit p R g (patternAt set lengths i)) where
+      -- one that does not hit
+      pub passed-missed : r ≡ false → Passed (i + 1)
+      passed-missed e =
+          later-passed (λ R g L. violates-missed (patternsOf set lengths count) p R g (patternAt set lengths i) (sym (hits R g (look R g L) (L .whole)) ∙ e))
+
+      module _ (e : r ≡ true) (w : List ℕ)
+          (word : (R g : List ℕ) → Looked set lengths count needs p gone levels t R g →
+          w ≡ built (without R p) g (reduce (drop (headLength (patternAt set lengths i) (total g)) (patternAt set lengths i)))) where
+        decides : (R g : List ℕ) → Looked set lengths count needs p gone levels t R g →
+            violates (patternsOf set lengths count) p R g (patternAt set lengths i) ≡ avoids (patternsOf set lengths count) w
+        decides R g L =
+            violates-hit (patternsOf set lengths count) p R g (patternAt set lengths i) w (sym (hits R g (look R g L) (L .whole)) ∙ e) (word R g L)
+
+        -- one whose candidate contains a pattern without the deleted positions
+        pub passed-contained : avoids (patternsOf set lengths count) w ≡ false → Passed (i + 1)
+        passed-contained a = later-passed (λ R g L. decides R g L ∙ a)
+
+        -- one whose candidate avoids: a violation
+        pub violation : avoids (patternsOf set lengths count) w ≡ true → (R g : List ℕ) → Looked set lengths count needs p gone levels t R g →
+            true ≡ violated (patternsOf set lengths count) p R g
+        violation a R g L =
+            sym (I R g L ∙ some-here (violates (patternsOf set lengths count) p R g) set lengths count i hr hl hn (decides R g L ∙ a))
+
+-- the needed levels of a pattern that is cut at its own length
+pub need-cut : (cut : List ℕ) (n len t : ℕ) (need : List ℕ) → len ≡ length (take n cut) → len ≤ 8 →
+    (t ≤ len → len ≤ 8 → Says need 9 (under (drop (len - t) (take len cut)))) →
+    t ≤ length (take n cut) → Says need 9 (under (drop (headLength (take n cut) t) (take n cut)))
+need-cut cut n len t need e eight f h v b =
+    f (omega arith) eight v b ∙
+    ap (λ (w : List ℕ). under (drop (len - t) w) v) (ap (λ (m : ℕ). take m cut) e ∙ take-again n cut) ∙
+    ap (λ (m : ℕ). under (drop (m - t) (take n cut)) v) e
+
+-- the word that was made is the candidate
+module _ (set : List (List ℕ)) (lengths : List ℕ) (count : ℕ) (needs : List (List ℕ)) (prefix gone levels : List ℕ) (k t i len : ℕ) (wide : length (take k prefix) ≡ k)
+    (hn : i < count) (long : len ≡ length (patternAt set lengths i)) (eight : len ≤ 8) (short : t ≤ len) (w : List ℕ)
+    (made : IsCandidate prefix k levels gone (getD set i []) len t (getD needs i []) w) where
+  cut : take len (getD set i []) ≡ patternAt set lengths i
+  cut = ap (λ (m : ℕ). take m (getD set i [])) long ∙ take-again (getD lengths i 0) (getD set i [])
+
+  tabled : (R g : List ℕ) → Looked set lengths count needs (take k prefix) gone levels t R g →
+      Tabled prefix k levels gone (getD set i []) len t (getD needs i []) (take k prefix) R g (patternAt set lengths i)
+  tabled R g L =
+      record {
+        prefix-is = refl;
+        pattern-is = sym cut;
+        perm = L .given .perm;
+        inside = ap (λ (n : ℕ). all (within n) R) (sym wide) ∙ L .given .inside;
+        size = L .size ∙ ap suc wide;
+        whole = L .whole;
+        says-levels = λ v b. L .said v (omega arith);
+        flags-gone = L .flags;
+        says-need =
+            λ v b.
+            L .needed i hn (omega arith) v b ∙ ap (λ (m : ℕ). under (drop (m - t) (patternAt set lengths i)) v) (sym long);
+        small = λ y m. let (low, high) = perm-bounds (patternAt set lengths i) (L .given .patterns i hn) m in omega arith;
+      }
+
+  pub word-made : (R g : List ℕ) → Looked set lengths count needs (take k prefix) gone levels t R g →
+      w ≡ built (without R (take k prefix)) g (reduce (drop (headLength (patternAt set lengths i) (total g)) (patternAt set lengths i)))
+  word-made R g L =
+      made (take k prefix) R g (patternAt set lengths i) (tabled R g L) ∙
+      ap (λ (n : ℕ). built (without R (take k prefix)) g (reduce (drop n (patternAt set lengths i))))
+      (ap (λ (n : ℕ). n - t) long ∙ ap (λ (n : ℕ). length (patternAt set lengths i) - n) (sym (L .whole)))
+
+-- both tests, where the first is known
+pub and-false : (a b : Bool) → a ≡ false → false ≡ a && b
+and-false a b e = sym (ap (λ (x : Bool). x && b) e)
+
+pub and-true : (a b r : Bool) → a ≡ true → r ≡ b → r ≡ a && b
+and-true a b r e h = h ∙ sym (ap (λ (x : Bool). x && b) e)
+
+-- a spacing that is at least no vector of B, with a violation
+abbrev pub lost : List (List ℕ) → List (List ℕ) → List ℕ → List ℕ → List ℕ → Bool
+lost B P p R g = free B g && violated P p R g
+
+-- the state of the walk over the spacings of a total: those before v have no violation
+pub record Walked (set : List (List ℕ)) (lengths : List ℕ) (count : ℕ) (p gone : List ℕ) (B : List (List ℕ)) (k t : ℕ) (v : List ℕ) : Type 0 where
+  pub whole : total v ≡ t
+  pub size : length v ≡ suc k
+  pub rest :
+      (R : List ℕ) → FlaggedFor set lengths count p R gone →
+      any (lost B (patternsOf set lengths count) p R) (vectors (suc k) t) ≡ any (lost B (patternsOf set lengths count) p R) (v ∷ later v)
+
+module _ (set : List (List ℕ)) (lengths : List ℕ) (count : ℕ) (needs : List (List ℕ)) (p gone : List ℕ) (B : List (List ℕ)) (k t : ℕ) where
+  pub walked-start : (v : List ℕ) → v ≡ firstVector k t → Walked set lengths count p gone B k t v
+  walked-start v e =
+      record {
+        whole = ap total e ∙ first-total k t;
+        size = ap length e ∙ first-length k t;
+        rest =
+            λ R F.
+            walk-start (lost B (patternsOf set lengths count) p R) k t ∙
+            ap (λ (u : List ℕ). any (lost B (patternsOf set lengths count) p R) (u ∷ later u)) (sym e);
+      }
+
+  module _ (v : List ℕ) (W : Walked set lengths count p gone B k t v) (N : Needs set lengths count t needs) (r : Bool)
+      (answer : FreeAnswer set lengths count needs p gone B v t r) where
+    here : (R : List ℕ) → FlaggedFor set lengths count p R gone → k ≡ length p → r ≡ lost B (patternsOf set lengths count) p R v
+    here R F e = answer R F (W .size ∙ ap suc e) (W .whole) N
+
+    pub walked-found : r ≡ true → TotalAnswer set lengths count p gone B k t true
+    walked-found h R F e =
+        sym (W .rest R F ∙ walk-here (lost B (patternsOf set lengths count) p R) v (sym (here R F e) ∙ h))
+
+    module _ (h : r ≡ false) (n : List ℕ) (found : Bool) (follows : Follows v found n) where
+      pub walked-none : found ≡ false → TotalAnswer set lengths count p gone B k t false
+      walked-none q R F e =
+          sym (W .rest R F ∙ walk-last (lost B (patternsOf set lengths count) p R) v n found follows (sym (here R F e) ∙ h) q)
+
+      pub walked-next : found ≡ true → k ≡ length p → length n ≡ suc k → Walked set lengths count p gone B k t n
+      walked-next q e size =
+          record {
+            whole = follows .same-total ∙ W .whole;
+            size = size;
+            rest = λ R F. W .rest R F ∙ walk-next (lost B (patternsOf set lengths count) p R) v n found follows (sym (here R F e) ∙ h) q;
+          }
+
+-- over the totals: the whole answer
+
+pub entry-defined : (P : List (List ℕ)) (p : List ℕ) (B : List (List ℕ)) (R : List ℕ) (k m : ℕ) → k ≡ length p → m ≡ longest P →
+    irreversible P p B R ≡ any (lost B P p R) (each (vectors (suc k)) (row 0 m))
+unfolding irreversible
+entry-defined P p B R k m e h = rw (e, h) (any-keep (free B) (violated P p R) (each (vectors (suc (length p))) (row 0 (longest P))))
+
+mem-pattern : (set : List (List ℕ)) (lengths : List ℕ) (n : ℕ) {β : List ℕ} → List·Memᴰ β (patternsOf set lengths n) → (i : ℕ) × (i < n) × (β ≡ patternAt set lengths i)
+mem-pattern set lengths zero m = absurd (List·Memᴰ·not-nil m)
+mem-pattern [] lengths (suc n) m = absurd (List·Memᴰ·not-nil m)
+mem-pattern (r ∷ set) [] (suc n) m = absurd (List·Memᴰ·not-nil m)
+mem-pattern (r ∷ set) (k ∷ lengths) (suc n) (List·Memᴰ·head e) = (0, omega arith, e)
+mem-pattern (r ∷ set) (k ∷ lengths) (suc n) (List·Memᴰ·tail m) = let (i, h, e) = mem-pattern set lengths n m in (suc i, omega arith, e)
+
+pub entry-answer : (set : List (List ℕ)) (lengths : List ℕ) (count : ℕ) (p : List ℕ) (B : List (List ℕ)) (R : List ℕ) (r : Bool) → Given set lengths count p R →
+    r ≡ irreversible (patternsOf set lengths count) p B R → EntryAnswer (patternsOf set lengths count) p B R r
+entry-answer set lengths count p B R r G e =
+    record {
+      defined = e;
+      claimed = (λ h. law .0 (sym e ∙ h), λ claim. e ∙ law .1 claim);
+    }
+  where
+    apart : (β : List ℕ) → List·Memᴰ β (patternsOf set lengths count) → distinct β ≡ true
+    apart β m = let (i, h, q) = mem-pattern set lengths count m in perm-distinct β (ap isPerm q ∙ G .patterns i h)
+
+    law : (irreversible (patternsOf set lengths count) p B R ≡ false) ↔ DeletionClaim (patternsOf set lengths count) p B R
+    law = irreversible-law (patternsOf set lengths count) p R (G .perm) (G .inside) apart B

@@ -1,0 +1,6 @@
+pub mod PlacingState
+pub mod HitLaws
+pub mod BasisWalk
+pub mod TableLaws
+pub mod CandidateMade
+pub mod CandidateWalk

@@ -1,0 +1,30 @@
+-- `candidate::basis::leaves` meets its contract.
+-- Assumes nothing.
+use mathlib.Core.Path.{_≡_, refl, sym, _∙_}
+use mathlib.Core.Bool.{true, false}
+use lib.ListN.{take}
+use Rattle.cell.specs.Cell.{same}
+use borrow.Author.Needs.{needs}
+use Rattle.candidate.proofs.basis.leaves.Statement.{statement}
+use Rattle.candidate.proofs.basis.leaves.Tie as tie
+
+same-digits-requires : tie.Need-same-digits-requires
+same-digits-requires c κs = search needs
+
+returns : tie.Need-returns
+returns c =
+    let a = c .before .before .args in
+    let t : same (take (a .a) (a .p)) (take (a .b) (a .q)) ≡ true = sym (c .before .same-digits .ensures) ∙ c .if1 .taken in
+    rw t refl
+
+stands-in-requires : tie.Need-stands-in-requires
+stands-in-requires c κs = search needs
+
+returns-2 : tie.Need-returns-2
+returns-2 c =
+    let a = c .before .before .before .args in
+    let t : same (take (a .a) (a .p)) (take (a .b) (a .q)) ≡ false = sym (c .before .before .same-digits .ensures) ∙ c .before .if1 .left in
+    rw (t, ← c .stands-in .ensures) refl
+
+pub leaves-spec : {M : Type 1} → statement M
+leaves-spec = tie.close (tie.spec same-digits-requires returns stands-in-requires returns-2)

@@ -1,0 +1,98 @@
+-- `candidate::basis::longest_length` meets its contract: the longest is the longest of those seen and of those from the index on.
+-- Assumes nothing.
+use Prim.Native.Nat.{_-_, _+_, _≤_, max}
+use mathlib.Core.Path.{_≡_, ap, _∙_}
+use mathlib.Core.List.{[]}
+use borrow.Author.Needs.{needs}
+use native.Mathlib.Omega.{arith}
+use lib.ListN.{length, getD, take}
+use Rattle.word.specs.Word.{longest}
+use Rattle.word.specs.Containment.{patternsOf}
+use Rattle.candidate.proofs.BasisWalk.{from, from-start, from-counted, from-end, from-cons, longest-here, longest-done}
+use Rattle.candidate.proofs.basis.longest_length.Statement.{statement}
+use Rattle.candidate.proofs.basis.longest_length.Tie as tie
+
+abbrev Inv-loop : tie.InvT-loop
+Inv-loop count set lengths m₀ i₀ m i = (longest (patternsOf set lengths count) ≡ max m (longest (from set lengths count i))) × (m ≤ 8)
+
+abbrev μ-loop : tie.MeasureT-loop
+μ-loop count set lengths m₀ i₀ m i = 24 - i
+
+loop-holds : tie.Need-loop-holds Inv-loop μ-loop
+loop-holds c =
+    let a = c .args in
+    omega (arith, ap longest (from-start (a .t1) (a .t2) (a .count)))
+
+returns : tie.Need-returns Inv-loop μ-loop
+returns c =
+    let a = c .before .before .before .args in
+    let l = c .before .before .loop in (
+      longest-done (longest (patternsOf (a .t1) (a .t2) (a .count))) (from (a .t1) (a .t2) (a .count) (l .i)) (l .m) (l .inv .0)
+          (from-counted (a .t1) (a .t2) (a .count) (l .i) (omega arith)),
+      l .inv .1,
+    )
+
+mul-digits : tie.Need-mul-digits Inv-loop μ-loop
+mul-digits c = search needs
+
+array-copy-out-digits : tie.Need-array-copy-out-digits Inv-loop μ-loop
+array-copy-out-digits c = search needs
+
+array-read-digits : tie.Need-array-read-digits Inv-loop μ-loop
+array-read-digits c = search needs
+
+cast-digits : tie.Need-cast-digits Inv-loop μ-loop
+cast-digits c = search needs
+
+digits-requires : tie.Need-digits-requires Inv-loop μ-loop
+digits-requires c κs = search needs
+
+larger-requires : tie.Need-larger-requires Inv-loop μ-loop
+larger-requires c κs = search needs
+
+add-i : tie.Need-add-i Inv-loop μ-loop
+add-i c = search needs
+
+loop-less : tie.Need-loop-less Inv-loop μ-loop
+loop-less c = search needs
+
+loop-again : tie.Need-loop-again Inv-loop μ-loop
+loop-again c =
+    let a = c .before .before .before .before .before .before .args in
+    let l = c .before .before .before .before .before .loop in
+    let x = take (getD (a .t2) (l .i) 0) (getD (a .t1) (l .i) []) in
+    let m : c .larger .result ≡ max (l .m) (length x) = c .larger .ensures ∙ ap (max (l .m)) (c .before .digits .ensures .0) in (
+      rw m (longest-here (longest (patternsOf (a .t1) (a .t2) (a .count))) (from (a .t1) (a .t2) (a .count) (l .i)) (l .m) x
+          (from (a .t1) (a .t2) (a .count) (l .i + 1)) (l .inv .0)
+          (from-cons (a .t1) (a .t2) (a .count) (l .i) (search needs) (search needs) (omega arith))),
+      omega (arith, c .larger .ensures, c .before .digits .ensures .1),
+    )
+
+returns-2 : tie.Need-returns-2 Inv-loop μ-loop
+returns-2 c =
+    let a = c .before .before .args in
+    let l = c .before .loop in
+    let rows : length (a .t1) ≡ 24 = search needs in (
+      longest-done (longest (patternsOf (a .t1) (a .t2) (a .count))) (from (a .t1) (a .t2) (a .count) (l .i)) (l .m) (l .inv .0)
+          (from-end (a .t1) (a .t2) (a .count) (l .i) (omega arith)),
+      l .inv .1,
+    )
+
+pub longest-length-spec : {M : Type 1} → statement M
+longest-length-spec =
+    tie.close
+    (tie.spec
+    Inv-loop
+    μ-loop
+    loop-holds
+    returns
+    mul-digits
+    array-copy-out-digits
+    array-read-digits
+    cast-digits
+    digits-requires
+    larger-requires
+    add-i
+    loop-less
+    loop-again
+    returns-2)

@@ -1,0 +1,81 @@
+-- `candidate::basis::same_digits` meets its contract: the rows are the same if they are from the index on.
+-- Assumes nothing.
+use Prim.Native.Nat.{_-_}
+use mathlib.Core.Path.{_≡_, sym, _∙_}
+use borrow.Author.Needs.{needs}
+use native.Mathlib.Omega.{arith}
+use lib.ListN.{length, take, drop}
+use Rattle.cell.specs.Cell.{same}
+use Rattle.candidate.proofs.BasisWalk.{same-done, same-ended, same-longer, same-apart, same-next}
+use Rattle.candidate.proofs.basis.same_digits.Statement.{statement}
+use Rattle.candidate.proofs.basis.same_digits.Tie as tie
+
+abbrev Inv-loop : tie.InvT-loop
+Inv-loop a b p q k₀ k = same (take a p) (take b q) ≡ same (drop k (take a p)) (drop k (take b q))
+
+abbrev μ-loop : tie.MeasureT-loop
+μ-loop a b p q k₀ k = 8 - k
+
+loop-holds : tie.Need-loop-holds Inv-loop μ-loop
+loop-holds c = search needs
+
+returns : tie.Need-returns Inv-loop μ-loop
+returns c =
+    let a = c .before .before .before .args in
+    let l = c .before .before .loop in
+    sym (l .inv ∙ same-ended (a .t1) (a .t3) (a .a) (a .b) (l .k) (search needs) (search needs) (omega arith))
+
+returns-2 : tie.Need-returns-2 Inv-loop μ-loop
+returns-2 c =
+    let a = c .before .before .before .before .args in
+    let l = c .before .before .before .loop in
+    sym (l .inv ∙ same-longer (a .t1) (a .t3) (a .a) (a .b) (l .k) (search needs) (search needs) (omega arith) (omega arith))
+
+array-read-if3 : tie.Need-array-read-if3 Inv-loop μ-loop
+array-read-if3 c = search needs
+
+array-read-if3-2 : tie.Need-array-read-if3-2 Inv-loop μ-loop
+array-read-if3-2 c = search needs
+
+returns-3 : tie.Need-returns-3 Inv-loop μ-loop
+returns-3 c =
+    let a = c .before .before .before .before .before .args in
+    let l = c .before .before .before .before .loop in
+    sym (l .inv ∙ same-apart (a .t1) (a .t3) (a .a) (a .b) (l .k) (search needs) (search needs) (omega arith) (omega arith) (c .if3 .taken))
+
+add-k : tie.Need-add-k Inv-loop μ-loop
+add-k c = search needs
+
+loop-less : tie.Need-loop-less Inv-loop μ-loop
+loop-less c = search needs
+
+loop-again : tie.Need-loop-again Inv-loop μ-loop
+loop-again c =
+    let a = c .before .before .before .before .before .args in
+    let l = c .before .before .before .before .loop in
+    l .inv ∙ same-next (a .t1) (a .t3) (a .a) (a .b) (l .k) (search needs) (search needs) (omega arith) (omega arith) (c .if3 .left)
+
+returns-4 : tie.Need-returns-4 Inv-loop μ-loop
+returns-4 c =
+    let a = c .before .before .args in
+    let l = c .before .loop in
+    let p : length (a .t1) ≡ 8 = search needs in
+    let q : length (a .t3) ≡ 8 = search needs in
+    sym (l .inv ∙ same-done (a .t1) (a .t3) (a .a) (a .b) (l .k) (omega arith) (omega arith))
+
+pub same-digits-spec : {M : Type 1} → statement M
+same-digits-spec =
+    tie.close
+    (tie.spec
+    Inv-loop
+    μ-loop
+    loop-holds
+    returns
+    returns-2
+    array-read-if3
+    array-read-if3-2
+    returns-3
+    add-k
+    loop-less
+    loop-again
+    returns-4)

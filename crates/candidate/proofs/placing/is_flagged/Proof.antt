@@ -1,0 +1,18 @@
+-- `candidate::placing::is_flagged` meets its contract.
+-- Assumes nothing.
+use mathlib.Core.Path.{ap}
+use mathlib.Core.Bool.{not}
+use lib.Dec.{eqb}
+use Prim.Native.Nat.{ℕ}
+use borrow.Author.Needs.{needs}
+use Rattle.candidate.proofs.placing.is_flagged.Statement.{statement}
+use Rattle.candidate.proofs.placing.is_flagged.Tie as tie
+
+of-value-requires : tie.Need-of-value-requires
+of-value-requires c κs = search needs
+
+returns : tie.Need-returns
+returns c = ap (λ (x : ℕ). not (eqb x 0)) (c .of-value .ensures)
+
+pub is-flagged-spec : {M : Type 1} → statement M
+is-flagged-spec = tie.close (tie.spec of-value-requires returns)

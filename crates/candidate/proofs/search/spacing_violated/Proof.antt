@@ -1,0 +1,172 @@
+-- `candidate::search::spacing_violated` meets its contract: the patterns before the index do not violate.
+-- Assumes nothing.
+use Prim.Native.Nat.{ℕ, _-_, _≤_}
+use mathlib.Core.Path.{_≡_, sym, ap, _∙_}
+use mathlib.Core.Bool.{not}
+use mathlib.Core.List.{[]}
+use borrow.Author.Needs.{needs}
+use borrow.Author.Tests.{not-true, not-false}
+use native.Mathlib.Omega.{arith}
+use lib.ListN.{length, getD, take, length-take}
+use lib.Seq.{length-take-le}
+use Rattle.candidate.proofs.CandidateWalk.{Passed, passed-start, passed-end, passed-short, passed-missed, passed-contained, violation, take-again, word-made}
+use Rattle.candidate.specs.Ready.{patternAt}
+use Rattle.candidate.proofs.search.spacing_violated.Statement.{statement}
+use Rattle.candidate.proofs.search.spacing_violated.Tie as tie
+
+abbrev Inv-loop : tie.InvT-loop
+Inv-loop count prefix k gone t set lengths needs levels i₀ i = Passed set lengths count needs (take k prefix) gone levels t i
+
+abbrev μ-loop : tie.MeasureT-loop
+μ-loop count prefix k gone t set lengths needs levels i₀ i = count - i
+
+levels-of-requires : tie.Need-levels-of-requires Inv-loop μ-loop
+levels-of-requires c κs = search needs
+
+loop-holds : tie.Need-loop-holds Inv-loop μ-loop
+loop-holds c =
+    let a = c .before .args in
+    passed-start (a .t1) (a .t2) (a .count) (a .t4) (take (a .k) (a .prefix)) (a .gone) (c .levels-of .result) (a .t)
+
+mul-row : tie.Need-mul-row Inv-loop μ-loop
+mul-row c = search needs
+
+array-copy-out-row : tie.Need-array-copy-out-row Inv-loop μ-loop
+array-copy-out-row c = search needs
+
+array-read-digits : tie.Need-array-read-digits Inv-loop μ-loop
+array-read-digits c = search needs
+
+cast-digits : tie.Need-cast-digits Inv-loop μ-loop
+cast-digits c = search needs
+
+digits-requires : tie.Need-digits-requires Inv-loop μ-loop
+digits-requires c κs = search needs
+
+mul-need : tie.Need-mul-need Inv-loop μ-loop
+mul-need c = search needs
+
+array-copy-out-need : tie.Need-array-copy-out-need Inv-loop μ-loop
+array-copy-out-need c = search needs
+
+add-i : tie.Need-add-i Inv-loop μ-loop
+add-i c = search needs
+
+loop-less : tie.Need-loop-less Inv-loop μ-loop
+loop-less c = search needs
+
+loop-again : tie.Need-loop-again Inv-loop μ-loop
+loop-again c =
+    let a = c .before .before .before .before .before .before .before .args in
+    let l = c .before .before .before .before .before .loop in
+    let d = c .before .before .digits in
+    let eight : length (patternAt (a .t1) (a .t2) (l .i)) ≤ 8 = omega (arith, d .ensures .0, d .ensures .1) in
+    let rows : length (a .t1) ≡ 24 = search needs in
+    let long : length (a .t2) ≡ 24 = search needs in
+    passed-short (a .t1) (a .t2) (a .count) (a .t4) (take (a .k) (a .prefix)) (a .gone) (c .before .before .before .before .before .before .levels-of .result) (a .t) (l .i)
+    (omega arith) (omega arith) (omega arith) eight (l .inv) (omega (arith, d .ensures .0, c .if1 .taken))
+
+hits-requires : tie.Need-hits-requires Inv-loop μ-loop
+hits-requires c κs = (c .before .before .digits .ensures .1, c .before .before .before .before .before .before .before .pre .1)
+
+loop-less-2 : tie.Need-loop-less-2 Inv-loop μ-loop
+loop-less-2 c = search needs
+
+loop-again-2 : tie.Need-loop-again-2 Inv-loop μ-loop
+loop-again-2 c =
+    let a = c .before .before .before .before .before .before .before .before .before .args in
+    let l = c .before .before .before .before .before .before .before .loop in
+    let d = c .before .before .before .before .digits in
+    let eight : length (patternAt (a .t1) (a .t2) (l .i)) ≤ 8 = omega (arith, d .ensures .0, d .ensures .1) in
+    let rows : length (a .t1) ≡ 24 = search needs in
+    let long : length (a .t2) ≡ 24 = search needs in
+    let cut : take (d .result) (getD (a .t1) (l .i) []) ≡ patternAt (a .t1) (a .t2) (l .i) =
+    ap (λ (m : ℕ). take m (getD (a .t1) (l .i) [])) (d .ensures .0) ∙ take-again (getD (a .t2) (l .i) 0) (getD (a .t1) (l .i) []) in
+    let found = rw cut at (c .before .hits .ensures) in
+    passed-missed (a .t1) (a .t2) (a .count) (a .t4) (take (a .k) (a .prefix)) (a .gone) (c .before .before .before .before .before .before .before .before .levels-of .result) (a .t) (l .i)
+    (omega arith) (omega arith) (omega arith) eight (l .inv) (c .before .hits .result) found (not-true _ (c .if2 .taken))
+
+candidate-word-requires : tie.Need-candidate-word-requires Inv-loop μ-loop
+candidate-word-requires c κs = (c .before .before .before .before .before .before .before .before .before .pre .1, omega arith, c .before .before .before .before .digits .ensures .1)
+
+contained-requires : tie.Need-contained-requires Inv-loop μ-loop
+contained-requires c κs = omega (arith, c .before .candidate-word .ensures .0)
+
+loop-less-3 : tie.Need-loop-less-3 Inv-loop μ-loop
+loop-less-3 c = search needs
+
+loop-again-3 : tie.Need-loop-again-3 Inv-loop μ-loop
+loop-again-3 c =
+    let a = c .before .before .before .before .before .before .before .before .before .before .before .before .before .args in
+    let l = c .before .before .before .before .before .before .before .before .before .before .before .loop in
+    let d = c .before .before .before .before .before .before .before .before .digits in
+    let eight : length (patternAt (a .t1) (a .t2) (l .i)) ≤ 8 = omega (arith, d .ensures .0, d .ensures .1) in
+    let rows : length (a .t1) ≡ 24 = (let o = c .before .before .before .before .before .before .before .before .before .before .before .before .before .good in search needs) in
+    let long : length (a .t2) ≡ 24 = (let o = c .before .before .before .before .before .before .before .before .before .before .before .before .before .good in search needs) in
+    let six : length (a .prefix) ≡ 6 = (let o = c .before .before .before .before .before .before .before .before .before .before .before .before .before .good in search needs) in
+    let cut : take (d .result) (getD (a .t1) (l .i) []) ≡ patternAt (a .t1) (a .t2) (l .i) =
+    ap (λ (m : ℕ). take m (getD (a .t1) (l .i) [])) (d .ensures .0) ∙ take-again (getD (a .t2) (l .i) 0) (getD (a .t1) (l .i) []) in
+    let found = rw cut at (c .before .before .before .before .before .hits .ensures) in
+    let wide : length (take (a .k) (a .prefix)) ≡ a .k = length-take-le (a .k) (a .prefix) (omega (arith, c .before .before .before .before .before .before .before .before .before .before .before .before .before .pre .1)) in
+    let w = c .before .before .before .candidate-word in
+    let made = word-made (a .t1) (a .t2) (a .count) (a .t4) (a .prefix) (a .gone) (c .before .before .before .before .before .before .before .before .before .before .before .before .levels-of .result) (a .k) (a .t) (l .i) (d .result) wide
+    (omega arith) (d .ensures .0) (d .ensures .1) (omega arith) (take (w .result .length) (w .result .entries)) (w .ensures .1) in
+    passed-contained (a .t1) (a .t2) (a .count) (a .t4) (take (a .k) (a .prefix)) (a .gone) (c .before .before .before .before .before .before .before .before .before .before .before .before .levels-of .result) (a .t) (l .i)
+    (omega arith) (omega arith) (omega arith) eight (l .inv) (c .before .before .before .before .before .hits .result) found (not-false _ (c .before .before .before .before .if2 .left))
+    (take (w .result .length) (w .result .entries)) made (not-true _ (sym (c .before .contained .ensures) ∙ c .if3 .taken))
+
+returns : tie.Need-returns Inv-loop μ-loop
+returns c =
+    let a = c .before .before .before .before .before .before .before .before .before .before .before .before .before .args in
+    let l = c .before .before .before .before .before .before .before .before .before .before .before .loop in
+    let d = c .before .before .before .before .before .before .before .before .digits in
+    let eight : length (patternAt (a .t1) (a .t2) (l .i)) ≤ 8 = omega (arith, d .ensures .0, d .ensures .1) in
+    let rows : length (a .t1) ≡ 24 = (let o = c .before .before .before .before .before .before .before .before .before .before .before .before .before .good in search needs) in
+    let long : length (a .t2) ≡ 24 = (let o = c .before .before .before .before .before .before .before .before .before .before .before .before .before .good in search needs) in
+    let six : length (a .prefix) ≡ 6 = (let o = c .before .before .before .before .before .before .before .before .before .before .before .before .before .good in search needs) in
+    let cut : take (d .result) (getD (a .t1) (l .i) []) ≡ patternAt (a .t1) (a .t2) (l .i) =
+    ap (λ (m : ℕ). take m (getD (a .t1) (l .i) [])) (d .ensures .0) ∙ take-again (getD (a .t2) (l .i) 0) (getD (a .t1) (l .i) []) in
+    let found = rw cut at (c .before .before .before .before .before .hits .ensures) in
+    let wide : length (take (a .k) (a .prefix)) ≡ a .k = length-take-le (a .k) (a .prefix) (omega (arith, c .before .before .before .before .before .before .before .before .before .before .before .before .before .pre .1)) in
+    let w = c .before .before .before .candidate-word in
+    let made = word-made (a .t1) (a .t2) (a .count) (a .t4) (a .prefix) (a .gone) (c .before .before .before .before .before .before .before .before .before .before .before .before .levels-of .result) (a .k) (a .t) (l .i) (d .result) wide
+    (omega arith) (d .ensures .0) (d .ensures .1) (omega arith) (take (w .result .length) (w .result .entries)) (w .ensures .1) in
+    λ R F size e N. violation (a .t1) (a .t2) (a .count) (a .t4) (take (a .k) (a .prefix)) (a .gone) (c .before .before .before .before .before .before .before .before .before .before .before .before .levels-of .result) (a .t) (l .i)
+    (omega arith) (omega arith) (omega arith) eight (l .inv) (c .before .before .before .before .before .hits .result) found (not-false _ (c .before .before .before .before .if2 .left))
+    (take (w .result .length) (w .result .entries)) made (not-false _ (sym (c .before .contained .ensures) ∙ c .if3 .left)) R _
+    (record { given = F .0; flags = F .1; size = size; whole = e; said = λ v b. c .before .before .before .before .before .before .before .before .before .before .before .before .levels-of .ensures v (omega (arith, length-take (a .k) (a .prefix))); needed = N })
+
+returns-2 : tie.Need-returns-2 Inv-loop μ-loop
+returns-2 c =
+    let a = c .before .before .before .args in
+    let l = c .before .loop in
+    λ R F size e N. passed-end (a .t1) (a .t2) (a .count) (a .t4) (take (a .k) (a .prefix)) (a .gone) (c .before .before .levels-of .result) (a .t) (l .i) (omega arith) (l .inv) R _
+    (record { given = F .0; flags = F .1; size = size; whole = e; said = λ v b. c .before .before .levels-of .ensures v (omega (arith, length-take (a .k) (a .prefix))); needed = N })
+
+pub spacing-violated-spec : {M : Type 1} → statement M
+spacing-violated-spec =
+    tie.close
+    (tie.spec
+    Inv-loop
+    μ-loop
+    levels-of-requires
+    loop-holds
+    mul-row
+    array-copy-out-row
+    array-read-digits
+    cast-digits
+    digits-requires
+    mul-need
+    array-copy-out-need
+    add-i
+    loop-less
+    loop-again
+    hits-requires
+    loop-less-2
+    loop-again-2
+    candidate-word-requires
+    contained-requires
+    loop-less-3
+    loop-again-3
+    returns
+    returns-2)

@@ -1,0 +1,112 @@
+-- `candidate::tables::kept` meets its contract: the entries, and the values still to come, are the whole.
+-- Assumes nothing.
+use Prim.Native.Nat.{ℕ, _+_, _-_, _%_, _≤_}
+use mathlib.Core.Path.{_≡_, sym, ap, _∙_}
+use mathlib.Core.List.{List, _++_}
+use native.Mathlib.Omega.{arith}
+use borrow.Author.Needs.{needs}
+use lib.ListN.{length, getD, take, drop}
+use Rattle.candidate.specs.Tabled.{keptValues}
+use Rattle.candidate.proofs.CandidateMade.{push, pushed, kept-here, kept-gone, kept-end}
+use Rattle.candidate.proofs.tables.kept.Statement.{statement}
+use Rattle.candidate.proofs.tables.kept.Tie as tie
+
+abbrev Inv-loop : tie.InvT-loop
+Inv-loop k levels gone prefix entries₀ n₀ i₀ entries n i =
+    (i ≤ k) × (n ≤ i) × (length entries ≡ 20) × (take n entries ++ keptValues levels gone (drop i (take k prefix)) ≡ keptValues levels gone (take k prefix))
+
+abbrev μ-loop : tie.MeasureT-loop
+μ-loop k levels gone prefix entries₀ n₀ i₀ entries n i = k - i
+
+loop-holds : tie.Need-loop-holds Inv-loop μ-loop
+loop-holds c = search needs
+
+array-read-a : tie.Need-array-read-a Inv-loop μ-loop
+array-read-a c = search needs
+
+told-requires : tie.Need-told-requires Inv-loop μ-loop
+told-requires c κs = search needs
+
+told-requires-2 : tie.Need-told-requires-2 Inv-loop μ-loop
+told-requires-2 c κs = search needs
+
+wrapping-add-u8-requires : tie.Need-wrapping-add-u8-requires Inv-loop μ-loop
+wrapping-add-u8-requires c κs = search needs
+
+array-write-entries : tie.Need-array-write-entries Inv-loop μ-loop
+array-write-entries c = search needs
+
+add-n : tie.Need-add-n Inv-loop μ-loop
+add-n c = search needs
+
+add-i : tie.Need-add-i Inv-loop μ-loop
+add-i c = search needs
+
+loop-less : tie.Need-loop-less Inv-loop μ-loop
+loop-less c = search needs
+
+loop-again : tie.Need-loop-again Inv-loop μ-loop
+loop-again c =
+    let a = c .before .before .before .before .before .before .args in
+    let l = c .before .before .before .before .before .loop in
+    let six : length (a .t1) ≡ 6 = search needs in
+    let stays = sym (c .before .before .before .told .ensures) ∙ c .before .before .if1 .taken in
+    let value : c .wrapping-add-u8 .result ≡ (getD (a .t1) (l .i) 0 + getD (a .levels) (getD (a .t1) (l .i) 0) 0) % 256 =
+    c .wrapping-add-u8 .ensures ∙ ap (λ (x : ℕ). (getD (a .t1) (l .i) 0 + x) % 256) (c .before .told2 .ensures) in (
+      search needs,
+      search needs,
+      search needs,
+      push (l .entries) (l .n) (c .wrapping-add-u8 .result) (keptValues (a .levels) (a .gone) (drop (l .i + 1) (take (a .k) (a .t1))))
+          (keptValues (a .levels) (a .gone) (drop (l .i) (take (a .k) (a .t1)))) (keptValues (a .levels) (a .gone) (take (a .k) (a .t1))) (omega arith)
+          (rw value (kept-here (a .levels) (a .gone) (a .t1) (a .k) (l .i) (omega arith) (omega arith) stays)) (l .inv .3),
+    )
+
+add-i-2 : tie.Need-add-i-2 Inv-loop μ-loop
+add-i-2 c = search needs
+
+loop-less-2 : tie.Need-loop-less-2 Inv-loop μ-loop
+loop-less-2 c = search needs
+
+loop-again-2 : tie.Need-loop-again-2 Inv-loop μ-loop
+loop-again-2 c =
+    let a = c .before .before .before .before .args in
+    let l = c .before .before .before .loop in
+    let six : length (a .t1) ≡ 6 = search needs in (
+      search needs,
+      search needs,
+      search needs,
+      ap (λ (v : List ℕ). take (l .n) (l .entries) ++ v)
+          (sym (kept-gone (a .levels) (a .gone) (a .t1) (a .k) (l .i) (omega arith) (omega arith)
+          (λ q. c .if1 .left (c .before .told .ensures ∙ q)))) ∙ l .inv .3,
+    )
+
+returns : tie.Need-returns Inv-loop μ-loop
+returns c =
+    let a = c .before .before .args in
+    let l = c .before .loop in
+    let six : length (a .t1) ≡ 6 = search needs in (
+      omega arith,
+      pushed (l .entries) (l .n) (keptValues (a .levels) (a .gone) (drop (l .i) (take (a .k) (a .t1)))) (keptValues (a .levels) (a .gone) (take (a .k) (a .t1)))
+          (kept-end (a .levels) (a .gone) (a .t1) (a .k) (l .i) (omega arith) (omega arith)) (l .inv .3),
+    )
+
+pub kept-spec : {M : Type 1} → statement M
+kept-spec =
+    tie.close
+    (tie.spec
+    Inv-loop
+    μ-loop
+    loop-holds
+    array-read-a
+    told-requires
+    told-requires-2
+    wrapping-add-u8-requires
+    array-write-entries
+    add-n
+    add-i
+    loop-less
+    loop-again
+    add-i-2
+    loop-less-2
+    loop-again-2
+    returns)

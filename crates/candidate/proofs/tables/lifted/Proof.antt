@@ -1,0 +1,50 @@
+-- `candidate::tables::lifted` meets its contract: what is added, and what is still to be added, is the count of the lower levels.
+-- Assumes nothing.
+use Prim.Native.Nat.{suc, _+_, _-_, _≤_}
+use mathlib.Core.Path.{_≡_}
+use mathlib.Core.Logic.{⊎-elim}
+use native.Mathlib.Omega.{arith}
+use borrow.Author.Needs.{needs}
+use Rattle.candidate.specs.Lookup.{entryOf}
+use Rattle.candidate.proofs.TableLaws.{lower, lower-counted, lower-passed, lower-end, lower-lifts}
+use Rattle.candidate.proofs.tables.lifted.Statement.{statement}
+use Rattle.candidate.proofs.tables.lifted.Tie as tie
+
+abbrev Inv-loop : tie.InvT-loop
+Inv-loop k s levels r₀ v₀ r v = (1 ≤ v) × (v ≤ k + 1) × (r ≤ s + v) × (r + lower (entryOf levels) s v (suc k - v) ≡ s + lower (entryOf levels) s 1 (suc k - 1))
+
+abbrev μ-loop : tie.MeasureT-loop
+μ-loop k s levels r₀ v₀ r v = suc k - v
+
+loop-holds : tie.Need-loop-holds Inv-loop μ-loop
+loop-holds c = search needs
+
+array-read-if1 : tie.Need-array-read-if1 Inv-loop μ-loop
+array-read-if1 c = search needs
+
+add-r : tie.Need-add-r Inv-loop μ-loop
+add-r c = search needs
+
+add-v : tie.Need-add-v Inv-loop μ-loop
+add-v c = search needs
+
+loop-less : tie.Need-loop-less Inv-loop μ-loop
+loop-less c = search needs
+
+loop-again : tie.Need-loop-again Inv-loop μ-loop
+loop-again c =
+    let a = c .before .before .before .args in
+    let l = c .before .before .loop in
+    ⊎-elim (λ w. omega (arith, lower-counted (entryOf (a .t1)) (a .s) (a .k) (l .v) (omega arith) (w .0 .taken)))
+    (λ w. omega (arith, lower-passed (entryOf (a .t1)) (a .s) (a .k) (l .v) (omega arith) (w .0 .left))) (c .if1 .came)
+
+returns : tie.Need-returns Inv-loop μ-loop
+returns c =
+    let a = c .before .before .args in
+    let l = c .before .loop in
+    λ g e says h. omega (arith, lower-end (entryOf (a .t1)) (a .s) (a .k) (l .v) (omega arith), lower-lifts (a .t1) g (a .k) (a .s) e says h)
+
+pub lifted-spec : {M : Type 1} → statement M
+lifted-spec =
+    tie.close
+    (tie.spec Inv-loop μ-loop loop-holds array-read-if1 add-r add-v loop-less loop-again returns)

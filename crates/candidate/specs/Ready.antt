@@ -1,0 +1,73 @@
+-- What the candidate search is given, and what the lists that it looks up say.
+use Prim.Native.Nat.{ℕ, suc, _-_, _≤_, _<_}
+use mathlib.Core.Path.{_≡_}
+use mathlib.Core.Bool.{Bool, true, false, _&&_}
+use mathlib.Core.Logic.{_↔_}
+use mathlib.Core.List.{List, [], map}
+use lib.ListN.{length, getD, take, drop}
+use Rattle.word.specs.Lists.{all, any}
+use Rattle.word.specs.Containment.{patternsOf}
+use Rattle.word.specs.Word.{under, has, entry, isPerm, within}
+use Rattle.cell.specs.Cell.{total, free, vectors}
+use Rattle.cell.specs.Claim.{DeletionClaim}
+use Rattle.cell.specs.Built.{level}
+use Rattle.cell.specs.Candidate.{headLength, violated, irreversible}
+use Rattle.candidate.specs.Lookup.{Says, Flags}
+
+-- of one prefix, its deleted positions, one spacing and one pattern
+pub record Ready (p R g β levels gone need : List ℕ) : Type 0 where
+  pub perm : isPerm p ≡ true
+  pub short : length p ≤ 6
+  pub inside : all (within (length p)) R ≡ true
+  pub size : length g ≡ suc (length p)
+  pub pattern : isPerm β ≡ true
+  pub digits : length β ≤ 8
+  pub said-levels : Says levels (suc (length p)) (level g)
+  pub said-gone : Flags gone 9 (λ v. has v (map (entry p) R))
+  pub said-need : total g ≤ length β → Says need 9 (under (drop (headLength β (total g)) β))
+
+-- the pattern at place i of a set in memory
+abbrev pub patternAt : List (List ℕ) → List ℕ → ℕ → List ℕ
+patternAt set lengths i = take (getD lengths i 0) (getD set i [])
+
+-- for each pattern that is at least t long the levels that its head entries need, where its last t entries are the rest
+abbrev pub Needs : List (List ℕ) → List ℕ → ℕ → ℕ → List (List ℕ) → Type 0
+Needs set lengths count t needs =
+    (i : ℕ) → i < count → t ≤ length (patternAt set lengths i) →
+    Says (getD needs i []) 9 (under (drop (headLength (patternAt set lengths i) t) (patternAt set lengths i)))
+
+-- a set of patterns and an entry's prefix and positions that went through the tests 2, 3 and 7
+pub record Given (set : List (List ℕ)) (lengths : List ℕ) (count : ℕ) (p R : List ℕ) : Type 0 where
+  pub few : count ≤ 24
+  pub patterns : (i : ℕ) → i < count → isPerm (patternAt set lengths i) ≡ true
+  pub perm : isPerm p ≡ true
+  pub short : length p ≤ 6
+  pub inside : all (within (length p)) R ≡ true
+
+-- The answers, for every list of positions that the flags are of.
+
+abbrev pub FlaggedFor : List (List ℕ) → List ℕ → ℕ → List ℕ → List ℕ → List ℕ → Type 0
+FlaggedFor set lengths count p R gone = Given set lengths count p R × Flags gone 9 (λ v. has v (map (entry p) R))
+
+-- at one spacing
+abbrev pub SpacingAnswer : List (List ℕ) → List ℕ → ℕ → List (List ℕ) → List ℕ → List ℕ → List ℕ → ℕ → Bool → Type 0
+SpacingAnswer set lengths count needs p gone g t r =
+    (R : List ℕ) → FlaggedFor set lengths count p R gone → length g ≡ suc (length p) → total g ≡ t → Needs set lengths count t needs →
+    r ≡ violated (patternsOf set lengths count) p R g
+
+-- at one spacing that is at least no vector of B
+abbrev pub FreeAnswer : List (List ℕ) → List ℕ → ℕ → List (List ℕ) → List ℕ → List ℕ → List (List ℕ) → List ℕ → ℕ → Bool → Type 0
+FreeAnswer set lengths count needs p gone B g t r =
+    (R : List ℕ) → FlaggedFor set lengths count p R gone → length g ≡ suc (length p) → total g ≡ t → Needs set lengths count t needs →
+    r ≡ (free B g && violated (patternsOf set lengths count) p R g)
+
+-- at the spacings of one total
+abbrev pub TotalAnswer : List (List ℕ) → List ℕ → ℕ → List ℕ → List ℕ → List (List ℕ) → ℕ → ℕ → Bool → Type 0
+TotalAnswer set lengths count p gone B k t r =
+    (R : List ℕ) → FlaggedFor set lengths count p R gone → k ≡ length p →
+    r ≡ any (λ g. free B g && violated (patternsOf set lengths count) p R g) (vectors (suc k) t)
+
+-- The answer on an entry: it is the definition's, and it is no exactly if the deletion claim holds at every length.
+pub record EntryAnswer (P : List (List ℕ)) (p : List ℕ) (B : List (List ℕ)) (R : List ℕ) (r : Bool) : Type 0 where
+  pub defined : r ≡ irreversible P p B R
+  pub claimed : (r ≡ false) ↔ DeletionClaim P p B R

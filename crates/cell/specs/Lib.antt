@@ -1,0 +1,25 @@
+-- The definitions of the crate cell, and then its laws.
+pub mod Cell
+pub mod Claim
+pub mod Built
+pub mod Candidate
+pub mod Basis
+pub mod SpacingWalk
+pub mod SublistLaws
+pub mod RisingLaws
+pub mod SpacingLaws
+pub mod BuiltWords
+pub mod BuiltCells
+pub mod RestLaws
+pub mod GapLaws
+pub mod FiniteTest
+pub mod WithoutLaws
+pub mod MergeLaws
+pub mod DeletionLaws
+pub mod Theorems
+pub mod PlaceLaws
+pub mod CandidateLaws
+pub mod EachLaws
+pub mod ChildLaws
+pub mod BinomialLaws
+pub mod BasisLaws

@@ -1,0 +1,1 @@
+// Cells: the definitions, the claims, and the theorems on them, in specs/.

@@ -1,0 +1,21 @@
+-- `completion::put` meets its contract.
+-- Assumes nothing.
+use native.Mathlib.Numerals.{add-one}
+use Prim.Native.Nat.{_<_}
+use lib.ListN.{length}
+use lib.Seq.{take-suc-set}
+use borrow.Author.Needs.{needs}
+use Rattle.completion.proofs.put.Statement.{statement}
+use Rattle.completion.proofs.put.Tie as tie
+
+array-write-longer : tie.Need-array-write-longer
+array-write-longer c = search needs
+
+returns : tie.Need-returns
+returns c =
+    let a = c .args in
+    let room : a .len < length (a .word) = search needs in
+    rw (add-one (a .len)) (take-suc-set (a .word) (a .len) (a .v) room)
+
+pub put-spec : {M : Type 1} → statement M
+put-spec = tie.close (tie.spec array-write-longer returns)

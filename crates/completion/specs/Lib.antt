@@ -1,0 +1,3 @@
+-- The definitions of the crate completion, and then its laws.
+pub mod Completion
+pub mod CompletionLaws

@@ -1,0 +1,2 @@
+pub mod SpacingMemory
+pub mod SpacingCount

@@ -1,0 +1,71 @@
+-- `spacing::at_least` meets its contract: the vectors compare as their components from i on do.
+-- Assumes nothing.
+use Prim.Native.Nat.{_≤_, _-_, _+_}
+use mathlib.Core.Path.{_≡_, refl, sym, _∙_}
+use lib.ListN.{length, take}
+use borrow.Author.Needs.{needs}
+use native.Mathlib.Omega.{arith}
+use Rattle.cell.specs.Cell.{atLeast}
+use Rattle.spacing.proofs.SpacingMemory.{least-from, least-fails, least-passes, least-end}
+use Rattle.spacing.proofs.at_least.Statement.{statement}
+use Rattle.spacing.proofs.at_least.Tie as tie
+
+abbrev Inv-loop : tie.InvT-loop
+Inv-loop k g b i₀ i = (i ≤ k + 1) × (atLeast (take (k + 1) g) (take (k + 1) b) ≡ least-from g b k i)
+
+abbrev μ-loop : tie.MeasureT-loop
+μ-loop k g b i₀ i = k + 1 - i
+
+loop-holds : tie.Need-loop-holds Inv-loop μ-loop
+loop-holds c = (omega arith, refl)
+
+array-read-if1 : tie.Need-array-read-if1 Inv-loop μ-loop
+array-read-if1 c = search needs
+
+array-read-if1-2 : tie.Need-array-read-if1-2 Inv-loop μ-loop
+array-read-if1-2 c = search needs
+
+returns : tie.Need-returns Inv-loop μ-loop
+returns c =
+    let a = c .before .before .before .args in
+    let l = c .before .before .loop in
+    let seven : length (a .t1) ≡ 7 = search needs in
+    let other : length (a .t2) ≡ 7 = search needs in
+    sym (l .inv .1 ∙ least-fails (a .t1) (a .t2) (a .k) (l .i) (omega arith) (omega arith) (omega arith) (c .if1 .taken))
+
+add-i : tie.Need-add-i Inv-loop μ-loop
+add-i c = search needs
+
+loop-less : tie.Need-loop-less Inv-loop μ-loop
+loop-less c = search needs
+
+loop-again : tie.Need-loop-again Inv-loop μ-loop
+loop-again c =
+    let a = c .before .before .before .args in
+    let l = c .before .before .loop in
+    let seven : length (a .t1) ≡ 7 = search needs in
+    let other : length (a .t2) ≡ 7 = search needs in
+    (omega arith, l .inv .1 ∙ least-passes (a .t1) (a .t2) (a .k) (l .i) (omega arith) (omega arith) (omega arith) (c .if1 .left))
+
+returns-2 : tie.Need-returns-2 Inv-loop μ-loop
+returns-2 c =
+    let a = c .before .before .args in
+    let l = c .before .loop in
+    let seven : length (a .t1) ≡ 7 = search needs in
+    let other : length (a .t2) ≡ 7 = search needs in
+    sym (l .inv .1 ∙ least-end (a .t1) (a .t2) (a .k) (l .i) (omega arith) (omega arith) (omega arith))
+
+pub at-least-spec : {M : Type 1} → statement M
+at-least-spec =
+    tie.close
+    (tie.spec
+    Inv-loop
+    μ-loop
+    loop-holds
+    array-read-if1
+    array-read-if1-2
+    returns
+    add-i
+    loop-less
+    loop-again
+    returns-2)

@@ -1,0 +1,97 @@
+-- `spacing::next_spacing` meets its contract: the components behind j are 0.
+-- Assumes nothing.
+use mathlib.Core.Path.{_≡_}
+use lib.ListN.{length}
+use borrow.Author.Needs.{needs}
+use native.Mathlib.Omega.{arith}
+use Rattle.spacing.proofs.SpacingMemory.{Seen, seen-start, seen-down, seen-last, next-fits, next-memory}
+use Rattle.spacing.proofs.next_spacing.Statement.{statement}
+use Rattle.spacing.proofs.next_spacing.Tie as tie
+
+abbrev Inv-loop : tie.InvT-loop
+Inv-loop k g j₀ j = Seen g k j
+
+abbrev μ-loop : tie.MeasureT-loop
+μ-loop k g j₀ j = j
+
+loop-holds : tie.Need-loop-holds Inv-loop μ-loop
+loop-holds c =
+    let g = c .args .t1 in
+    let seven : length g ≡ 7 = search needs in
+    seen-start g (c .args .k) (omega arith)
+
+array-read-r : tie.Need-array-read-r Inv-loop μ-loop
+array-read-r c = search needs
+
+array-write-n : tie.Need-array-write-n Inv-loop μ-loop
+array-write-n c = search needs
+
+sub-n : tie.Need-sub-n Inv-loop μ-loop
+sub-n c = search needs
+
+array-read-n : tie.Need-array-read-n Inv-loop μ-loop
+array-read-n c = search needs
+
+add-n : tie.Need-add-n Inv-loop μ-loop
+add-n c =
+    let a = c .before .before .before .args in
+    let seven : length (a .t1) ≡ 7 = search needs in
+    omega (arith, next-fits (a .t1) (a .k) (c .before .before .loop .j) (omega arith) (omega arith) (c .before .before .loop .inv) (c .if1 .taken) (c .before .before .before .pre .1))
+
+sub-n-2 : tie.Need-sub-n-2 Inv-loop μ-loop
+sub-n-2 c = search needs
+
+array-write-n-2 : tie.Need-array-write-n-2 Inv-loop μ-loop
+array-write-n-2 c = search needs
+
+sub-n-3 : tie.Need-sub-n-3 Inv-loop μ-loop
+sub-n-3 c = search needs
+
+array-write-n-3 : tie.Need-array-write-n-3 Inv-loop μ-loop
+array-write-n-3 c = search needs
+
+returns : tie.Need-returns Inv-loop μ-loop
+returns c =
+    let a = c .before .before .before .args in
+    let seven : length (a .t1) ≡ 7 = search needs in
+    next-memory (a .t1) (a .k) (c .before .before .loop .j) (omega arith) (omega arith) (c .before .before .loop .inv) (c .if1 .taken)
+
+sub-j : tie.Need-sub-j Inv-loop μ-loop
+sub-j c = search needs
+
+loop-less : tie.Need-loop-less Inv-loop μ-loop
+loop-less c = search needs
+
+loop-again : tie.Need-loop-again Inv-loop μ-loop
+loop-again c =
+    let a = c .before .before .before .args in
+    let seven : length (a .t1) ≡ 7 = search needs in
+    seen-down (a .t1) (a .k) (c .before .before .loop .j) (omega arith) (omega arith) (c .before .before .loop .inv) (c .if1 .left)
+
+returns-2 : tie.Need-returns-2 Inv-loop μ-loop
+returns-2 c =
+    let a = c .before .before .args in
+    let seven : length (a .t1) ≡ 7 = search needs in
+    seen-last (a .t1) (a .k) (c .before .loop .j) (omega arith) (c .before .loop .inv) (omega arith)
+
+pub next-spacing-spec : {M : Type 1} → statement M
+next-spacing-spec =
+    tie.close
+    (tie.spec
+    Inv-loop
+    μ-loop
+    loop-holds
+    array-read-r
+    array-write-n
+    sub-n
+    array-read-n
+    add-n
+    sub-n-2
+    array-write-n-2
+    sub-n-3
+    array-write-n-3
+    returns
+    sub-j
+    loop-less
+    loop-again
+    returns-2)

@@ -1,0 +1,3 @@
+-- The definitions of the crate spacing.
+pub mod GapRows
+pub mod SpacingOrder

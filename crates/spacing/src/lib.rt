@@ -1,0 +1,110 @@
+// The spacings of one total in lexicographic order, and the number of compared spacings of an entry.
+ghost use mathlib.Core.Path.{_≡_};
+ghost use Prim.Native.Nat.{suc, _+_, _<_, _≤_};
+ghost use lib.ListN.{length, take};
+ghost use Rattle.word.specs.Lists.{keep, each, row};
+ghost use Rattle.cell.specs.Cell.{total, atLeast, free, vectors};
+ghost use Rattle.spacing.specs.GapRows.{gapsOf};
+ghost use Rattle.spacing.specs.SpacingOrder.{firstVector, Follows};
+
+// The first spacing with k + 1 components and total t: all of the total in the last component.
+pub fn first_spacing(k: usize, t: u8) -> [u8; 7]
+    requires { ⌜ k < 7 ⌝ }
+    ensures { λ r. ⌜ take (k + 1) r ≡ firstVector k t ⌝ }
+{
+    let mut g = [0u8; 7];
+    g[k] = t;
+    g
+}
+
+// Whether a spacing comes after another, and the next one; the same one where there is none.
+pub struct Next {
+    pub found: bool,
+    pub g: [u8; 7],
+}
+
+// The spacing that comes next: the last component that is not 0 gives one to the component before it, and the rest of it goes to the end.
+pub fn next_spacing(g: [u8; 7], k: usize) -> Next
+    requires { ⌜ (k < 7) × (total (take (k + 1) g) < 256) ⌝ }
+    ensures { λ r. ⌜ Follows (take (k + 1) g) (r .found) (take (k + 1) (r .g)) ⌝ }
+{
+    let mut j = k;
+    while 0 < j {
+        let r = g[j];
+        if r != 0 {
+            let mut n = g;
+            n[j] = 0;
+            n[j - 1] = g[j - 1] + 1;
+            n[k] = r - 1;
+            return Next { found: true, g: n };
+        }
+        j -= 1;
+    }
+    Next { found: false, g: g }
+}
+
+// Whether g is at least b in each of its k + 1 components.
+pub fn at_least(g: [u8; 7], b: [u8; 7], k: usize) -> bool
+    requires { ⌜ k < 7 ⌝ }
+    ensures { λ r. ⌜ r ≡ atLeast (take (k + 1) g) (take (k + 1) b) ⌝ }
+{
+    let mut i: usize = 0;
+    while i <= k {
+        if g[i] < b[i] {
+            return false;
+        }
+        i += 1;
+    }
+    true
+}
+
+// Whether g is at least none of the first n gap vectors.
+pub fn is_free(gaps: [[u8; 7]; 8], n: usize, k: usize, g: [u8; 7]) -> bool
+    requires { ⌜ k < 7 ⌝ }
+    ensures { λ r. ⌜ r ≡ free (gapsOf gaps (k + 1) n) (take (k + 1) g) ⌝ }
+{
+    let mut i: usize = 0;
+    while i < 8 {
+        if n <= i {
+            return true;
+        }
+        if at_least(g, gaps[i], k) {
+            return false;
+        }
+        i += 1;
+    }
+    true
+}
+
+// How many spacings of total t are at least none of the first n gap vectors.
+fn free_count(gaps: [[u8; 7]; 8], n: usize, k: usize, t: u8) -> usize
+    requires { ⌜ (k < 7) × (t < 8) ⌝ }
+    ensures { λ r. ⌜ r ≡ length (keep (free (gapsOf gaps (k + 1) n)) (vectors (suc k) t)) ⌝ }
+{
+    let mut g = first_spacing(k, t);
+    let mut count: usize = 0;
+    loop {
+        if is_free(gaps, n, k, g) {
+            count += 1;
+        }
+        let next = next_spacing(g, k);
+        if !next.found {
+            return count;
+        }
+        g = next.g;
+    }
+}
+
+// How many spacings are compared for an entry of length k: those with a total below m that are at least none of the first n gap vectors.
+pub fn compared_count(m: usize, k: usize, gaps: [[u8; 7]; 8], n: usize) -> usize
+    requires { ⌜ (k < 7) × (m ≤ 8) ⌝ }
+    ensures { λ r. ⌜ r ≡ length (keep (free (gapsOf gaps (k + 1) n)) (each (vectors (suc k)) (row 0 m))) ⌝ }
+{
+    let mut count: usize = 0;
+    let mut t: usize = 0;
+    while t + 1 <= m {
+        count += free_count(gaps, n, k, t as u8);
+        t += 1;
+    }
+    count
+}
