@@ -64,22 +64,24 @@ pub fn placed(
     if head.len() <= s {
         return used;
     }
-    if prefix.len() <= i {
-        return false;
-    }
     let x = head[s];
-    let a = prefix[i];
-    if of_value(levels, a) != of_value(need, x) {
-        return placed(chosen, head, need, prefix, levels, gone, s, i + 1, used);
+    let level = of_value(need, x);
+    let mut j = i;
+    while j < prefix.len() {
+        let a = prefix[j];
+        j += 1;
+        if of_value(levels, a) != level {
+            continue;
+        }
+        if !pairs_fit(chosen, head, s, x, a) {
+            continue;
+        }
+        let mut next = chosen;
+        next[s] = a;
+        let more = either(used, is_flagged(gone, a));
+        if placed(next, head, need, prefix, levels, gone, s + 1, j, more) {
+            return true;
+        }
     }
-    if !pairs_fit(chosen, head, s, x, a) {
-        return placed(chosen, head, need, prefix, levels, gone, s, i + 1, used);
-    }
-    let mut next = chosen;
-    next[s] = a;
-    let more = either(used, is_flagged(gone, a));
-    if placed(next, head, need, prefix, levels, gone, s + 1, i + 1, more) {
-        return true;
-    }
-    placed(chosen, head, need, prefix, levels, gone, s, i + 1, used)
+    false
 }
