@@ -1,0 +1,188 @@
+-- Laws of looking a prefix up, and of the tests 8 and 9 on one entry.
+-- Assumes nothing.
+use Prim.Native.Nat.{ℕ, suc, _+_, _-_, _≤_, _<_}
+use native.Mathlib.Nat.{sub-zero}
+use native.Mathlib.Numerals.{add-one}
+use native.Mathlib.Omega.{arith}
+use mathlib.Core.Path.{_≡_, refl, sym, ap, _∙_}
+use mathlib.Core.Bool.{Bool, true, false, not, _||_, cond}
+use mathlib.Core.List.{List, [], _∷_, map, map-map, Memᴰ·of-map}
+use mathlib.Core.Option.{Option, none, some}
+use lib.ListN.{length, getD, take}
+use lib.Seq.{length-take-le}
+use lib.Dec.{ltb, eqb}
+use borrow.Author.Tests.{not-true, not-false, ltb-false, eqb-false}
+use Rattle.word.specs.Lists.{any, row}
+use Rattle.word.specs.Word.{isPerm}
+use Rattle.word.specs.ListLaws.{not-in, any-out, any-in, row-out}
+use Rattle.word.specs.Finding.{clean}
+use Rattle.word.specs.declared.refusal.Refusal.the-variants.{Oversize, NoPermutation, NoPosition}
+use Rattle.cell.specs.Cell.{same, deleted, children}
+use Rattle.cell.specs.BuiltCells.{same-out}
+use Rattle.cell.specs.ChildLaws.{childAt, child-length, children-all}
+use Rattle.scheme.specs.SchemeList.{EntryList}
+use Rattle.scheme.specs.SchemeMemory.{padded, noEntry, entryIn, doesOf, schemeIn}
+use Rattle.scheme.specs.WellFormed.{firstAt, listed, largeEntry, outside, lacksChild, lacksTarget}
+use Rattle.scheme.specs.Links.{findFrom, findIn, foundOf, present, prefixesIn, Linked}
+use Rattle.scheme.specs.declared.memory.Rule.{Rule}
+use Rattle.scheme.specs.declared.memory.Rule.the-variants.{Expand, Delete}
+use Rattle.scheme.specs.declared.memory.Scheme.{Scheme}
+use Rattle.scheme.specs.declared.links.Found.{Found}
+use Rattle.scheme.specs.declared.links.Found.the-variants.{At, Nothing}
+use Rattle.scheme.specs.TestLaws.{row-next, row-end, first-clean, anyFrom, or-left}
+use Rattle.scheme.specs.MemoryLaws.{padded-within, length-padded}
+use Rattle.scheme.proofs.PrefixLaws.{any-child}
+
+-- Looking up
+
+-- a list is listed exactly if it is found
+pub listed-found : (i : ℕ) (ps : List (List ℕ)) (q : List ℕ) → listed ps q ≡ present (findFrom i ps q)
+unfolding findFrom
+listed-found i [] q = refl
+listed-found i (p ∷ ps) q = go (same q p) (listed-found (suc i) ps q)
+  where
+    go : (b : Bool) → listed ps q ≡ present (findFrom (suc i) ps q) → b || listed ps q ≡ present (cond b (some i) (findFrom (suc i) ps q))
+    go true e = refl
+    go false e = e
+
+found-at : (o : Option ℕ) (i : ℕ) → foundOf o ≡ At i → present o ≡ true
+found-at none i e = let z : _≡_ {A = ℕ} 0 1 = cc in absurd (omega arith)
+found-at (some j) i e = refl
+
+found-nothing : (o : Option ℕ) → foundOf o ≡ Nothing → present o ≡ false
+found-nothing none e = refl
+found-nothing (some j) e = let z : _≡_ {A = ℕ} 0 1 = cc in absurd (omega arith)
+
+module _ (ps : List (List ℕ)) (q : List ℕ) (r : Found) (found : r ≡ foundOf (findIn ps q)) where
+  pub at-listed : (i : ℕ) → r ≡ At i → listed ps q ≡ true
+  at-listed i e = listed-found 0 ps q ∙ found-at (findIn ps q) i (sym found ∙ e)
+
+  pub nothing-listed : r ≡ Nothing → listed ps q ≡ false
+  nothing-listed e = listed-found 0 ps q ∙ found-nothing (findIn ps q) (sym found ∙ e)
+
+-- the entry with index i, and its prefix
+abbrev pub entryAt : Scheme → ℕ → EntryList
+entryAt s i = entryIn (getD (s .entries) i noEntry)
+
+abbrev pub prefixAt : Scheme → ℕ → List ℕ
+prefixAt s i = padded ((getD (s .entries) i noEntry) .length) ((getD (s .entries) i noEntry) .prefix)
+
+pub prefixes-at : (s : Scheme) → prefixesIn s ≡ map (prefixAt s) (row 0 (s .count))
+prefixes-at s = map-map (λ (e : EntryList). e .prefix) (entryAt s) (row 0 (s .count))
+
+-- the search from place i on
+module _ (f : ℕ → List ℕ) (n : ℕ) (q : List ℕ) where
+  unfoldable pub foundFrom : ℕ → Option ℕ
+  unfolding findFrom
+  foundFrom i = findFrom i (map f (row i (n - i))) q
+
+  pub found-here : (i : ℕ) → i < n → same q (f i) ≡ true → foundFrom i ≡ some i
+  unfolding foundFrom
+  found-here i h e = rw (row-next n i h, e) refl
+
+  pub found-later : (i : ℕ) → i < n → same q (f i) ≡ false → foundFrom i ≡ foundFrom (i + 1)
+  unfolding foundFrom
+  found-later i h e = rw (row-next n i h, e, add-one i) refl
+
+  pub found-end : (i : ℕ) → n ≤ i → foundFrom i ≡ none
+  unfolding foundFrom
+  found-end i h = rw (row-end n i h) refl
+
+pub found-start : (s : Scheme) (q : List ℕ) → findIn (prefixesIn s) q ≡ foundFrom (prefixAt s) (s .count) q 0
+unfolding foundFrom
+found-start s q = rw (sub-zero (s .count)) (ap (λ (ps : List (List ℕ)). findIn ps q) (prefixes-at s))
+
+-- Children
+
+-- no entry has a prefix that is longer than 6
+pub long-unlisted : (s : Scheme) (q : List ℕ) → Linked s → 6 < length q → listed (prefixesIn s) q ≡ false
+long-unlisted s q k h = not-true (listed (prefixesIn s) q) (not-in (listed (prefixesIn s) q) none-is)
+  where
+    none-is : listed (prefixesIn s) q ≡ true → ⊥
+    none-is e =
+        let t : any (same q) (map (prefixAt s) (row 0 (s .count))) ≡ true = sym (ap (any (same q)) (prefixes-at s)) ∙ e in
+        let (p, m, w) = any-out (same q) (map (prefixAt s) (row 0 (s .count))) t in
+        let (i, n, a) = Memᴰ·of-map (prefixAt s) (row 0 (s .count)) m in
+        let (low, high) = row-out 0 (s .count) n in
+        let short : (getD (s .entries) i noEntry) .length ≤ 6 = (k .linked i (omega arith)) .short in
+        let size : length (prefixAt s i) ≡ (getD (s .entries) i noEntry) .length =
+        length-padded ((getD (s .entries) i noEntry) .length) ((getD (s .entries) i noEntry) .prefix) in
+        let sizes : length q ≡ length (prefixAt s i) = ap length (same-out q p w ∙ sym a) in
+        omega arith
+
+-- a prefix has no entry
+abbrev pub unlisted : Scheme → List ℕ → Bool
+unlisted s q = not (listed (prefixesIn s) q)
+
+-- the same, by the child's last entry
+abbrev pub missing : Scheme → List ℕ → ℕ → Bool
+missing s p a = unlisted s (childAt p a)
+
+-- an entry with a prefix of length 6 lacks its children
+pub all-childless : (s : Scheme) (p : List ℕ) → Linked s → isPerm p ≡ true → length p ≡ 6 → any (unlisted s) (children p) ≡ true
+all-childless s p k e h =
+    any-in (unlisted s) (children-all p 1 e (omega arith) (omega arith))
+    (ap not (long-unlisted s (childAt p 1) k (omega (arith, child-length p 1))))
+
+-- the children of a prefix of length k, by their last entries from 1 to k + 1
+pub children-start : (t : List ℕ → Bool) (l : List ℕ) (k : ℕ) → isPerm (take k l) ≡ true → k ≤ length l →
+    any t (children (take k l)) ≡ anyFrom (λ a. t (childAt (take k l) a)) (k + 2) 1
+unfolding anyFrom
+children-start t l k e h =
+    let n : suc (length (take k l)) ≡ (k + 2) - 1 = omega (arith, length-take-le k l h) in
+    any-child t (take k l) e ∙ ap (λ n. any (λ a. t (childAt (take k l) a)) (row 1 n)) n
+
+-- The tests on one entry
+
+abbrev pub childTest : Scheme → EntryList → Bool
+childTest s e = lacksChild (prefixesIn s) (e .prefix) (e .rule)
+
+abbrev pub targetTest : Scheme → EntryList → Bool
+targetTest s e = lacksTarget (prefixesIn s) (e .prefix) (e .rule)
+
+module _ (ps : List (List ℕ)) (l : List ℕ) (k : ℕ) (rule : Rule) where
+  pub expand-child : k ≤ length l → rule ≡ Expand → lacksChild ps (padded k l) (doesOf rule) ≡ any (λ q. not (listed ps q)) (children (take k l))
+  expand-child h e = rw (e, padded-within k l h) refl
+
+  pub delete-target : (r : ℕ) → k ≤ length l → rule ≡ Delete r →
+      lacksTarget ps (padded k l) (doesOf rule) ≡ not (listed ps (deleted (r ∷ []) (take k l)))
+  delete-target r h e = rw (e, padded-within k l h) refl
+
+-- a position that passes test 7
+pub position-inside : (k r : ℕ) (rule : Rule) → outside k (doesOf rule) ≡ false → rule ≡ Delete r → (1 ≤ r) × (r ≤ k)
+position-inside k r rule h e = go (eqb r 0) (ltb k r) refl refl (sym (ap (λ (x : Rule). outside k (doesOf x)) e) ∙ h)
+  where
+    go : (a b : Bool) → eqb r 0 ≡ a → ltb k r ≡ b → a || b ≡ false → (1 ≤ r) × (r ≤ k)
+    go true b p q w = let z : _≡_ {A = ℕ} 0 1 = cc in absurd (omega arith)
+    go false true p q w = let z : _≡_ {A = ℕ} 0 1 = cc in absurd (omega arith)
+    go false false p q w =
+        let n : r ≡ 0 → ⊥ = eqb-false r 0 p in
+        let m : r ≤ k = ltb-false k r q in
+        (omega arith, omega arith)
+
+-- What the tests 2, 3 and 7 leave
+
+-- a scheme in which they find nothing
+pub linked-clean : (s : Scheme) → s .count ≤ 128 → firstAt Oversize largeEntry 0 (schemeIn s) ≡ clean →
+    firstAt NoPermutation (λ (e : EntryList). not (isPerm (e .prefix))) 0 (schemeIn s) ≡ clean →
+    firstAt NoPosition (λ (e : EntryList). outside (length (e .prefix)) (e .rule)) 0 (schemeIn s) ≡ clean → Linked s
+linked-clean s h large none-perm none-out =
+    record {
+      counted = h;
+      linked = λ (i : ℕ) (k : i < s .count). record {
+        short = small i (first-clean (entryAt s) Oversize largeEntry (s .count) i large k);
+        perm = not-false (isPerm (prefixAt s i))
+            (first-clean (entryAt s) NoPermutation (λ (e : EntryList). not (isPerm (e .prefix))) (s .count) i none-perm k);
+        inside = inner i (first-clean (entryAt s) NoPosition (λ (e : EntryList). outside (length (e .prefix)) (e .rule)) (s .count) i none-out k);
+      };
+    }
+  where
+    size : (i : ℕ) → length (prefixAt s i) ≡ (getD (s .entries) i noEntry) .length
+    size i = length-padded ((getD (s .entries) i noEntry) .length) ((getD (s .entries) i noEntry) .prefix)
+
+    small : (i : ℕ) → largeEntry (entryAt s i) ≡ false → (getD (s .entries) i noEntry) .length ≤ 6
+    small i e = omega (arith, size i, ltb-false 6 (length (prefixAt s i)) (or-left (ltb 6 (length (prefixAt s i))) _ e))
+
+    inner : (i : ℕ) → outside (length (prefixAt s i)) ((entryAt s i) .rule) ≡ false →
+        outside ((getD (s .entries) i noEntry) .length) ((entryAt s i) .rule) ≡ false
+    inner i e = ap (λ (n : ℕ). outside n ((entryAt s i) .rule)) (sym (size i)) ∙ e

@@ -1,0 +1,214 @@
+-- Laws of a prefix in memory: its digits, when it is the same as another, its children, and the shorter prefix.
+-- Assumes nothing.
+use Prim.Native.Nat.{ℕ, zero, suc, _+_, _-_, _≤_, _<_}
+use native.Mathlib.Numerals.{add-one}
+use native.Mathlib.Omega.{arith}
+use mathlib.Core.Path.{_≡_, refl, sym, ap, ap₂, _∙_}
+use mathlib.Core.Bool.{Bool, true, false, cond}
+use mathlib.Core.List.{List, [], _∷_, _++_, map, map-append, List·Memᴰ, Memᴰ·cast, Memᴰ·of-map, Memᴰ·map}
+use lib.ListN.{length, getD, take, drop, set, length-append, length-map, length-drop, List·getD-append}
+use lib.Seq.{length-take-le, take-suc, take-suc-set, split-at, getD-append-add, getD-take, getD-drop}
+use lib.Dec.{leb}
+use borrow.Author.Tests.{not-true, eq-eqb, ne-eqb, leb-true, leb-false}
+use Rattle.word.specs.Lists.{any, row}
+use Rattle.word.specs.Word.{under, reduce, has, isPerm, bump}
+use Rattle.word.specs.ListLaws.{not-in, getD-mem, map-same, any-map, row-out, row-in}
+use Rattle.word.specs.BumpLaws.{Bumped, stays, moves, bumped, unbump, unbump-below, unbump-above}
+use Rattle.word.specs.PermLaws.{perm-bounds, under-perm}
+use Rattle.cell.specs.Cell.{same, without, deleted, children}
+use Rattle.cell.specs.Built.{getD-map}
+use Rattle.cell.specs.BuiltCells.{same-out, same-in}
+use Rattle.cell.specs.ChildLaws.{childAt, children-all, children-are}
+use Rattle.cell.specs.WithoutLaws.{withoutFrom, without-from}
+use Rattle.cell.specs.MergeLaws.{kept-bounds}
+use Rattle.scheme.specs.SchemeMemory.{padded}
+use Rattle.scheme.specs.TestLaws.{any-members}
+use Rattle.scheme.specs.MemoryLaws.{padded-within, length-padded}
+
+-- the digits of a permutation in an array
+pub digit-bounds : (l : List ℕ) (k i : ℕ) → isPerm (take k l) ≡ true → k ≤ length l → i < k → (1 ≤ getD l i 0) × (getD l i 0 ≤ k)
+digit-bounds l k i e h j =
+    let s = length-take-le k l h in
+    let b = perm-bounds (take k l) e (getD-mem (take k l) i 0 (omega arith)) in
+    let q = getD-take k l i 0 j in
+    omega arith
+
+-- The same prefix
+
+same-fails : (u v : List ℕ) → (u ≡ v → ⊥) → same u v ≡ false
+same-fails u v n = not-true (same u v) (not-in (same u v) (λ (e : same u v ≡ true). n (same-out u v e)))
+
+module _ (q : List ℕ) (n : ℕ) (p : List ℕ) (k : ℕ) (hq : n ≤ length q) where
+  pub same-length : (n ≡ k → ⊥) → same (take n q) (padded k p) ≡ false
+  same-length d = same-fails (take n q) (padded k p)
+      (λ (e : take n q ≡ padded k p). d (sym (length-take-le n q hq) ∙ ap length e ∙ length-padded k p))
+
+  pub same-not : (j : ℕ) → n ≡ k → n ≤ length p → j < n → (getD q j 0 ≡ getD p j 0 → ⊥) → same (take n q) (padded k p) ≡ false
+  same-not j s hp h d = same-fails (take n q) (padded k p) differ
+    where
+      differ : take n q ≡ padded k p → ⊥
+      differ e =
+          let whole : take n q ≡ take n p = e ∙ ap (λ m. padded m p) (sym s) ∙ padded-within n p hp in
+          d (sym (getD-take n q j 0 h) ∙ ap (λ (l : List ℕ). getD l j 0) whole ∙ getD-take n p j 0 h)
+
+  pub same-all : n ≡ k → n ≤ length p → take n q ≡ take n p → same (take n q) (padded k p) ≡ true
+  same-all s hp e = same-in (take n q) (padded k p) (e ∙ sym (padded-within n p hp) ∙ ap (λ m. padded m p) s)
+
+-- one digit more that agrees
+pub take-more : (q p : List ℕ) (j : ℕ) → j < length q → j < length p → take j q ≡ take j p → getD q j 0 ≡ getD p j 0 →
+    take (j + 1) q ≡ take (j + 1) p
+take-more q p j hq hp e d = rw (add-one, take-suc q j 0 hq, take-suc p j 0 hp, e, d) refl
+
+-- Children
+
+-- one digit more of a child
+pub child-more : (digits l : List ℕ) (j a x : ℕ) → j < length digits → j < length l → x ≡ bump a (getD l j 0) →
+    take j digits ≡ map (bump a) (take j l) → take (j + 1) (set digits j x) ≡ map (bump a) (take (j + 1) l)
+child-more digits l j a x hd hl b e =
+    rw (add-one, take-suc-set digits j x hd, take-suc l j 0 hl, map-append, e, b) refl
+
+pub child-whole : (digits l : List ℕ) (k a : ℕ) → k < length digits → take k digits ≡ map (bump a) (take k l) →
+    take (k + 1) (set digits k a) ≡ childAt (take k l) a
+unfolding childAt
+child-whole digits l k a h e = rw (add-one, take-suc-set digits k a h, e) refl
+
+-- a test of some child, by its last entry
+pub any-child : (t : List ℕ → Bool) (p : List ℕ) → isPerm p ≡ true → any t (children p) ≡ any (λ a. t (childAt p a)) (row 1 (suc (length p)))
+any-child t p e =
+    any-members t (children p) (map (childAt p) (row 1 (suc (length p)))) out back ∙ any-map t (childAt p) (row 1 (suc (length p)))
+  where
+    out : (q : List ℕ) → List·Memᴰ q (children p) → List·Memᴰ q (map (childAt p) (row 1 (suc (length p))))
+    out q m =
+        let (a, low, high, s) = children-are p e m in
+        Memᴰ·cast s (Memᴰ·map (childAt p) (row-in 1 (suc (length p)) a low (omega arith)))
+
+    back : (q : List ℕ) → List·Memᴰ q (map (childAt p) (row 1 (suc (length p)))) → List·Memᴰ q (children p)
+    back q m =
+        let (a, n, s) = Memᴰ·of-map (childAt p) (row 1 (suc (length p))) m in
+        let (low, high) = row-out 1 (suc (length p)) n in
+        Memᴰ·cast (sym s) (children-all p a e low (omega arith))
+
+-- The shorter prefix
+
+-- no later position is r
+from-none : (r i : ℕ) (w : List ℕ) → r < i → withoutFrom (r ∷ []) i w ≡ w
+unfolding withoutFrom has
+from-none r i [] h = refl
+from-none r i (x ∷ w) h =
+    rw (ne-eqb i r (λ (e : i ≡ r). omega arith)) (ap (λ (v : List ℕ). x ∷ v) (from-none r (suc i) w (omega arith)))
+
+from-one : (r i m : ℕ) (w : List ℕ) → r ≡ i + m → m < length w → withoutFrom (r ∷ []) i w ≡ take m w ++ drop (suc m) w
+unfolding withoutFrom has
+from-one r i m [] e h = absurd (omega arith)
+from-one r i zero (x ∷ w) e h = rw (eq-eqb i r (omega arith)) (from-none r (suc i) w (omega arith))
+from-one r i (suc m) (x ∷ w) e h =
+    rw (ne-eqb i r (λ (q : i ≡ r). omega arith)) (ap (λ (v : List ℕ). x ∷ v) (from-one r (suc i) m w (omega arith) (omega arith)))
+
+-- a word without the position with index m
+pub without-one : (m : ℕ) (w : List ℕ) → m < length w → without (suc m ∷ []) w ≡ take m w ++ drop (suc m) w
+without-one m w h = without-from (suc m ∷ []) w ∙ from-one (suc m) 1 m w (omega arith) h
+
+cut-length : (m : ℕ) (w : List ℕ) → m < length w → length (take m w ++ drop (suc m) w) + 1 ≡ length w
+cut-length m w h = omega (arith, length-append (take m w) (drop (suc m) w), length-take-le m w (omega arith), length-drop (suc m) w)
+
+cut-at : (m j : ℕ) (w : List ℕ) → m < length w → getD (take m w ++ drop (suc m) w) j 0 ≡ getD w (bump m j) 0
+cut-at m j w h = go (bumped m j)
+  where
+    size : length (take m w) ≡ m
+    size = length-take-le m w (omega arith)
+
+    go : Bumped m j → getD (take m w ++ drop (suc m) w) j 0 ≡ getD w (bump m j) 0
+    go (stays b e) = List·getD-append (take m w) (drop (suc m) w) 0 j (omega (arith, size)) ∙ getD-take m w j 0 b ∙ ap (λ n. getD w n 0) (sym e)
+    go (moves b e) =
+        let at : j ≡ length (take m w) + (j - m) = omega (arith, size) in
+        let to : suc m + (j - m) ≡ bump m j = omega arith in
+        ap (λ n. getD (take m w ++ drop (suc m) w) n 0) at ∙ getD-append-add (take m w) (drop (suc m) w) (j - m) 0 ∙
+        getD-drop (suc m) w (j - m) 0 ∙ ap (λ n. getD w n 0) to
+
+-- one entry v more counts where it is at most x
+under-cut : (u w : List ℕ) (v x : ℕ) → under (u ++ (v ∷ w)) x ≡ cond (leb v x) (suc (under (u ++ w) x)) (under (u ++ w) x)
+unfolding under
+under-cut [] w v x = refl
+under-cut (y ∷ u) w v x = rw (under-cut u w v x) (go (leb y x) (leb v x))
+  where
+    go : (a b : Bool) → cond a (suc (cond b (suc (under (u ++ w) x)) (under (u ++ w) x))) (cond b (suc (under (u ++ w) x)) (under (u ++ w) x))
+        ≡ cond b (suc (cond a (suc (under (u ++ w) x)) (under (u ++ w) x))) (cond a (suc (under (u ++ w) x)) (under (u ++ w) x))
+    go true true = refl
+    go true false = refl
+    go false true = refl
+    go false false = refl
+
+module _ (m : ℕ) (p : List ℕ) (perm : isPerm p ≡ true) (h : m < length p) where
+  -- in a permutation without its entry v the values from v on are one lower
+  under-one : (x : ℕ) → x ≤ length p → under (take m p ++ drop (suc m) p) x ≡ unbump (getD p m 0) x
+  under-one x k = go (leb v x) refl
+    where
+      v : ℕ
+      v = getD p m 0
+
+      rest : ℕ
+      rest = under (take m p ++ drop (suc m) p) x
+
+      whole : x ≡ cond (leb v x) (suc rest) rest
+      whole = sym (under-perm p x perm k) ∙ ap (λ (l : List ℕ). under l x) (split-at p m 0 h) ∙ under-cut (take m p) (drop (suc m) p) v x
+
+      go : (b : Bool) → leb v x ≡ b → rest ≡ unbump v x
+      go true e =
+          let w : x ≡ suc rest = whole ∙ ap (λ b. cond b (suc rest) rest) e in
+          omega (arith, unbump-above v x (leb-true v x e))
+      go false e =
+          let w : x ≡ rest = whole ∙ ap (λ b. cond b (suc rest) rest) e in
+          omega (arith, unbump-below v x (leb-false v x e))
+
+  -- the shorter prefix: the entry with index m is left out, and the larger values are one lower
+  pub deleted-one : deleted (suc m ∷ []) p ≡ map (unbump (getD p m 0)) (take m p ++ drop (suc m) p)
+  unfolding deleted reduce
+  deleted-one =
+      ap reduce (without-one m p h) ∙
+      map-same (under (take m p ++ drop (suc m) p)) (unbump (getD p m 0)) (take m p ++ drop (suc m) p) value
+    where
+      value : (x : ℕ) → List·Memᴰ x (take m p ++ drop (suc m) p) → under (take m p ++ drop (suc m) p) x ≡ unbump (getD p m 0) x
+      value x i =
+          let k : List·Memᴰ x (without (suc m ∷ []) p) = rw (without-one m p h) i in
+          let b = kept-bounds (suc m ∷ []) p perm k in
+          under-one x (b .1)
+
+  pub deleted-size : length (deleted (suc m ∷ []) p) + 1 ≡ length p
+  deleted-size = rw deleted-one (omega (arith, length-map (take m p ++ drop (suc m) p) (unbump (getD p m 0)), cut-length m p h))
+
+  pub deleted-at : (j : ℕ) → j + 1 < length p → getD (deleted (suc m ∷ []) p) j 0 ≡ unbump (getD p m 0) (getD p (bump m j) 0)
+  deleted-at j k =
+      ap (λ (l : List ℕ). getD l j 0) deleted-one ∙
+      getD-map (unbump (getD p m 0)) (take m p ++ drop (suc m) p) j (omega (arith, cut-length m p h)) ∙
+      ap (unbump (getD p m 0)) (cut-at m j p h)
+
+pub bump-inside : (m j n : ℕ) → j + 1 < n → bump m j < n
+bump-inside m j n h = go (bumped m j)
+  where
+    go : Bumped m j → bump m j < n
+    go (stays b e) = omega arith
+    go (moves b e) = omega arith
+
+-- the same of a prefix in an array, by its position r
+module _ (l : List ℕ) (k r : ℕ) (perm : isPerm (take k l) ≡ true) (low : 1 ≤ r) (high : r ≤ k) (fits : k ≤ length l) where
+  index : suc (r - 1) ≡ r
+  index = omega arith
+
+  size : length (take k l) ≡ k
+  size = length-take-le k l fits
+
+  pub shorter-size : length (deleted (r ∷ []) (take k l)) ≡ k - 1
+  shorter-size =
+      let e = deleted-size (r - 1) (take k l) perm (omega (arith, size)) in
+      ap (λ n. length (deleted (n ∷ []) (take k l))) (sym index) ∙ omega (arith, e, size)
+
+  pub shorter-at : (j : ℕ) → j < k - 1 → getD (deleted (r ∷ []) (take k l)) j 0 ≡ unbump (getD l (r - 1) 0) (getD l (bump (r - 1) j) 0)
+  shorter-at j h =
+      ap (λ n. getD (deleted (n ∷ []) (take k l)) j 0) (sym index) ∙ deleted-at (r - 1) (take k l) perm (omega (arith, size)) j (omega (arith, size)) ∙
+      ap₂ unbump (getD-take k l (r - 1) 0 (omega arith)) (getD-take k l (bump (r - 1) j) 0 (bump-inside (r - 1) j k (omega arith)))
+
+  -- one digit more
+  pub shorter-more : (digits : List ℕ) (j x : ℕ) → j < k - 1 → j < length digits → x ≡ unbump (getD l (r - 1) 0) (getD l (bump (r - 1) j) 0) →
+      take j digits ≡ take j (deleted (r ∷ []) (take k l)) → take (j + 1) (set digits j x) ≡ take (j + 1) (deleted (r ∷ []) (take k l))
+  shorter-more digits j x h d b e =
+      rw (add-one, take-suc-set digits j x d, take-suc (deleted (r ∷ []) (take k l)) j 0 (omega (arith, shorter-size)), e, b, shorter-at j h) refl

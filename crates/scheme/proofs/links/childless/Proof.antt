@@ -1,0 +1,101 @@
+-- `scheme::links::childless` meets its contract: a child is missing if one with a last entry from a on is.
+-- Assumes nothing.
+use Prim.Native.Nat.{_+_, _-_, _<_}
+use mathlib.Core.Path.{_≡_, sym, ap, _∙_}
+use mathlib.Core.Bool.{not}
+use native.Mathlib.Omega.{arith}
+use borrow.Author.Needs.{needs}
+use lib.ListN.{length, take}
+use lib.Seq.{length-take-le}
+use Rattle.word.specs.Lists.{any}
+use Rattle.cell.specs.Cell.{children}
+use Rattle.cell.specs.ChildLaws.{childAt}
+use Rattle.scheme.specs.WellFormed.{listed}
+use Rattle.scheme.specs.Links.{prefixesIn}
+use Rattle.scheme.specs.TestLaws.{anyFrom, place-here, place-later, place-end}
+use Rattle.scheme.proofs.LookupLaws.{unlisted, missing, all-childless, children-start}
+use Rattle.scheme.proofs.links.childless.Statement.{statement}
+use Rattle.scheme.proofs.links.childless.Tie as tie
+
+abbrev Inv-loop : tie.InvT-loop
+Inv-loop s prefix k last a₀ a = (any (unlisted s) (children (take k prefix)) ≡ anyFrom (missing s (take k prefix)) (k + 2) a) × (last ≡ k + 1) × (k < 6)
+
+abbrev μ-loop : tie.MeasureT-loop
+μ-loop s prefix k last a₀ a = k + 2 - a
+
+returns : tie.Need-returns Inv-loop μ-loop
+returns c =
+    let a = c .before .args in
+    let h = c .before .pre in
+    let six : length (a .prefix) ≡ 6 = search needs in
+    let size : length (take (a .k) (a .prefix)) ≡ 6 = omega (arith, length-take-le (a .k) (a .prefix) (omega arith)) in
+    sym (all-childless (a .s) (take (a .k) (a .prefix)) (h .0) (h .2) size)
+
+cast-last : tie.Need-cast-last Inv-loop μ-loop
+cast-last c = search needs
+
+add-last : tie.Need-add-last Inv-loop μ-loop
+add-last c = search needs
+
+loop-holds : tie.Need-loop-holds Inv-loop μ-loop
+loop-holds c =
+    let a = c .before .args in
+    let h = c .before .pre in
+    let six : length (a .prefix) ≡ 6 = search needs in
+    (children-start (unlisted (a .s)) (a .prefix) (a .k) (h .2) (omega arith), search needs, omega arith)
+
+child-requires : tie.Need-child-requires Inv-loop μ-loop
+child-requires c κs = search needs
+
+add-has-entry : tie.Need-add-has-entry Inv-loop μ-loop
+add-has-entry c = search needs
+
+has-entry-requires : tie.Need-has-entry-requires Inv-loop μ-loop
+has-entry-requires c κs = search needs
+
+returns-2 : tie.Need-returns-2 Inv-loop μ-loop
+returns-2 c =
+    let a = c .before .before .before .before .before .before .args in
+    let l = c .before .before .before .before .loop in
+    let found : c .before .has-entry .result ≡ listed (prefixesIn (a .s)) (childAt (take (a .k) (a .prefix)) (l .a)) =
+    c .before .has-entry .ensures ∙ ap (listed (prefixesIn (a .s))) (c .before .before .child .ensures) in
+    sym (l .inv .0 ∙ place-here (missing (a .s) (take (a .k) (a .prefix))) (a .k + 2) (l .a) (omega arith) (sym (ap not found) ∙ c .if2 .taken))
+
+add-a : tie.Need-add-a Inv-loop μ-loop
+add-a c = search needs
+
+loop-less : tie.Need-loop-less Inv-loop μ-loop
+loop-less c = search needs
+
+loop-again : tie.Need-loop-again Inv-loop μ-loop
+loop-again c =
+    let a = c .before .before .before .before .before .before .args in
+    let l = c .before .before .before .before .loop in
+    let found : c .before .has-entry .result ≡ listed (prefixesIn (a .s)) (childAt (take (a .k) (a .prefix)) (l .a)) =
+    c .before .has-entry .ensures ∙ ap (listed (prefixesIn (a .s))) (c .before .before .child .ensures) in
+    (l .inv .0 ∙ place-later (missing (a .s) (take (a .k) (a .prefix))) (a .k + 2) (l .a) (omega arith) (sym (ap not found) ∙ c .if2 .left), l .inv .1, l .inv .2)
+
+returns-3 : tie.Need-returns-3 Inv-loop μ-loop
+returns-3 c =
+    let a = c .before .before .before .args in
+    let l = c .before .loop in
+    sym (l .inv .0 ∙ place-end (missing (a .s) (take (a .k) (a .prefix))) (a .k + 2) (l .a) (omega arith))
+
+pub childless-spec : {M : Type 1} → statement M
+childless-spec =
+    tie.close
+    (tie.spec
+    Inv-loop
+    μ-loop
+    returns
+    cast-last
+    add-last
+    loop-holds
+    child-requires
+    add-has-entry
+    has-entry-requires
+    returns-2
+    add-a
+    loop-less
+    loop-again
+    returns-3)

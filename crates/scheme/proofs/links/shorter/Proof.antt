@@ -1,0 +1,95 @@
+-- `scheme::links::shorter` meets its contract: as many digits as were passed are those of the shorter prefix.
+-- Assumes nothing.
+use Prim.Native.Nat.{_-_, _≤_, _<_}
+use mathlib.Core.Path.{_≡_, ap, _∙_}
+use mathlib.Core.List.{[], _∷_}
+use native.Mathlib.Omega.{arith}
+use borrow.Author.Needs.{needs}
+use lib.ListN.{length, take, getD, length-set}
+use lib.Seq.{take-all}
+use Rattle.word.specs.Word.{bump}
+use Rattle.word.specs.BumpLaws.{unbump}
+use Rattle.cell.specs.Cell.{deleted}
+use Rattle.scheme.proofs.PrefixLaws.{digit-bounds, bump-inside, shorter-size, shorter-more}
+use Rattle.scheme.proofs.links.shorter.Statement.{statement}
+use Rattle.scheme.proofs.links.shorter.Tie as tie
+
+abbrev Inv-loop : tie.InvT-loop
+Inv-loop k r prefix at v digits₀ j₀ digits j = (take j digits ≡ take j (deleted (r ∷ []) (take k prefix))) × (length digits ≡ 6) × (j ≤ k - 1)
+
+abbrev μ-loop : tie.MeasureT-loop
+μ-loop k r prefix at v digits₀ j₀ digits j = k - 1 - j
+
+sub-at : tie.Need-sub-at Inv-loop μ-loop
+sub-at c = search needs
+
+array-read-v : tie.Need-array-read-v Inv-loop μ-loop
+array-read-v c = search needs
+
+loop-holds : tie.Need-loop-holds Inv-loop μ-loop
+loop-holds c = search needs
+
+sub-loop : tie.Need-sub-loop Inv-loop μ-loop
+sub-loop c = search needs
+
+kept-requires : tie.Need-kept-requires Inv-loop μ-loop
+kept-requires c κs = search needs
+
+lowered-requires : tie.Need-lowered-requires Inv-loop μ-loop
+lowered-requires c κs =
+    let a = c .before .before .before .args in
+    let j = c .before .before .loop .j in
+    let six : length (a .t1) ≡ 6 = search needs in
+    let inside : bump (a .r - 1) j < a .k = bump-inside (a .r - 1) j (a .k) (omega arith) in
+    omega (arith, c .kept .ensures, digit-bounds (a .t1) (a .k) (bump (a .r - 1) j) (c .before .before .before .pre .3) (omega arith) inside)
+
+array-write-digits : tie.Need-array-write-digits Inv-loop μ-loop
+array-write-digits c = search needs
+
+add-j : tie.Need-add-j Inv-loop μ-loop
+add-j c = search needs
+
+loop-less : tie.Need-loop-less Inv-loop μ-loop
+loop-less c = search needs
+
+loop-again : tie.Need-loop-again Inv-loop μ-loop
+loop-again c =
+    let a = c .before .before .before .before .args in
+    let l = c .before .before .before .loop in
+    let h = c .before .before .before .before .pre in
+    let six : length (a .t1) ≡ 6 = search needs in
+    let value : c .lowered .result ≡ unbump (getD (a .t1) (a .r - 1) 0) (getD (a .t1) (bump (a .r - 1) (l .j)) 0) =
+    c .lowered .ensures ∙ ap (unbump (getD (a .t1) (a .r - 1) 0)) (c .before .kept .ensures) in (
+      shorter-more (a .t1) (a .k) (a .r) (h .3) (h .0) (h .1) (omega arith) (l .digits) (l .j) (c .lowered .result) (omega arith) (omega arith) value (l .inv .0),
+      length-set (l .digits) (l .j) (c .lowered .result) ∙ l .inv .1,
+      omega arith,
+    )
+
+returns : tie.Need-returns Inv-loop μ-loop
+returns c =
+    let a = c .before .before .args in
+    let l = c .before .loop in
+    let h = c .before .before .pre in
+    let six : length (a .t1) ≡ 6 = search needs in
+    let all : l .j ≡ a .k - 1 = omega arith in
+    let front : take (a .k - 1) (l .digits) ≡ take (a .k - 1) (deleted (a .r ∷ []) (take (a .k) (a .t1))) = rw all at (l .inv .0) in
+    let size = shorter-size (a .t1) (a .k) (a .r) (h .3) (h .0) (h .1) (omega arith) in
+    front ∙ take-all (a .k - 1) (deleted (a .r ∷ []) (take (a .k) (a .t1))) (omega arith)
+
+pub shorter-spec : {M : Type 1} → statement M
+shorter-spec =
+    tie.close
+    (tie.spec
+    Inv-loop
+    μ-loop
+    sub-at
+    array-read-v
+    loop-holds
+    sub-loop
+    kept-requires
+    lowered-requires
+    array-write-digits
+    add-j
+    loop-less
+    loop-again
+    returns)

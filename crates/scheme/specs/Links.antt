@@ -1,0 +1,49 @@
+-- Looking entries up by their prefix, and what the tests 8 and 9 ask of a scheme in memory. Definitions only.
+use Prim.Native.Nat.{ℕ, suc, _≤_, _<_}
+use mathlib.Core.Path.{_≡_}
+use mathlib.Core.Bool.{Bool, true, false, cond}
+use mathlib.Core.List.{List, [], _∷_, map}
+use mathlib.Core.Option.{Option, none, some}
+use lib.ListN.{getD}
+use Rattle.word.specs.Word.{isPerm}
+use Rattle.cell.specs.Cell.{same}
+use Rattle.scheme.specs.SchemeMemory.{padded, noEntry, doesOf, schemeIn}
+use Rattle.scheme.specs.WellFormed.{outside}
+use Rattle.scheme.specs.declared.memory.Entry.{Entry}
+use Rattle.scheme.specs.declared.memory.Scheme.{Scheme}
+use Rattle.scheme.specs.declared.links.Found.{Found}
+use Rattle.scheme.specs.declared.links.Found.the-variants.{At, Nothing}
+
+-- the place of the first list that is the same as q, with places counted from i
+unfoldable pub findFrom : ℕ → List (List ℕ) → List ℕ → Option ℕ
+unfolding same
+findFrom i [] q = none
+findFrom i (p ∷ ps) q = cond (same q p) (some i) (findFrom (suc i) ps q)
+
+abbrev pub findIn : List (List ℕ) → List ℕ → Option ℕ
+findIn ps q = findFrom 0 ps q
+
+-- a place in memory
+abbrev pub foundOf : Option ℕ → Found
+foundOf none = Nothing
+foundOf (some i) = At i
+
+-- whether there is a place
+abbrev pub present : Option ℕ → Bool
+present none = false
+present (some i) = true
+
+-- the prefixes of a scheme in memory
+abbrev pub prefixesIn : Scheme → List (List ℕ)
+prefixesIn s = map (λ e. e .prefix) (schemeIn s)
+
+-- an entry in which the tests 2, 3 and 7 find nothing, as far as the tests 8 and 9 ask it
+pub record LinkedEntry (e : Entry) : Type 0 where
+  pub short : e .length ≤ 6
+  pub perm : isPerm (padded (e .length) (e .prefix)) ≡ true
+  pub inside : outside (e .length) (doesOf (e .rule)) ≡ false
+
+-- a scheme of such entries
+pub record Linked (s : Scheme) : Type 0 where
+  pub counted : s .count ≤ 128
+  pub linked : (i : ℕ) → i < s .count → LinkedEntry (getD (s .entries) i noEntry)

@@ -1,0 +1,101 @@
+-- The first n numbers of an array in memory, and whether two such lists are the same.
+-- Assumes nothing.
+use Prim.Native.Nat.{ℕ, zero, suc, _+_, _≤_, _<_}
+use native.Mathlib.Numerals.{add-one}
+use native.Mathlib.Omega.{arith}
+use mathlib.Core.Path.{_≡_, refl, ap, _∙_}
+use mathlib.Core.Bool.{Bool, true, false, _&&_, and-false}
+use mathlib.Core.List.{List, [], _∷_, _++_}
+use lib.ListN.{length, getD, take, drop, replicate, length-append, length-replicate, drop-of-length-le, List·getD-append}
+use lib.Dec.{eqb}
+use lib.Seq.{take-append-le, length-take-le, drop-cons, getD-take}
+use borrow.Author.Tests.{eq-eqb, ne-eqb}
+use Rattle.word.specs.Lists.{all}
+use Rattle.word.specs.Word.{isPerm, within}
+use Rattle.cell.specs.Cell.{same}
+use Rattle.scheme.specs.SchemeMemory.{padded}
+
+-- the first n numbers of an array
+pub padded-within : (n : ℕ) (l : List ℕ) → n ≤ length l → padded n l ≡ take n l
+padded-within n l h = take-append-le n l (replicate n 0) h
+
+pub length-padded : (n : ℕ) (l : List ℕ) → length (padded n l) ≡ n
+length-padded n l = length-take-le n (l ++ replicate n 0) (omega (arith, length-append l (replicate n 0), length-replicate {A = ℕ} n 0))
+
+pub getD-padded : (n : ℕ) (l : List ℕ) (i : ℕ) → i < n → i < length l → getD (padded n l) i 0 ≡ getD l i 0
+getD-padded n l i h k = getD-take n (l ++ replicate n 0) i 0 h ∙ List·getD-append l (replicate n 0) 0 i k
+
+-- a test that refuses 0 refuses more numbers than the array has
+pub padded-zero : (f : ℕ → Bool) (n : ℕ) (l : List ℕ) → f 0 ≡ false → length l < n → all f (padded n l) ≡ false
+padded-zero f n l e h = go n l n h (omega arith)
+  where
+    go : (m : ℕ) (l : List ℕ) (k : ℕ) → length l < m → 0 < k → all f (take m (l ++ replicate k 0)) ≡ false
+    go zero l k h p = absurd (omega arith)
+    go (suc m) [] zero h p = absurd (omega arith)
+    go (suc m) [] (suc k) h p = rw e refl
+    go (suc m) (x ∷ l) k h p = rw (go m l k (omega arith) p) (and-false (f x))
+
+pub padded-no-perm : (n : ℕ) (l : List ℕ) → length l < n → isPerm (padded n l) ≡ false
+unfolding isPerm within
+padded-no-perm n l h = rw (padded-zero (within (length (padded n l))) n l refl h) refl
+
+-- behind the ends of two arrays of one length the numbers are the same
+pub padded-behind : (n : ℕ) (a b : List ℕ) (k : ℕ) → length a ≡ length b → length a ≤ k → drop k (padded n a) ≡ drop k (padded n b)
+padded-behind n a b k p q = go n a b k p q
+  where
+    go : (m : ℕ) (a b : List ℕ) (k : ℕ) → length a ≡ length b → length a ≤ k →
+        drop k (take m (a ++ replicate n 0)) ≡ drop k (take m (b ++ replicate n 0))
+    go zero a b k p q = refl
+    go (suc m) [] [] k p q = refl
+    go (suc m) [] (y ∷ b) k p q = absurd (omega arith)
+    go (suc m) (x ∷ a) [] k p q = absurd (omega arith)
+    go (suc m) (x ∷ a) (y ∷ b) zero p q = absurd (omega arith)
+    go (suc m) (x ∷ a) (y ∷ b) (suc k) p q = go m a b k (omega arith) (omega arith)
+
+-- two lists have the same numbers
+pub same-refl : (u : List ℕ) → same u u ≡ true
+unfolding same
+same-refl [] = refl
+same-refl (x ∷ u) = rw (eq-eqb x x refl) (same-refl u)
+
+pub same-lengths : (u v : List ℕ) → (length u ≡ length v → ⊥) → same u v ≡ false
+unfolding same
+same-lengths [] [] h = absurd (h refl)
+same-lengths [] (y ∷ v) h = refl
+same-lengths (x ∷ u) [] h = refl
+same-lengths (x ∷ u) (y ∷ v) h = rw (same-lengths u v (λ e. h (ap suc e))) (and-false (eqb x y))
+
+-- the first n numbers of two arrays are the same from place i on
+unfoldable pub same-from : ℕ → List ℕ → List ℕ → ℕ → Bool
+same-from n a b i = same (drop i (padded n a)) (drop i (padded n b))
+
+module _ (n : ℕ) (a b : List ℕ) where
+  pub same-start : same (padded n a) (padded n b) ≡ same-from n a b 0
+  unfolding same-from
+  same-start = refl
+
+  module _ (i : ℕ) where
+    module _ (h : i < n) (k : i < length a) (m : i < length b) where
+      same-cons : same-from n a b i ≡ eqb (getD a i 0) (getD b i 0) && same-from n a b (suc i)
+      unfolding same-from same
+      same-cons =
+          let p : i < length (padded n a) = omega (arith, length-padded n a) in
+          let q : i < length (padded n b) = omega (arith, length-padded n b) in
+          rw (drop-cons (padded n a) i 0 p, drop-cons (padded n b) i 0 q, getD-padded n a i h k, getD-padded n b i h m) refl
+
+      pub same-later : getD a i 0 ≡ getD b i 0 → same-from n a b i ≡ same-from n a b (i + 1)
+      same-later e = same-cons ∙ rw (add-one i, eq-eqb (getD a i 0) (getD b i 0) e) refl
+
+      pub same-differs : (getD a i 0 ≡ getD b i 0 → ⊥) → same-from n a b i ≡ false
+      same-differs e = same-cons ∙ rw (ne-eqb (getD a i 0) (getD b i 0) e) refl
+
+    pub same-counted : n ≤ i → same-from n a b i ≡ true
+    unfolding same-from same
+    same-counted h =
+        let p : length (padded n a) ≤ i = omega (arith, length-padded n a) in
+        let q : length (padded n b) ≤ i = omega (arith, length-padded n b) in
+        rw (drop-of-length-le (padded n a) p, drop-of-length-le (padded n b) q) refl
+
+    pub same-end : length a ≡ length b → length a ≤ i → same-from n a b i ≡ true
+    unfolding same-from
+    same-end e h = rw (padded-behind n a b i e h) (same-refl (drop i (padded n b)))

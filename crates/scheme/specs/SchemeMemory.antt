@@ -1,0 +1,59 @@
+-- The lists that patterns and schemes in memory stand for.
+use Prim.Native.Nat.{ℕ}
+use mathlib.Core.List.{List, [], map, _++_}
+use lib.ListN.{getD, take, replicate}
+use Rattle.word.specs.Lists.{row}
+use Rattle.word.specs.Finding.{Finding, clean, fault}
+use Rattle.scheme.specs.SchemeList.{Does, expands, deletes, EntryList}
+use Rattle.scheme.specs.declared.memory.Pattern.{Pattern}
+use Rattle.scheme.specs.declared.memory.Patterns.{Patterns}
+use Rattle.scheme.specs.declared.memory.Gap.{Gap}
+use Rattle.scheme.specs.declared.memory.Rule.{Rule}
+use Rattle.scheme.specs.declared.memory.Rule.the-variants.{Expand, Delete}
+use Rattle.scheme.specs.declared.memory.Entry.{Entry}
+use Rattle.scheme.specs.declared.memory.Scheme.{Scheme}
+use Rattle.scheme.specs.declared.memory.Fault.{Fault}
+use Rattle.scheme.specs.declared.memory.Fault.the-variants.{Clean, At}
+
+-- the first n numbers of an array, with zeros where the array ends before: a length beyond the array stands for a list of that length
+abbrev pub padded : ℕ → List ℕ → List ℕ
+padded n l = take n (l ++ replicate n 0)
+
+-- the checker's own default values, for places behind the end of an array
+abbrev pub noPattern : Pattern
+noPattern = record { digits = []; length = 0 }
+
+abbrev pub noGap : Gap
+noGap = record { parts = []; width = 0 }
+
+abbrev pub noEntry : Entry
+noEntry = record { prefix = []; length = 0; gaps = []; «gap_count» = 0; rule = Expand }
+
+abbrev pub patternIn : Pattern → List ℕ
+patternIn p = padded (p .length) (p .digits)
+
+abbrev pub patternsIn : Patterns → List (List ℕ)
+patternsIn s = map (λ i. patternIn (getD (s .items) i noPattern)) (row 0 (s .count))
+
+abbrev pub gapIn : Gap → List ℕ
+gapIn b = padded (b .width) (b .parts)
+
+abbrev pub doesOf : Rule → Does
+doesOf Expand = expands
+doesOf (Delete r) = deletes r
+
+abbrev pub entryIn : Entry → EntryList
+entryIn e =
+    record {
+      prefix = padded (e .length) (e .prefix);
+      gaps = map (λ i. gapIn (getD (e .gaps) i noGap)) (row 0 (e .«gap_count»));
+      rule = doesOf (e .rule);
+    }
+
+abbrev pub schemeIn : Scheme → List EntryList
+schemeIn s = map (λ i. entryIn (getD (s .entries) i noEntry)) (row 0 (s .count))
+
+-- a finding in memory
+abbrev pub faultOf : Finding → Fault
+faultOf clean = Clean
+faultOf (fault r i) = At r i

@@ -1,0 +1,77 @@
+-- The tests 2 to 4 of a pattern list and 2 to 9 of a scheme list, in the order of document 01. Definitions only.
+use Prim.Native.Nat.{ℕ, zero, suc}
+use mathlib.Core.Bool.{Bool, true, false, not, cond, _&&_, _||_}
+use mathlib.Core.List.{List, [], _∷_, map}
+use lib.ListN.{length, take}
+use lib.Dec.{leb, ltb, eqb}
+use Rattle.word.specs.Lists.{all, any}
+use Rattle.word.specs.Word.{isPerm}
+use Rattle.word.specs.Containment.{isPattern}
+use Rattle.word.specs.Finding.{Finding, clean, fault, test}
+use Rattle.word.specs.declared.refusal.Refusal.{Refusal}
+use Rattle.word.specs.declared.refusal.Refusal.the-variants.{Oversize, NoPermutation, Repeated, Rootless, Width, NoPosition, Childless, NoTarget}
+use Rattle.cell.specs.Cell.{same, total, deleted, children}
+use Rattle.scheme.specs.SchemeList.{Does, expands, deletes, EntryList}
+
+-- the first item at fault refuses, with its index counted from i
+abbrev pub firstAt : {A : Type 0} → Refusal → (A → Bool) → ℕ → List A → Finding
+firstAt r f i [] = clean
+firstAt r f i (x ∷ l) = cond (f x) (fault r i) (firstAt r f (suc i) l)
+
+-- the first item that an earlier one equals: "for 4 the later twin" (01); `seen` are the items before
+abbrev pub firstTwin : {A : Type 0} → (List A → A → Bool) → ℕ → List A → List A → Finding
+firstTwin twin i seen [] = clean
+firstTwin twin i seen (x ∷ l) = cond (twin seen x) (fault Repeated i) (firstTwin twin (suc i) (x ∷ seen) l)
+
+-- x is one of the lists
+abbrev pub listed : List (List ℕ) → List ℕ → Bool
+listed l x = any (same x) l
+
+-- no vector stands twice
+abbrev pub repeats : List (List ℕ) → Bool
+repeats [] = false
+repeats (x ∷ l) = listed l x || repeats l
+
+-- "The set is up to 24 patterns of up to 8 digits each" (01); "Within 2: number of items, then items in order"
+abbrev pub patternTests : List (List ℕ) → List Finding
+patternTests P =
+    test Oversize (ltb 24 (length P)) ∷ firstAt Oversize (λ β. ltb 8 (length β)) 0 P ∷ firstAt NoPermutation (λ β. not (isPattern β)) 0 P ∷
+    firstTwin listed 0 [] P ∷ []
+
+-- "Entries 128, prefix length 6, gap vectors per entry 8, components of a gap vector 7, total of a gap vector 8" (01)
+abbrev pub largeGap : List ℕ → Bool
+largeGap b = ltb 7 (length b) || ltb 8 (total b)
+
+abbrev pub largeEntry : EntryList → Bool
+largeEntry e = ltb 6 (length (e .prefix)) || (ltb 8 (length (e .gaps)) || any largeGap (e .gaps))
+
+-- "a prefix, or a vector within its entry stands twice" (01)
+abbrev pub twinEntry : List EntryList → EntryList → Bool
+twinEntry seen e = listed (map (λ d. d .prefix) seen) (e .prefix) || repeats (e .gaps)
+
+-- "a vector has not k + 1 components" (01)
+abbrev pub wrongWidth : EntryList → Bool
+wrongWidth e = any (λ b. not (eqb (length b) (suc (length (e .prefix))))) (e .gaps)
+
+-- "deletion outside 1 to k" (01)
+abbrev pub outside : ℕ → Does → Bool
+outside k expands = false
+outside k (deletes r) = eqb r 0 || ltb k r
+
+-- "an expanding entry lacks a child" (01), among these prefixes
+abbrev pub lacksChild : List (List ℕ) → List ℕ → Does → Bool
+lacksChild ps p expands = any (λ q. not (listed ps q)) (children p)
+lacksChild ps p (deletes r) = false
+
+-- "the shorter prefix has no entry" (01)
+abbrev pub lacksTarget : List (List ℕ) → List ℕ → Does → Bool
+lacksTarget ps p expands = false
+lacksTarget ps p (deletes r) = not (listed ps (deleted (r ∷ []) p))
+
+abbrev pub schemeTests : List EntryList → List Finding
+schemeTests E =
+    let ps = map (λ e. e .prefix) E in
+    test Oversize (ltb 128 (length E)) ∷ firstAt Oversize largeEntry 0 E ∷ firstAt NoPermutation (λ e. not (isPerm (e .prefix))) 0 E ∷
+    firstTwin twinEntry 0 [] E ∷ test Rootless (not (listed ps [])) ∷ firstAt Width wrongWidth 0 E ∷
+    firstAt NoPosition (λ e. outside (length (e .prefix)) (e .rule)) 0 E ∷ firstAt Childless (λ e. lacksChild ps (e .prefix) (e .rule)) 0 E ∷
+    firstAt NoTarget (λ e. lacksTarget ps (e .prefix) (e .rule)) 0 E ∷ []

@@ -1,0 +1,54 @@
+// Patterns and schemes in memory. A count or a length may be any number: one beyond its array is refused as oversize by that field alone.
+use crate::limits::COMPONENTS;
+use crate::limits::ENTRIES;
+use crate::limits::GAPS;
+use crate::limits::PREFIX;
+use word::limits::DIGITS;
+use word::limits::PATTERNS;
+use word::refusal::Refusal;
+
+// One pattern: its digits, and how many they are.
+pub struct Pattern {
+    pub digits: [u8; DIGITS],
+    pub length: usize,
+}
+
+// A set of patterns: so many of the items. The checker takes no field that is an array of arrays, so each pattern is a struct here; the array of
+// 24 eight-digit arrays with lengths beside it is what containment is handed (word::containment::any_in).
+pub struct Patterns {
+    pub items: [Pattern; PATTERNS],
+    pub count: usize,
+}
+
+// The components of a gap vector, and how many they are.
+pub struct Gap {
+    pub parts: [u8; COMPONENTS],
+    pub width: usize,
+}
+
+// What an entry does: "An entry either expands or deletes one position" (01).
+pub enum Rule {
+    Expand,
+    Delete(usize),
+}
+
+// An entry of a scheme: its prefix, its gap vectors, its rule.
+pub struct Entry {
+    pub prefix: [u8; PREFIX],
+    pub length: usize,
+    pub gaps: [Gap; GAPS],
+    pub gap_count: usize,
+    pub rule: Rule,
+}
+
+// A scheme: so many of the entries.
+pub struct Scheme {
+    pub entries: [Entry; ENTRIES],
+    pub count: usize,
+}
+
+// What the tests of a list find: nothing, or a refusal with the index at fault.
+pub enum Fault {
+    Clean,
+    At(Refusal, usize),
+}
