@@ -10,7 +10,14 @@ use Rattle.word.specs.Word.{contains, reduce, isPerm}
 use Rattle.word.specs.Containment.{containment}
 use Rattle.word.specs.declared.containment.Contained.{Contained}
 use Rattle.word.specs.declared.containment.Contained.the-variants.{Yes, No}
-use Rattle.cell.specs.Cell.{spacing, cell, deleted, merged, vectors, free}
+use Rattle.word.specs.declared.refusal.Refusal.the-variants.{Rootless}
+use Rattle.cell.specs.Cell.{spacing, cell, deleted, merged, vectors, free, same}
+use Rattle.scheme.specs.declared.memory.Fault.{Fault}
+use Rattle.scheme.specs.declared.memory.Fault.the-variants.{At}
+use Rattle.notation.specs.Tokens.{tokens, tokensAfter, tokenAt}
+use Rattle.notation.specs.Grammar.{itemsOf, readEntries}
+use Rattle.notation.specs.SchemeLoaded.{loadedScheme}
+use Rattle.notation.specs.SchemeAnswers.{schemeAnswer}
 
 -- what an example asks
 pub data Question : Type 0 where
@@ -24,6 +31,8 @@ pub data Question : Type 0 where
   sizes : (patterns : List (List ℕ)) (prefix positions spacing : List ℕ) → Question
   -- do these sizes agree at all spacings up to the total that are at least no listed vector?
   agreeTo : (patterns : List (List ℕ)) (prefix : List ℕ) (vectors : List (List ℕ)) (positions : List ℕ) (total : ℕ) → Question
+  -- with what is the text of a scheme refused when it is read?
+  reading : (text : List ℕ) → Question
 
 -- what it answers
 pub data Answer : Type 0 where
@@ -31,6 +40,7 @@ pub data Answer : Type 0 where
   prefixAndSpacing : List ℕ → List ℕ → Answer
   sizesAre : ℕ → ℕ → Answer
   holds : Bool → Answer
+  refusedAs : Fault → Answer
 
 -- a row of the table: a question, and the answer of document 01
 pub record Example : Type 0 where
@@ -43,13 +53,14 @@ unfolding cell deleted merged
 shorterSize P p R g = length (cell P (deleted R p) (merged R p g))
 
 unfoldable pub answer : Question → Answer
-unfolding contains isPerm reduce spacing shorterSize vectors free
+unfolding contains isPerm reduce spacing shorterSize vectors free tokens tokensAfter tokenAt readEntries itemsOf same loadedScheme
 answer (containsPattern w β) = contained (containment β w)
 answer (firstEntries n u) = prefixAndSpacing (reduce u) (spacing n u)
 answer (deletion R p g) = prefixAndSpacing (deleted R p) (merged R p g)
 answer (sizes P p R g) = sizesAre (length (cell P p g)) (shorterSize P p R g)
 answer (agreeTo P p B R t) =
     holds (all (λ g. eqb (length (cell P p g)) (shorterSize P p R g)) (keep (free B) (each (vectors (suc (length p))) (row 0 (suc t)))))
+answer (reading s) = refusedAs ((schemeAnswer s) .fault)
 
 unfoldable pub starred : List Example
 starred =
@@ -70,6 +81,8 @@ starred =
     } ∷
     -- at (0,2,0) they are 1 and 2
     record { asked = sizes ((1 ∷ 2 ∷ 3 ∷ []) ∷ []) (1 ∷ 2 ∷ []) (1 ∷ []) (0 ∷ 2 ∷ 0 ∷ []); told = sizesAre 1 2 } ∷
+    -- the scheme ∅: 5
+    record { asked = reading (0xE2 ∷ 0x88 ∷ 0x85 ∷ []); told = refusedAs (At Rootless 0) } ∷
     []
 
 -- every row of the table holds

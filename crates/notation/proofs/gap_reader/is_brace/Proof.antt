@@ -1,0 +1,68 @@
+-- `notation::gap_reader::is_brace` meets its contract: a byte is the brace where the two are equal.
+-- Assumes nothing.
+use mathlib.Core.Path.{sym, ap}
+use Rattle.notation.specs.ItemReading.{isBrace}
+use borrow.Author.Needs.{needs}
+use Rattle.notation.proofs.gap_reader.is_brace.Statement.{statement}
+use Rattle.notation.proofs.gap_reader.is_brace.Tie as tie
+
+enum-known-kind : tie.Need-enum-known-kind
+enum-known-kind c = search needs
+
+enum-told : tie.Need-enum-told
+enum-told c = search needs
+
+enum-told-2 : tie.Need-enum-told-2
+enum-told-2 c = search needs
+
+enum-told-3 : tie.Need-enum-told-3
+enum-told-3 c = search needs
+
+enum-told-4 : tie.Need-enum-told-4
+enum-told-4 c = search needs
+
+enum-told-5 : tie.Need-enum-told-5
+enum-told-5 c = search needs
+
+enum-told-6 : tie.Need-enum-told-6
+enum-told-6 c = search needs
+
+returns : tie.Need-returns
+returns c = sym (ap isBrace (c .before .kind .given .1))
+
+returns-2 : tie.Need-returns-2
+returns-2 c = search needs
+
+returns-3 : tie.Need-returns-3
+returns-3 c = search needs
+
+returns-4 : tie.Need-returns-4
+returns-4 c = search needs
+
+returns-5 : tie.Need-returns-5
+returns-5 c = search needs
+
+returns-6 : tie.Need-returns-6
+returns-6 c = search needs
+
+returns-7 : tie.Need-returns-7
+returns-7 c = search needs
+
+pub is-brace-spec : {M : Type 1} → statement M
+is-brace-spec =
+    tie.close
+    (tie.spec
+    enum-known-kind
+    enum-told
+    enum-told-2
+    enum-told-3
+    enum-told-4
+    enum-told-5
+    enum-told-6
+    returns
+    returns-2
+    returns-3
+    returns-4
+    returns-5
+    returns-6
+    returns-7)

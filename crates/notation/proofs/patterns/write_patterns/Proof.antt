@@ -1,0 +1,101 @@
+-- `notation::patterns::write_patterns` meets its contract: by the tests of the patterns, then by the length of the page.
+-- Assumes nothing.
+use Prim.Native.Nat.{ℕ}
+use mathlib.Core.Path.{_≡_, sym, ap, _∙_}
+use mathlib.Core.List.{List, [], _++_}
+use native.Mathlib.Omega.{arith}
+use lib.ListN.{length}
+use Rattle.word.specs.Finding.{firstFault}
+use Rattle.scheme.specs.WellFormed.{patternTests}
+use Rattle.scheme.specs.SchemeMemory.{patternsIn}
+use Rattle.notation.specs.Spelling.{writtenPatterns}
+use Rattle.notation.specs.Page.{overlay}
+use Rattle.notation.specs.PageLaws.{length-after}
+use Rattle.notation.proofs.FitLaws.{patterns-fit}
+use Rattle.notation.proofs.WritingLaws.{clean-finding}
+use Rattle.notation.proofs.PatternWritingLaws.{patterns-refused, patterns-page-short, patterns-done}
+use borrow.Author.Needs.{needs}
+use Rattle.notation.proofs.patterns.write_patterns.Statement.{statement}
+use Rattle.notation.proofs.patterns.write_patterns.Tie as tie
+
+patterns-fault-requires : tie.Need-patterns-fault-requires
+patterns-fault-requires c κs = search needs
+
+is-fault-requires : tie.Need-is-fault-requires
+is-fault-requires c κs = search needs
+
+written-or-requires : tie.Need-written-or-requires
+written-or-requires c κs = search needs
+
+returns : tie.Need-returns
+returns c = let a = c .before .before .before .before .before .args in
+    let f = c .before .before .before .patterns-fault in
+    patterns-refused (patternsIn (a .s)) (a .page .now) (c .written-or .result) (f .result) (f .ensures)
+    (sym (c .before .before .is-fault .ensures) ∙ c .before .if1 .taken) (c .written-or .ensures)
+
+slice-relend-prefix-put-patterns : tie.Need-slice-relend-prefix-put-patterns
+slice-relend-prefix-put-patterns c = search needs
+
+slice-aggregate-put-patterns : tie.Need-slice-aggregate-put-patterns
+slice-aggregate-put-patterns c = search needs
+
+put-patterns-requires : tie.Need-put-patterns-requires
+put-patterns-requires c κs = let s = c .before .before .before .before .before .args .s in
+    let f = c .before .before .before .patterns-fault in
+    let none = sym (c .before .before .is-fault .ensures) ∙ c .before .if1 .left in
+    (patterns-fit s (clean-finding (firstFault (patternTests (patternsIn s))) (f .result) (f .ensures) none), omega arith)
+
+same-length : tie.Need-same-length
+same-length c = search needs
+
+returns-2 : tie.Need-returns-2
+returns-2 c = let a = c .before .before .before .before .before .before .before .before .before .args in
+    let P = patternsIn (a .s) in
+    let f = c .before .before .before .before .before .before .before .patterns-fault in
+    let none = sym (c .before .before .before .before .before .before .is-fault .ensures) ∙ c .before .before .before .before .before .if1 .left in
+    let put = c .before .before .before .put-patterns in
+    let empty : put .last .0 ≡ [] = put .ensures .page in
+    let same : put .last .0 ++ a .page .now ≡ a .page .now = ap (λ (l : List ℕ). l ++ a .page .now) empty in
+    let size : put .result ≡ length (writtenPatterns P) = length-after (put .ensures) in
+    let long = ap length same in
+    patterns-page-short P (a .page .now) (clean-finding (firstFault (patternTests P)) (f .result) (f .ensures) none) (put .last .0 ++ a .page .now) same
+    (omega arith)
+
+put-patterns-requires-2 : tie.Need-put-patterns-requires-2
+put-patterns-requires-2 c κs = let s = c .before .before .before .before .before .before .before .before .before .before .args .s in
+    let f = c .before .before .before .before .before .before .before .before .patterns-fault in
+    let none = sym (c .before .before .before .before .before .before .before .is-fault .ensures) ∙ c .before .before .before .before .before .before .if1 .left in
+    (patterns-fit s (clean-finding (firstFault (patternTests (patternsIn s))) (f .result) (f .ensures) none), omega arith)
+
+same-length-2 : tie.Need-same-length-2
+same-length-2 c = search needs
+
+returns-3 : tie.Need-returns-3
+returns-3 c = let a = c .before .before .before .before .before .before .before .before .before .before .before .before .before .args in
+    let P = patternsIn (a .s) in
+    let f = c .before .before .before .before .before .before .before .before .before .before .before .patterns-fault in
+    let none = sym (c .before .before .before .before .before .before .before .before .before .before .is-fault .ensures) ∙ c .before .before .before .before .before .before .before .before .before .if1 .left in
+    let put = c .before .before .before .before .before .before .before .put-patterns in
+    let empty : put .last .0 ≡ [] = put .ensures .page in
+    let same : put .last .0 ++ a .page .now ≡ a .page .now = ap (λ (l : List ℕ). l ++ a .page .now) empty in
+    let size : put .result ≡ length (writtenPatterns P) = length-after (put .ensures) in
+    let long = ap length same in
+    let over = c .before .before .put-patterns2 .ensures .page ∙ ap (overlay 0 (writtenPatterns P)) same in
+    patterns-done P (a .page .now) (clean-finding (firstFault (patternTests P)) (f .result) (f .ensures) none) (omega arith) _ over (put .result) size
+
+pub write-patterns-spec : {M : Type 1} → statement M
+write-patterns-spec =
+    tie.close
+    (tie.spec
+    patterns-fault-requires
+    is-fault-requires
+    written-or-requires
+    returns
+    slice-relend-prefix-put-patterns
+    slice-aggregate-put-patterns
+    put-patterns-requires
+    same-length
+    returns-2
+    put-patterns-requires-2
+    same-length-2
+    returns-3)

@@ -1,0 +1,101 @@
+-- `notation::schemes::write_scheme` meets its contract: by the tests of the scheme, then by the length of the page.
+-- Assumes nothing.
+use Prim.Native.Nat.{ℕ}
+use mathlib.Core.Path.{_≡_, sym, ap, _∙_}
+use mathlib.Core.List.{List, [], _++_}
+use native.Mathlib.Omega.{arith}
+use lib.ListN.{length}
+use Rattle.word.specs.Finding.{firstFault}
+use Rattle.scheme.specs.WellFormed.{schemeTests}
+use Rattle.scheme.specs.SchemeMemory.{schemeIn}
+use Rattle.notation.specs.Spelling.{writtenScheme}
+use Rattle.notation.specs.Page.{overlay}
+use Rattle.notation.specs.PageLaws.{length-after}
+use Rattle.notation.proofs.SchemeFitLaws.{scheme-fit}
+use Rattle.notation.proofs.WritingLaws.{clean-finding}
+use Rattle.notation.proofs.SchemeWritingLaws.{scheme-refused, scheme-page-short, scheme-done}
+use borrow.Author.Needs.{needs}
+use Rattle.notation.proofs.schemes.write_scheme.Statement.{statement}
+use Rattle.notation.proofs.schemes.write_scheme.Tie as tie
+
+scheme-fault-requires : tie.Need-scheme-fault-requires
+scheme-fault-requires c κs = search needs
+
+is-fault-requires : tie.Need-is-fault-requires
+is-fault-requires c κs = search needs
+
+written-or-requires : tie.Need-written-or-requires
+written-or-requires c κs = search needs
+
+returns : tie.Need-returns
+returns c = let a = c .before .before .before .before .before .args in
+    let f = c .before .before .before .scheme-fault in
+    scheme-refused (schemeIn (a .s)) (a .page .now) (c .written-or .result) (f .result) (f .ensures)
+    (sym (c .before .before .is-fault .ensures) ∙ c .before .if1 .taken) (c .written-or .ensures)
+
+slice-relend-prefix-put-scheme : tie.Need-slice-relend-prefix-put-scheme
+slice-relend-prefix-put-scheme c = search needs
+
+slice-aggregate-put-scheme : tie.Need-slice-aggregate-put-scheme
+slice-aggregate-put-scheme c = search needs
+
+put-scheme-requires : tie.Need-put-scheme-requires
+put-scheme-requires c κs = let s = c .before .before .before .before .before .args .s in
+    let f = c .before .before .before .scheme-fault in
+    let none = sym (c .before .before .is-fault .ensures) ∙ c .before .if1 .left in
+    (scheme-fit s (clean-finding (firstFault (schemeTests (schemeIn s))) (f .result) (f .ensures) none), omega arith)
+
+same-length : tie.Need-same-length
+same-length c = search needs
+
+returns-2 : tie.Need-returns-2
+returns-2 c = let a = c .before .before .before .before .before .before .before .before .before .args in
+    let E = schemeIn (a .s) in
+    let f = c .before .before .before .before .before .before .before .scheme-fault in
+    let none = sym (c .before .before .before .before .before .before .is-fault .ensures) ∙ c .before .before .before .before .before .if1 .left in
+    let put = c .before .before .before .put-scheme in
+    let empty : put .last .0 ≡ [] = put .ensures .page in
+    let same : put .last .0 ++ a .page .now ≡ a .page .now = ap (λ (l : List ℕ). l ++ a .page .now) empty in
+    let size : put .result ≡ length (writtenScheme E) = length-after (put .ensures) in
+    let long = ap length same in
+    scheme-page-short E (a .page .now) (clean-finding (firstFault (schemeTests E)) (f .result) (f .ensures) none) (put .last .0 ++ a .page .now) same
+    (omega arith)
+
+put-scheme-requires-2 : tie.Need-put-scheme-requires-2
+put-scheme-requires-2 c κs = let s = c .before .before .before .before .before .before .before .before .before .before .args .s in
+    let f = c .before .before .before .before .before .before .before .before .scheme-fault in
+    let none = sym (c .before .before .before .before .before .before .before .is-fault .ensures) ∙ c .before .before .before .before .before .before .if1 .left in
+    (scheme-fit s (clean-finding (firstFault (schemeTests (schemeIn s))) (f .result) (f .ensures) none), omega arith)
+
+same-length-2 : tie.Need-same-length-2
+same-length-2 c = search needs
+
+returns-3 : tie.Need-returns-3
+returns-3 c = let a = c .before .before .before .before .before .before .before .before .before .before .before .before .before .args in
+    let E = schemeIn (a .s) in
+    let f = c .before .before .before .before .before .before .before .before .before .before .before .scheme-fault in
+    let none = sym (c .before .before .before .before .before .before .before .before .before .before .is-fault .ensures) ∙ c .before .before .before .before .before .before .before .before .before .if1 .left in
+    let put = c .before .before .before .before .before .before .before .put-scheme in
+    let empty : put .last .0 ≡ [] = put .ensures .page in
+    let same : put .last .0 ++ a .page .now ≡ a .page .now = ap (λ (l : List ℕ). l ++ a .page .now) empty in
+    let size : put .result ≡ length (writtenScheme E) = length-after (put .ensures) in
+    let long = ap length same in
+    let over = c .before .before .put-scheme2 .ensures .page ∙ ap (overlay 0 (writtenScheme E)) same in
+    scheme-done E (a .page .now) (clean-finding (firstFault (schemeTests E)) (f .result) (f .ensures) none) (omega arith) _ over (put .result) size
+
+pub write-scheme-spec : {M : Type 1} → statement M
+write-scheme-spec =
+    tie.close
+    (tie.spec
+    scheme-fault-requires
+    is-fault-requires
+    written-or-requires
+    returns
+    slice-relend-prefix-put-scheme
+    slice-aggregate-put-scheme
+    put-scheme-requires
+    same-length
+    returns-2
+    put-scheme-requires-2
+    same-length-2
+    returns-3)

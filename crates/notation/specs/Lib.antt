@@ -1,0 +1,27 @@
+-- The definitions and laws of the crate notation.
+pub mod Spelling
+pub mod Page
+pub mod PageLaws
+pub mod Tokens
+pub mod TokenLaws
+pub mod Grammar
+pub mod GrammarLaws
+pub mod SpellingLaws
+pub mod Cursor
+pub mod PatternGrammar
+pub mod PatternMemory
+pub mod PatternReading
+pub mod PatternLoading
+pub mod PatternWalk
+pub mod SchemeLoaded
+pub mod SchemeReading
+pub mod ItemReading
+pub mod GapReading
+pub mod EntryReading
+pub mod SchemeLoading
+pub mod Writable
+pub mod TextLaws
+pub mod RoomLaws
+pub mod Written
+pub mod PatternAnswers
+pub mod SchemeAnswers

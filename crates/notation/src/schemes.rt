@@ -1,0 +1,76 @@
+// Reading and writing a scheme.
+use crate::scheme_reader::load_scheme;
+use crate::scheme_reader::no_entries;
+use crate::writing::put_scheme;
+use crate::written::Written;
+use crate::written::written_or;
+use scheme::memory::Fault;
+use scheme::memory::Scheme;
+use scheme::order::is_fault;
+use scheme::scheme_tests::scheme_fault;
+use word::refusal::Refusal;
+ghost use mathlib.Core.Path.{_≡_};
+ghost use Rattle.scheme.specs.SchemeMemory.{schemeIn};
+ghost use Rattle.notation.specs.SchemeAnswers.{readSchemeOr, refusedScheme, schemeAnswer, ReadsScheme, WritesScheme};
+
+// "scheme text 32,768" (01)
+pub const SCHEME_TEXT: usize = 32768;
+
+// What reading a scheme answers: the scheme where there is no fault, or a refusal with its index beside a scheme of no entries.
+pub struct SchemeRead {
+    pub fault: Fault,
+    pub scheme: Scheme,
+}
+
+// Reads a scheme. A text of more than 32,768 bytes is refused with 2, one that spells no scheme with 1; then the tests 2 to 9.
+pub fn read_scheme(text: &[u8]) -> SchemeRead
+    ensures { λ r. ⌜ (r ≡ schemeAnswer (now (text .entry))) × ReadsScheme (now (text .entry)) r ⌝ }
+{
+    if SCHEME_TEXT < text.len() {
+        return refused_scheme(Refusal::Oversize, 0);
+    }
+    let found = load_scheme(text);
+    if !found.spelt {
+        return refused_scheme(Refusal::Misspelt, 0);
+    }
+    let scheme = found.scheme;
+    let fault = scheme_fault(scheme);
+    read_or(fault, scheme)
+}
+
+// The scheme, or the refusal that its tests found.
+fn read_or(fault: Fault, scheme: Scheme) -> SchemeRead
+    ensures { λ r. ⌜ r ≡ readSchemeOr fault scheme ⌝ }
+{
+    match fault {
+        Fault::Clean => SchemeRead { fault, scheme },
+        Fault::At(refusal, index) => refused_scheme(refusal, index),
+    }
+}
+
+// A refusal in the place of a scheme.
+fn refused_scheme(refusal: Refusal, index: usize) -> SchemeRead
+    ensures { λ r. ⌜ r ≡ refusedScheme refusal index ⌝ }
+{
+    let scheme = no_entries();
+    SchemeRead {
+        fault: Fault::At(refusal, index),
+        scheme,
+    }
+}
+
+// Writes a scheme at the start of the page: the tests 2 to 9, then 13; the number of bytes. A refused call leaves the page as it is.
+pub fn write_scheme(s: Scheme, page: &mut [u8]) -> Written
+    ensures { λ r. ⌜ WritesScheme (schemeIn s) (now (page .entry)) (now (page .exit)) r ⌝ }
+{
+    let fault = scheme_fault(s);
+    if is_fault(fault) {
+        return written_or(fault, 0);
+    }
+    let length = put_scheme(&mut page[..0], 0, s);
+    if page.len() < length {
+        return Written::Refused(Refusal::ShortPage, 0);
+    }
+    put_scheme(page, 0, s);
+    Written::Bytes(length)
+}
