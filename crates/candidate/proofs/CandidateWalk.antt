@@ -11,18 +11,20 @@ use native.Mathlib.Omega.{arith}
 use lib.ListN.{length, getD, take, drop}
 use lib.Seq.{getD-set-same, getD-set-other}
 use Rattle.word.specs.Lists.{all, any, keep, each, row}
-use Rattle.word.specs.Word.{avoids, longest, under, reduce, has, distinct, entry, within, isPerm}
+use Rattle.word.specs.Word.{contains, avoids, longest, under, reduce, has, distinct, entry, within, isPerm}
 use Rattle.word.specs.PermLaws.{perm-bounds, perm-distinct}
 use Rattle.cell.specs.Claim.{DeletionClaim}
 use Rattle.cell.specs.CandidateLaws.{irreversible-law}
 use Rattle.candidate.specs.Tabled.{Tabled, IsCandidate}
 use Rattle.word.specs.Containment.{patternsOf}
-use Rattle.word.specs.ListLaws.{same-or-not}
+use Rattle.word.specs.ListLaws.{true-not-false, same-or-not}
+use Rattle.word.specs.ContainsLaws.{avoids-none}
 use Rattle.cell.specs.Cell.{total, without, free, vectors, mOf, compared}
 use Rattle.cell.specs.Built.{level, built}
 use Rattle.cell.specs.Candidate.{headLength, hit, violates, violated, irreversible}
 use Rattle.candidate.specs.Lookup.{Says, Flags}
 use Rattle.candidate.specs.Ready.{Ready, patternAt, Needs, Given, FlaggedFor, FreeAnswer, TotalAnswer, EntryAnswer}
+use Rattle.candidate.specs.BasisMemory.{pattern-member}
 use Rattle.spacing.specs.SpacingOrder.{firstVector, later, Follows, vectors-first, first-length, first-total}
 use Rattle.candidate.proofs.HitLaws.{hit-short}
 use Rattle.candidate.proofs.BasisWalk.{from, from-start, from-counted, from-end, from-cons}
@@ -333,3 +335,12 @@ entry-answer set lengths count p B R r G e =
 
     law : (irreversible (patternsOf set lengths count) p B R ≡ false) ↔ DeletionClaim (patternsOf set lengths count) p B R
     law = irreversible-law (patternsOf set lengths count) p R (G .perm) (G .inside) apart B
+
+-- a word that contains the pattern at a place of the set does not avoid the set
+pub not-avoided : (set : List (List ℕ)) (lengths : List ℕ) (count i : ℕ) (w : List ℕ) → i < count → count ≤ length set → count ≤ length lengths →
+    contains (patternAt set lengths i) w ≡ true → avoids (patternsOf set lengths count) w ≡ false
+not-avoided set lengths count i w h r l e = go (avoids (patternsOf set lengths count) w) refl
+  where
+    go : (b : Bool) → avoids (patternsOf set lengths count) w ≡ b → b ≡ false
+    go true a = absurd (true-not-false (sym e ∙ avoids-none (patternsOf set lengths count) w (pattern-member set lengths count i h r l) a))
+    go false a = refl

@@ -1,3 +1,4 @@
+-- The laws that the proofs of the crate candidate cite.
 pub mod PlacingState
 pub mod HitLaws
 pub mod BasisWalk

@@ -1,11 +1,13 @@
--- The rows and the lengths of a basis in memory hold the patterns of the basis.
-use Prim.Native.Nat.{ℕ, zero, suc}
+-- Sets of patterns in memory: the rows and the lengths of a basis hold the patterns of the basis, and the pattern at a place is one of the set.
+use Prim.Native.Nat.{ℕ, zero, suc, _≤_, _<_}
+use native.Mathlib.Omega.{arith}
 use mathlib.Core.Path.{_≡_, refl, sym, ap, ap₂, _∙_}
 use mathlib.Core.Bool.{Bool, true, false, cond}
-use mathlib.Core.List.{List, [], _∷_}
+use mathlib.Core.List.{List, [], _∷_, List·Memᴰ, List·Memᴰ·head, List·Memᴰ·tail}
 use lib.ListN.{length, take}
 use Rattle.word.specs.Lists.{keep}
 use Rattle.word.specs.Containment.{patternsOf}
+use Rattle.candidate.specs.Ready.{patternAt}
 use Rattle.cell.specs.Basis.{basic, basis, kept, basisRows, basisLengths}
 
 -- only the first n rows and lengths count
@@ -70,3 +72,12 @@ basis-memory set lengths count rows out n e h l =
     sym (patterns-cut rows out (length (keep (basic P) P))) ∙
     ap₂ (λ (r : List (List ℕ)) (k : List ℕ). patternsOf r k (length (keep (basic P) P))) h l ∙
     kept-set (basic P) set lengths count
+
+-- the pattern at a place of a set is one of its patterns
+pub pattern-member : (rows : List (List ℕ)) (lengths : List ℕ) (n i : ℕ) → i < n → n ≤ length rows → n ≤ length lengths →
+    List·Memᴰ (patternAt rows lengths i) (patternsOf rows lengths n)
+pattern-member rows lengths zero i h r l = absurd (omega arith)
+pattern-member [] lengths (suc n) i h r l = absurd (omega arith)
+pattern-member (x ∷ rows) [] (suc n) i h r l = absurd (omega arith)
+pattern-member (x ∷ rows) (k ∷ lengths) (suc n) zero h r l = List·Memᴰ·head refl
+pattern-member (x ∷ rows) (k ∷ lengths) (suc n) (suc i) h r l = List·Memᴰ·tail (pattern-member rows lengths n i (omega arith) (omega arith) (omega arith))

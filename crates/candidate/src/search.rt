@@ -11,13 +11,16 @@ use completion::contained;
 use spacing::first_spacing;
 use spacing::is_free;
 use spacing::next_spacing;
+use word::copy::first_copy;
 use word::limits::DIGITS;
+use word::limits::ENTRIES;
 use word::limits::PATTERNS;
 ghost use mathlib.Core.Path.{_≡_};
+ghost use mathlib.Core.Bool.{not};
 ghost use mathlib.Core.List.{List};
-ghost use Prim.Native.Nat.{ℕ, _+_, _-_, _≤_};
+ghost use Prim.Native.Nat.{ℕ, _+_, _-_, _≤_, _<_};
 ghost use lib.ListN.{take, drop};
-ghost use Rattle.word.specs.Word.{under};
+ghost use Rattle.word.specs.Word.{avoids, under};
 ghost use Rattle.word.specs.Containment.{patternsOf};
 ghost use Rattle.cell.specs.Cell.{total};
 ghost use Rattle.cell.specs.Candidate.{hit};
@@ -89,6 +92,25 @@ fn needs_of(
     needs
 }
 
+// Whether the first `len` entries of the word contain a pattern. The one at place i, of which the word is made, is the likeliest, and is tried first.
+fn contained_by(
+    set: [[u8; DIGITS]; PATTERNS],
+    lengths: [u8; PATTERNS],
+    count: usize,
+    i: usize,
+    word: [u8; ENTRIES],
+    len: usize,
+) -> bool
+    requires { ⌜ (len ≤ 20) × (i < count) × (count ≤ 24) ⌝ }
+    ensures { λ r. ⌜ r ≡ not (avoids (patternsOf set lengths count) (take len word)) ⌝ }
+{
+    let copy = first_copy(set[i], lengths[i] as usize, &word[..len]);
+    if copy.found {
+        return true;
+    }
+    contained(set, lengths, count, word, len)
+}
+
 // Whether some pattern violates the deletion at the spacing.
 fn spacing_violated(
     set: [[u8; DIGITS]; PATTERNS],
@@ -107,6 +129,7 @@ fn spacing_violated(
     let levels = levels_of(g, k);
     let mut i: usize = 0;
     while i < count {
+        let at = i;
         let row = set[i];
         let len = digits(row, lengths[i] as usize);
         let need = needs[i];
@@ -120,7 +143,7 @@ fn spacing_violated(
         let w = candidate_word(prefix, k, levels, gone, row, len, t, need);
         let entries = w.entries;
         let length = w.length;
-        if contained(set, lengths, count, entries, length) {
+        if contained_by(set, lengths, count, at, entries, length) {
             continue;
         }
         return true;

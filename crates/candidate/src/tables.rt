@@ -112,7 +112,7 @@ fn capped(s: u8) -> u8
 }
 
 // The actual values of the prefix values that are not flagged, in their order.
-fn kept(prefix: [u8; 6], k: usize, levels: [u8; 9], gone: [u8; 9]) -> Word
+pub fn kept(prefix: [u8; 6], k: usize, levels: [u8; 9], gone: [u8; 9]) -> Word
     requires { ⌜ k ≤ 6 ⌝ }
     ensures { λ r. ⌜ (r .length ≤ 6) × (take (r .length) (r .entries) ≡ keptValues levels gone (take k prefix)) ⌝ }
 {

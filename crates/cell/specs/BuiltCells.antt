@@ -79,7 +79,7 @@ same-out [] (y ∷ v) h = absurd (false≢true h)
 same-out (x ∷ u) [] h = absurd (false≢true h)
 same-out (x ∷ u) (y ∷ v) h = ap₂ _∷_ (eqb-true x y (and-left (eqb x y) (same u v) h)) (same-out u v (and-right (eqb x y) (same u v) h))
 
-same-refl : (u : List ℕ) → same u u ≡ true
+pub same-refl : (u : List ℕ) → same u u ≡ true
 unfolding same
 same-refl [] = refl
 same-refl (x ∷ u) = and-in (eqb x x) (same u u) (eq-eqb x x refl) (same-refl u)

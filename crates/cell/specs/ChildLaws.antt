@@ -15,26 +15,11 @@ use Rattle.word.specs.ListLaws.{true-not-false, and-left, and-right, and-in, sa
 use Rattle.word.specs.BumpLaws.{Bumped, stays, moves, bumped, bump-below, bump-above}
 use Rattle.word.specs.PermLaws.{perm-cons, perm-uncons, perms-are, perms-all, under-bump-below, under-bump-above, reduce-perm}
 use Rattle.cell.specs.Cell.{same, total, cell, children}
+use Rattle.cell.specs.Child.{slot, childAt, split}
 use Rattle.cell.specs.Built.{val, lift, built, lift-rises}
 use Rattle.cell.specs.EachLaws.{keep-map, keep-each, each-same, map-each, length-each-total}
 use Rattle.cell.specs.BuiltWords.{lift-low, lift-high}
 use Rattle.cell.specs.BuiltCells.{same-out, same-in, cell-built}
-
--- The next entry of a member is the first value s of its rest. The prefix value that it has in the child: one more than the number of
--- prefix values below it.
-unfoldable pub slot : List ℕ → ℕ → ℕ
-slot [] s = 1
-slot (x ∷ g) s = cond (leb s x) 1 (suc (slot g (s - x)))
-
--- the child of p whose last entry is a
-unfoldable pub childAt : List ℕ → ℕ → List ℕ
-unfolding bump
-childAt p a = map (bump a) p ++ (a ∷ [])
-
--- the spacing of the child: the component that holds s becomes two, what it holds below s and what it holds above s
-unfoldable pub split : List ℕ → ℕ → List ℕ
-split [] s = []
-split (x ∷ g) s = cond (leb s x) ((s - 1) ∷ ((x - s) ∷ g)) (x ∷ split g (s - x))
 
 -- s lies in the first component or in a later one
 data Held (x : ℕ) (g : List ℕ) (s : ℕ) : Type 0 where

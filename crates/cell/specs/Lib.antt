@@ -20,6 +20,7 @@ pub mod Theorems
 pub mod PlaceLaws
 pub mod CandidateLaws
 pub mod EachLaws
+pub mod Child
 pub mod ChildLaws
 pub mod BinomialLaws
 pub mod BasisLaws

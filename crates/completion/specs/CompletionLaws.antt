@@ -1,6 +1,6 @@
 -- Laws of completions: what a completion is, by which next entries there is one, and what rules it out.
 use Prim.Native.Nat.{ℕ, _≤_, _<_}
-use mathlib.Core.Path.{_≡_, refl, sym, ap, ap₂, _∙_}
+use mathlib.Core.Path.{_≡_, refl, sym, ap, _∙_}
 use mathlib.Core.Bool.{Bool, true, false, not, _||_}
 use mathlib.Core.List.{List, [], _∷_, _++_, append-nil, append-assoc, List·Memᴰ, List·Memᴰ·head, List·Memᴰ·tail, List·Memᴰ·append-cases}
 use mathlib.Core.List.{List·Memᴰ·eq-of-singleton, Memᴰ·cast, Memᴰ·append-left, Memᴰ·append-right}
@@ -9,36 +9,20 @@ use mathlib.Core.Logic.{_⊎_, inl, inr}
 use native.Mathlib.Omega.{arith}
 use lib.ListN.{length, take, drop, length-append, take-append-drop}
 use lib.Seq.{take-append-seam}
-use lib.Dec.{eqb}
-use borrow.Author.Tests.{eqb-true, eq-eqb}
 use Rattle.word.specs.Lists.{all, any, oneTo}
 use Rattle.word.specs.Word.{avoids, avoiders, has, distinct, within, isPerm}
 use Rattle.word.specs.ListLaws.{true-not-false, and-left, and-right, and-in, not-in, same-test, fails-with, any-out, any-in, all-out, all-in, all-append, row-out, row-in}
 use Rattle.word.specs.ContainsLaws.{avoids-sublist}
 use Rattle.word.specs.PermLaws.{has-out, has-in, within-out, within-in, distinct-out, distinct-in, perm-bounds, perm-distinct, perm-in, perm-has}
 use Rattle.word.specs.AscendLaws.{avoiders-are, avoiders-all}
-use Rattle.cell.specs.Cell.{same}
+use Rattle.cell.specs.BuiltCells.{same-out, same-refl}
 use Rattle.completion.specs.Completion.{begins, completable, begun, allowed, allAllowed, goesOn}
-
--- lists that are the same are equal
-same-true : (u v : List ℕ) → same u v ≡ true → u ≡ v
-unfolding same
-same-true [] [] e = refl
-same-true [] (y ∷ v) e = absurd (true-not-false (sym e))
-same-true (x ∷ u) [] e = absurd (true-not-false (sym e))
-same-true (x ∷ u) (y ∷ v) e =
-    ap₂ _∷_ (eqb-true x y (and-left (eqb x y) (same u v) e)) (same-true u v (and-right (eqb x y) (same u v) e))
-
-same-refl : (u : List ℕ) → same u u ≡ true
-unfolding same
-same-refl [] = refl
-same-refl (x ∷ u) = and-in (eqb x x) (same u u) (eq-eqb x x refl) (same-refl u)
 
 -- a word that begins with u is u and a rest
 pub begins-out : (u w : List ℕ) → begins u w ≡ true → (r : List ℕ) × (u ++ r ≡ w)
 unfolding begins
 begins-out u w e =
-    (drop (length u) w, ap (λ (t : List ℕ). t ++ drop (length u) w) (sym (same-true (take (length u) w) u e)) ∙ take-append-drop (length u) w)
+    (drop (length u) w, ap (λ (t : List ℕ). t ++ drop (length u) w) (sym (same-out (take (length u) w) u e)) ∙ take-append-drop (length u) w)
 
 pub begins-in : (u r : List ℕ) → begins u (u ++ r) ≡ true
 unfolding begins

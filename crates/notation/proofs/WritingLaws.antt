@@ -6,7 +6,7 @@ use native.Mathlib.Omega.{arith}
 use mathlib.Core.Path.{_≡_, refl, sym, ap, _∙_}
 use mathlib.Core.Bool.{true, false, true≢false}
 use mathlib.Core.List.{List, [], _∷_, _++_}
-use lib.ListN.{length, take, drop}
+use lib.ListN.{length, drop}
 use lib.Seq.{take-append-seam, drop-append-seam}
 use lib.Dec.{ltb}
 use borrow.Author.Tests.{lt-ltb, le-ltb}
@@ -17,11 +17,12 @@ use Rattle.scheme.specs.SchemeMemory.{faultOf}
 use Rattle.scheme.specs.TestOrder.{faulty}
 use Rattle.scheme.specs.declared.memory.Fault.{Fault}
 use Rattle.scheme.specs.declared.memory.Fault.the-variants.{Clean, At}
-use Rattle.notation.specs.Page.{overlay}
-use Rattle.notation.specs.PageLaws.{overlay-whole}
-use Rattle.notation.specs.Written.{writtenOr, writing, pageAfter, Writing}
+use Rattle.writer.specs.Page.{overlay}
+use Rattle.writer.specs.PageLaws.{overlay-whole}
+use Rattle.notation.specs.Written.{writtenOr, writing, Writing}
 use Rattle.notation.specs.declared.written.Written.{Written}
 use Rattle.notation.specs.declared.written.Written.the-variants.{Bytes, Refused}
+use Rattle.scheme.specs.TestLaws.{single}
 
 pub written-clean : (f : Fault) (n : ℕ) → f ≡ Clean → Bytes n ≡ writtenOr f n
 written-clean f n e = rw e refl
@@ -47,12 +48,8 @@ behind-fault [] x r i e = let z : _≡_ {A = ℕ} 0 1 = cc in absurd (omega (ari
 behind-fault (clean ∷ l) x r i e = behind-fault l x r i e
 behind-fault (fault q j ∷ l) x r i e = e
 
-one-finding : (x : Finding) → firstFault (x ∷ []) ≡ x
-one-finding clean = refl
-one-finding (fault r i) = refl
-
 behind-clean : (l : List Finding) (x : Finding) → firstFault l ≡ clean → firstFault (l ++ (x ∷ [])) ≡ x
-behind-clean [] x e = one-finding x
+behind-clean [] x e = single x
 behind-clean (clean ∷ l) x e = behind-clean l x e
 behind-clean (fault q j ∷ l) x e = let z : _≡_ {A = ℕ} 0 1 = cc in absurd (omega (arith, z))
 

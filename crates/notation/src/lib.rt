@@ -1,11 +1,4 @@
-// The published notation, read and written.
-pub mod cursor;
-pub mod gap_reader;
-pub mod marks;
-pub mod parts;
-pub mod pattern_reader;
+// The published notation, read and written: the public operations.
 pub mod patterns;
-pub mod scheme_reader;
 pub mod schemes;
-pub mod writing;
 pub mod written;

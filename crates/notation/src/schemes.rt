@@ -1,14 +1,14 @@
 // Reading and writing a scheme.
-use crate::scheme_reader::load_scheme;
-use crate::scheme_reader::no_entries;
-use crate::writing::put_scheme;
 use crate::written::Written;
 use crate::written::written_or;
 use scheme::memory::Fault;
 use scheme::memory::Scheme;
 use scheme::order::is_fault;
-use scheme::scheme_tests::scheme_fault;
+use scheme_text::scheme_reader::load_scheme;
+use scheme_text::scheme_reader::no_entries;
+use wellformed::scheme_tests::scheme_fault;
 use word::refusal::Refusal;
+use writer::writing::put_scheme;
 ghost use mathlib.Core.Path.{_≡_};
 ghost use Rattle.scheme.specs.SchemeMemory.{schemeIn};
 ghost use Rattle.notation.specs.SchemeAnswers.{readSchemeOr, refusedScheme, schemeAnswer, ReadsScheme, WritesScheme};

@@ -1,6 +1,3 @@
--- The laws that the proofs of the crate scheme use.
-pub mod PatternLaws
-pub mod EntryLaws
+-- The laws that the proofs of the crate scheme cite.
 pub mod PrefixLaws
 pub mod LookupLaws
-pub mod OrderLaws

@@ -19,7 +19,8 @@ use Rattle.word.specs.Finding.{clean}
 use Rattle.word.specs.declared.refusal.Refusal.the-variants.{Oversize, NoPermutation, NoPosition}
 use Rattle.cell.specs.Cell.{same, deleted, children}
 use Rattle.cell.specs.BuiltCells.{same-out}
-use Rattle.cell.specs.ChildLaws.{childAt, child-length, children-all}
+use Rattle.cell.specs.Child.{childAt}
+use Rattle.cell.specs.ChildLaws.{child-length, children-all}
 use Rattle.scheme.specs.SchemeList.{EntryList}
 use Rattle.scheme.specs.SchemeMemory.{padded, noEntry, entryIn, doesOf, schemeIn}
 use Rattle.scheme.specs.WellFormed.{firstAt, listed, largeEntry, outside, lacksChild, lacksTarget}

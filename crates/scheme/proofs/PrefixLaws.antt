@@ -18,7 +18,8 @@ use Rattle.word.specs.PermLaws.{perm-bounds, under-perm}
 use Rattle.cell.specs.Cell.{same, without, deleted, children}
 use Rattle.cell.specs.Built.{getD-map}
 use Rattle.cell.specs.BuiltCells.{same-out, same-in}
-use Rattle.cell.specs.ChildLaws.{childAt, children-all, children-are}
+use Rattle.cell.specs.Child.{childAt}
+use Rattle.cell.specs.ChildLaws.{children-all, children-are}
 use Rattle.cell.specs.WithoutLaws.{withoutFrom, without-from}
 use Rattle.cell.specs.MergeLaws.{kept-bounds}
 use Rattle.scheme.specs.SchemeMemory.{padded}

@@ -13,6 +13,7 @@ use borrow.Author.Tests.{eq-eqb, ne-eqb}
 use Rattle.word.specs.Lists.{all}
 use Rattle.word.specs.Word.{isPerm, within}
 use Rattle.cell.specs.Cell.{same}
+use Rattle.cell.specs.BuiltCells.{same-refl}
 use Rattle.scheme.specs.SchemeMemory.{padded}
 
 -- the first n numbers of an array
@@ -53,11 +54,6 @@ padded-behind n a b k p q = go n a b k p q
     go (suc m) (x ∷ a) (y ∷ b) (suc k) p q = go m a b k (omega arith) (omega arith)
 
 -- two lists have the same numbers
-pub same-refl : (u : List ℕ) → same u u ≡ true
-unfolding same
-same-refl [] = refl
-same-refl (x ∷ u) = rw (eq-eqb x x refl) (same-refl u)
-
 pub same-lengths : (u v : List ℕ) → (length u ≡ length v → ⊥) → same u v ≡ false
 unfolding same
 same-lengths [] [] h = absurd (h refl)

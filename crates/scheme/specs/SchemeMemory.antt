@@ -53,6 +53,13 @@ entryIn e =
 abbrev pub schemeIn : Scheme → List EntryList
 schemeIn s = map (λ i. entryIn (getD (s .entries) i noEntry)) (row 0 (s .count))
 
+-- the vector of an entry, and the entry of a scheme, at an index
+abbrev pub gapAt : Entry → ℕ → List ℕ
+gapAt e j = gapIn (getD (e .gaps) j noGap)
+
+abbrev pub entryAt : Scheme → ℕ → EntryList
+entryAt s i = entryIn (getD (s .entries) i noEntry)
+
 -- a finding in memory
 abbrev pub faultOf : Finding → Fault
 faultOf clean = Clean

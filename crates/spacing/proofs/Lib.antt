@@ -1,2 +1,3 @@
+-- The laws that the proofs of the crate spacing cite.
 pub mod SpacingMemory
 pub mod SpacingCount

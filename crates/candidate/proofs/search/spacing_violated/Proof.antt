@@ -89,8 +89,8 @@ loop-again-2 c =
 candidate-word-requires : tie.Need-candidate-word-requires Inv-loop μ-loop
 candidate-word-requires c κs = (c .before .before .before .before .before .before .before .before .before .pre .1, omega arith, c .before .before .before .before .digits .ensures .1)
 
-contained-requires : tie.Need-contained-requires Inv-loop μ-loop
-contained-requires c κs = omega (arith, c .before .candidate-word .ensures .0)
+contained-by-requires : tie.Need-contained-by-requires Inv-loop μ-loop
+contained-by-requires c κs = (omega (arith, c .before .candidate-word .ensures .0), omega arith, c .before .before .before .before .before .before .before .before .before .before .before .pre .0)
 
 loop-less-3 : tie.Need-loop-less-3 Inv-loop μ-loop
 loop-less-3 c = search needs
@@ -113,7 +113,7 @@ loop-again-3 c =
     (omega arith) (d .ensures .0) (d .ensures .1) (omega arith) (take (w .result .length) (w .result .entries)) (w .ensures .1) in
     passed-contained (a .t1) (a .t2) (a .count) (a .t4) (take (a .k) (a .prefix)) (a .gone) (c .before .before .before .before .before .before .before .before .before .before .before .before .levels-of .result) (a .t) (l .i)
     (omega arith) (omega arith) (omega arith) eight (l .inv) (c .before .before .before .before .before .hits .result) found (not-false _ (c .before .before .before .before .if2 .left))
-    (take (w .result .length) (w .result .entries)) made (not-true _ (sym (c .before .contained .ensures) ∙ c .if3 .taken))
+    (take (w .result .length) (w .result .entries)) made (not-true _ (sym (c .before .contained-by .ensures) ∙ c .if3 .taken))
 
 returns : tie.Need-returns Inv-loop μ-loop
 returns c =
@@ -133,7 +133,7 @@ returns c =
     (omega arith) (d .ensures .0) (d .ensures .1) (omega arith) (take (w .result .length) (w .result .entries)) (w .ensures .1) in
     λ R F size e N. violation (a .t1) (a .t2) (a .count) (a .t4) (take (a .k) (a .prefix)) (a .gone) (c .before .before .before .before .before .before .before .before .before .before .before .before .levels-of .result) (a .t) (l .i)
     (omega arith) (omega arith) (omega arith) eight (l .inv) (c .before .before .before .before .before .hits .result) found (not-false _ (c .before .before .before .before .if2 .left))
-    (take (w .result .length) (w .result .entries)) made (not-false _ (sym (c .before .contained .ensures) ∙ c .if3 .left)) R _
+    (take (w .result .length) (w .result .entries)) made (not-false _ (sym (c .before .contained-by .ensures) ∙ c .if3 .left)) R _
     (record { given = F .0; flags = F .1; size = size; whole = e; said = λ v b. c .before .before .before .before .before .before .before .before .before .before .before .before .levels-of .ensures v (omega (arith, length-take (a .k) (a .prefix))); needed = N })
 
 returns-2 : tie.Need-returns-2 Inv-loop μ-loop
@@ -165,7 +165,7 @@ spacing-violated-spec =
     loop-less-2
     loop-again-2
     candidate-word-requires
-    contained-requires
+    contained-by-requires
     loop-less-3
     loop-again-3
     returns

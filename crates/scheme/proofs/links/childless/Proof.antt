@@ -9,7 +9,7 @@ use lib.ListN.{length, take}
 use lib.Seq.{length-take-le}
 use Rattle.word.specs.Lists.{any}
 use Rattle.cell.specs.Cell.{children}
-use Rattle.cell.specs.ChildLaws.{childAt}
+use Rattle.cell.specs.Child.{childAt}
 use Rattle.scheme.specs.WellFormed.{listed}
 use Rattle.scheme.specs.Links.{prefixesIn}
 use Rattle.scheme.specs.TestLaws.{anyFrom, place-here, place-later, place-end}

@@ -1,0 +1,2 @@
+-- The laws that the proofs of the crate entry_tests cite.
+pub mod EntryLaws

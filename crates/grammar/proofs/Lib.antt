@@ -1,0 +1,2 @@
+-- The laws that the proofs of the crate grammar cite.
+pub mod CursorLaws

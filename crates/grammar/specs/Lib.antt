@@ -1,0 +1,9 @@
+-- The definitions and laws of the crate grammar.
+pub mod Spelling
+pub mod Tokens
+pub mod TokenLaws
+pub mod Grammar
+pub mod GrammarLaws
+pub mod SpellingLaws
+pub mod Cursor
+pub mod Kinds

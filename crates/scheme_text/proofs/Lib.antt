@@ -1,0 +1,3 @@
+-- The laws that the proofs of the crate scheme_text cite.
+pub mod EntryLaws
+pub mod EntriesLaws

@@ -1,0 +1,13 @@
+-- `scheme_text::scheme_reader::no_entries` meets its contract: nothing is stored.
+-- Assumes nothing.
+use mathlib.Core.Path.{refl}
+use Rattle.scheme_text.specs.SchemeLoaded.{loadedScheme}
+use Rattle.scheme_text.proofs.scheme_reader.no_entries.Statement.{statement}
+use Rattle.scheme_text.proofs.scheme_reader.no_entries.Tie as tie
+
+returns : tie.Need-returns
+unfolding loadedScheme
+returns c = refl
+
+pub no-entries-spec : {M : Type 1} → statement M
+no-entries-spec = tie.close (tie.spec returns)

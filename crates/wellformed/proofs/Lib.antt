@@ -1,0 +1,3 @@
+-- The laws that the proofs of the crate wellformed cite.
+pub mod PatternLaws
+pub mod OrderLaws

@@ -1,0 +1,66 @@
+-- `wellformed::pattern_tests::first_twin` meets its contract: the first item that an earlier one equals is the first from the index on.
+-- Assumes nothing.
+use Prim.Native.Nat.{_-_}
+use mathlib.Core.Path.{_≡_, sym, ap, _∙_}
+use mathlib.Core.List.{[]}
+use borrow.Author.Needs.{needs}
+use borrow.Author.Tests.{lt-ltb, le-ltb}
+use native.Mathlib.Omega.{arith}
+use Rattle.scheme.specs.WellFormed.{firstTwin, listed}
+use Rattle.scheme.specs.SchemeMemory.{patternsIn, faultOf}
+use Rattle.scheme.specs.TestOrder.{placeIn}
+use Rattle.scheme.specs.TestLaws.{twin-from, twin-start, twin-here, twin-later, twin-end}
+use Rattle.wellformed.proofs.pattern_tests.first_twin.Statement.{statement}
+use Rattle.wellformed.proofs.pattern_tests.first_twin.Tie as tie
+
+abbrev Inv-loop : tie.InvT-loop
+Inv-loop s n i₀ i = firstTwin listed 0 [] (patternsIn s) ≡ twin-from listed (placeIn s) (s .count) i
+
+abbrev μ-loop : tie.MeasureT-loop
+μ-loop s n i₀ i = n - i
+
+loop-holds : tie.Need-loop-holds Inv-loop μ-loop
+loop-holds c = let s = c .args .s in twin-start listed (placeIn s) (s .count)
+
+earlier-twin-requires : tie.Need-earlier-twin-requires Inv-loop μ-loop
+earlier-twin-requires c κs = search needs
+
+returns : tie.Need-returns Inv-loop μ-loop
+returns c =
+    let s = c .before .before .before .before .args .s in
+    let l = c .before .before .before .loop in
+    let t = sym (c .before .earlier-twin .ensures) ∙ lt-ltb (c .before .earlier-twin .result) (l .i) (c .if1 .taken) in
+    ap faultOf (sym (l .inv ∙ twin-here listed (placeIn s) (s .count) (l .i) (omega arith) t))
+
+add-i : tie.Need-add-i Inv-loop μ-loop
+add-i c = search needs
+
+loop-less : tie.Need-loop-less Inv-loop μ-loop
+loop-less c = search needs
+
+loop-again : tie.Need-loop-again Inv-loop μ-loop
+loop-again c =
+    let s = c .before .before .before .before .args .s in
+    let l = c .before .before .before .loop in
+    let t = sym (c .before .earlier-twin .ensures) ∙ le-ltb (c .before .earlier-twin .result) (l .i) (c .if1 .left) in
+    l .inv ∙ twin-later listed (placeIn s) (s .count) (l .i) (omega arith) t
+
+returns-2 : tie.Need-returns-2 Inv-loop μ-loop
+returns-2 c =
+    let s = c .before .before .args .s in
+    let l = c .before .loop in
+    ap faultOf (sym (l .inv ∙ twin-end listed (placeIn s) (s .count) (l .i) (omega arith)))
+
+pub first-twin-spec : {M : Type 1} → statement M
+first-twin-spec =
+    tie.close
+    (tie.spec
+    Inv-loop
+    μ-loop
+    loop-holds
+    earlier-twin-requires
+    returns
+    add-i
+    loop-less
+    loop-again
+    returns-2)

@@ -1,0 +1,44 @@
+-- `wellformed::pattern_tests::patterns_fault` meets its contract: the number of patterns decides, or the findings of the three tests of the items in their order.
+-- Assumes nothing.
+use mathlib.Core.Path.{sym, ap₂, _∙_}
+use Rattle.scheme.specs.TestOrder.{orElse}
+use Rattle.wellformed.proofs.PatternLaws.{many-patterns, few-patterns}
+use borrow.Author.Needs.{needs}
+use Rattle.wellformed.proofs.pattern_tests.patterns_fault.Statement.{statement}
+use Rattle.wellformed.proofs.pattern_tests.patterns_fault.Tie as tie
+
+returns : tie.Need-returns
+returns c = let s = c .before .before .args .s in sym (many-patterns s (c .if1 .taken))
+
+first-long-requires : tie.Need-first-long-requires
+first-long-requires c κs = search needs
+
+first-none-requires : tie.Need-first-none-requires
+first-none-requires c κs = search needs
+
+first-twin-requires : tie.Need-first-twin-requires
+first-twin-requires c κs = search needs
+
+earlier-requires : tie.Need-earlier-requires
+earlier-requires c κs = search needs
+
+earlier-requires-2 : tie.Need-earlier-requires-2
+earlier-requires-2 c κs = search needs
+
+returns-2 : tie.Need-returns-2
+returns-2 c =
+    let s = c .before .before .before .before .before .before .before .args .s in
+    let later = c .before .earlier .ensures ∙ ap₂ orElse (c .before .before .before .first-none .ensures) (c .before .before .first-twin .ensures) in
+    c .earlier2 .ensures ∙ ap₂ orElse (c .before .before .before .before .first-long .ensures) later ∙ sym (few-patterns s (c .before .before .before .before .before .if1 .left))
+
+pub patterns-fault-spec : {M : Type 1} → statement M
+patterns-fault-spec =
+    tie.close
+    (tie.spec
+    returns
+    first-long-requires
+    first-none-requires
+    first-twin-requires
+    earlier-requires
+    earlier-requires-2
+    returns-2)

@@ -1,0 +1,3 @@
+// The tests of well-formedness of a pattern list and of a scheme list, in their order.
+pub mod pattern_tests;
+pub mod scheme_tests;

@@ -1,0 +1,3 @@
+-- The laws that the proofs of the crate writer cite.
+pub mod FitLaws
+pub mod SchemeFitLaws

@@ -1,0 +1,2 @@
+// Pattern sets and schemes written over a lent page.
+pub mod writing;
