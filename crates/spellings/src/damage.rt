@@ -1,6 +1,15 @@
-// Tests of reading on damaged texts, against the scan of this program.
+// Tests of reading on damaged texts, against the automaton of this program.
+use crate::automaton::Machine;
+use crate::automaton::is_end;
+use crate::automaton::run;
+use crate::flat::Flat;
+use crate::flat::of_patterns;
+use crate::flat::of_scheme;
+use crate::flat::same;
 use crate::print;
-use crate::scan::is_set;
+use crate::rows::SCHEME;
+use crate::rows::SET;
+use crate::texts::Kind;
 use crate::texts::Text;
 use crate::texts::WAYS;
 use crate::texts::byte_at;
@@ -8,44 +17,47 @@ use crate::texts::damaged;
 use crate::texts::is_damage;
 use crate::texts::prefix;
 use notation::patterns::read_patterns;
+use notation::schemes::read_scheme;
 use scheme::memory::Fault;
 use word::refusal::number;
 
-// What was found on the damaged texts.
+// What was found on the damaged texts: how many there are, how many are spelt, how many are read with no fault, and on how many the two readers
+// disagree.
 struct Tally {
     texts: u64,
     spelt: u64,
+    read: u64,
     disagreements: u64,
 }
 
-// For each text a line: how many damaged texts it has, how many of them are spelt, and on how many the scan says something else.
-pub fn lines() {
-    line(b"damaged-two-patterns", b"{123,321}");
-    line(b"damaged-empty-mark", b"\xE2\x88\x85");
-    line(b"damaged-spaces", b" { 1423 , 1432 } ");
-    line(b"damaged-epsilon", b"{ 1,\xCE\xB5 }");
+// What reading a text answers: the number of the refusal, or 0, and the list.
+struct Answer {
+    refusal: u8,
+    list: Flat,
 }
 
-// The line of one text.
-fn line(label: &[u8], text: &[u8]) {
+// The line of one text: the tally of every byte damaged in every way.
+pub fn line(kind: Kind, label: &[u8], text: &[u8]) {
     print::text(label);
-    let t = over_bytes(text);
+    let t = over_bytes(kind, text);
     print::next_number(t.texts);
     print::next_number(t.spelt);
+    print::next_number(t.read);
     print::next_number(t.disagreements);
     print::end();
 }
 
 // The tally of every byte damaged in every way.
-fn over_bytes(text: &[u8]) -> Tally {
+fn over_bytes(kind: Kind, text: &[u8]) -> Tally {
     let mut t = Tally {
         texts: 0,
         spelt: 0,
+        read: 0,
         disagreements: 0,
     };
     let mut at: usize = 0;
     while at < text.len() {
-        let sum = over_ways(t, text, at);
+        let sum = over_ways(t, kind, text, at);
         t = sum;
         at += 1;
     }
@@ -53,11 +65,11 @@ fn over_bytes(text: &[u8]) -> Tally {
 }
 
 // The tally, and in it the byte at the index `at` damaged in every way.
-fn over_ways(t: Tally, text: &[u8], at: usize) -> Tally {
+fn over_ways(t: Tally, kind: Kind, text: &[u8], at: usize) -> Tally {
     let mut sum = t;
     let mut way: usize = 0;
     while way < WAYS {
-        let more = with_way(sum, text, at, way);
+        let more = with_way(sum, kind, text, at, way);
         sum = more;
         way += 1;
     }
@@ -65,33 +77,80 @@ fn over_ways(t: Tally, text: &[u8], at: usize) -> Tally {
 }
 
 // The tally, and in it the byte damaged in one way.
-fn with_way(t: Tally, text: &[u8], at: usize, way: usize) -> Tally {
+fn with_way(t: Tally, kind: Kind, text: &[u8], at: usize, way: usize) -> Tally {
     if !is_damage(byte_at(text, at), way) {
         return t;
     }
-    with_text(t, damaged(text, at, way))
+    with_text(t, kind, damaged(text, at, way))
 }
 
 // The tally, and in it one damaged text.
-fn with_text(t: Tally, d: Text) -> Tally {
+fn with_text(t: Tally, kind: Kind, d: Text) -> Tally {
     let bytes = d.bytes;
-    let n = d.length;
-    let library = is_spelt(prefix(&bytes, n));
-    let scanned = is_set(prefix(&bytes, n));
-    Tally {
-        texts: one_more_if(true, t.texts),
-        spelt: one_more_if(library, t.spelt),
-        disagreements: one_more_if(library != scanned, t.disagreements),
+    let text = prefix(&bytes, d.length);
+    match kind {
+        Kind::Patterns => with_answers(t, patterns_answer(text), run(SET, text)),
+        Kind::Scheme => with_answers(t, scheme_answer(text), run(SCHEME, text)),
     }
 }
 
-// Whether reading does not refuse the text as misspelt.
-fn is_spelt(text: &[u8]) -> bool {
+// The tally, and in it what the two readers say of one text.
+fn with_answers(t: Tally, a: Answer, m: Machine) -> Tally {
+    let spelt = a.refusal != 1;
+    let read = a.refusal == 0;
+    Tally {
+        texts: one_more_if(true, t.texts),
+        spelt: one_more_if(spelt, t.spelt),
+        read: one_more_if(read, t.read),
+        disagreements: one_more_if(!agree(a, m), t.disagreements),
+    }
+}
+
+// Whether both find the text spelt or both do not, and where there is no fault whether the lists are the same.
+fn agree(a: Answer, m: Machine) -> bool {
+    let refusal = a.refusal;
+    let spelt = is_end(m);
+    if refusal == 1 {
+        return !spelt;
+    }
+    if refusal != 0 {
+        return spelt;
+    }
+    if !spelt {
+        return false;
+    }
+    let ours = a.list;
+    let theirs = m.list;
+    same(ours, theirs)
+}
+
+// What reading a pattern set answers.
+fn patterns_answer(text: &[u8]) -> Answer {
     let r = read_patterns(text);
+    let patterns = r.patterns;
     let fault = r.fault;
+    Answer {
+        refusal: number_of(fault),
+        list: of_patterns(patterns),
+    }
+}
+
+// What reading a scheme answers.
+fn scheme_answer(text: &[u8]) -> Answer {
+    let r = read_scheme(text);
+    let scheme = r.scheme;
+    let fault = r.fault;
+    Answer {
+        refusal: number_of(fault),
+        list: of_scheme(scheme),
+    }
+}
+
+// The number of the refusal, or 0.
+fn number_of(fault: Fault) -> u8 {
     match fault {
-        Fault::Clean => true,
-        Fault::At(why, _) => number(why) != 1,
+        Fault::Clean => 0,
+        Fault::At(why, _) => number(why),
     }
 }
 

@@ -1,13 +1,16 @@
 // A test program: reading and writing texts in the notation, on bad input, there and back, and on damaged texts. It prints a line a test.
-mod bad_patterns;
+mod automaton;
+mod cases;
 mod damage;
+mod flat;
+mod line;
+mod page;
 mod print;
-mod round_trips;
-mod scan;
+mod rows;
+mod special;
 mod texts;
 
 fn main() {
-    bad_patterns::lines();
-    round_trips::lines();
-    damage::lines();
+    special::lines();
+    cases::lines();
 }

@@ -6,10 +6,10 @@ use Rattle.spellings.proofs.damage.over_bytes.Statement.{statement}
 use Rattle.spellings.proofs.damage.over_bytes.Tie as tie
 
 abbrev Inv-loop : tie.InvT-loop
-Inv-loop text t₀ at₀ t at = Unit
+Inv-loop kind text t₀ at₀ t at = Unit
 
 abbrev μ-loop : tie.MeasureT-loop
-μ-loop text t₀ at₀ t at = length text - at
+μ-loop kind text t₀ at₀ t at = length text - at
 
 loop-holds : tie.Need-loop-holds Inv-loop μ-loop
 loop-holds c = search needs
@@ -32,12 +32,4 @@ returns c = search needs
 pub over-bytes-spec : {M : Type 1} → statement M
 over-bytes-spec =
     tie.close
-    (tie.spec
-    Inv-loop
-    μ-loop
-    loop-holds
-    over-ways-requires
-    add-at
-    loop-less
-    loop-again
-    returns)
+    (tie.spec Inv-loop μ-loop loop-holds over-ways-requires add-at loop-less loop-again returns)

@@ -1,14 +1,14 @@
--- `spellings::damage::over_ways` is safe and ends: it has ten turns. Assumes nothing.
+-- `spellings::damage::over_ways` is safe and ends: it has 20 turns. Assumes nothing.
 use Prim.Native.Nat.{_-_}
 use borrow.Author.Needs.{needs}
 use Rattle.spellings.proofs.damage.over_ways.Statement.{statement}
 use Rattle.spellings.proofs.damage.over_ways.Tie as tie
 
 abbrev Inv-loop : tie.InvT-loop
-Inv-loop text at sum₀ way₀ sum way = Unit
+Inv-loop kind text at sum₀ way₀ sum way = Unit
 
 abbrev μ-loop : tie.MeasureT-loop
-μ-loop text at sum₀ way₀ sum way = 10 - way
+μ-loop kind text at sum₀ way₀ sum way = 20 - way
 
 loop-holds : tie.Need-loop-holds Inv-loop μ-loop
 loop-holds c = search needs
@@ -31,12 +31,4 @@ returns c = search needs
 pub over-ways-spec : {M : Type 1} → statement M
 over-ways-spec =
     tie.close
-    (tie.spec
-    Inv-loop
-    μ-loop
-    loop-holds
-    with-way-requires
-    add-way
-    loop-less
-    loop-again
-    returns)
+    (tie.spec Inv-loop μ-loop loop-holds with-way-requires add-way loop-less loop-again returns)

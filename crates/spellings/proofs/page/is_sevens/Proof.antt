@@ -1,9 +1,9 @@
--- `spellings::round_trips::is_sevens` is safe and ends: what is left of the page falls. Assumes nothing.
+-- `spellings::page::is_sevens` is safe and ends: what is left of the page falls. Assumes nothing.
 use Prim.Native.Nat.{_-_}
 use lib.ListN.{length}
 use borrow.Author.Needs.{needs}
-use Rattle.spellings.proofs.round_trips.is_sevens.Statement.{statement}
-use Rattle.spellings.proofs.round_trips.is_sevens.Tie as tie
+use Rattle.spellings.proofs.page.is_sevens.Statement.{statement}
+use Rattle.spellings.proofs.page.is_sevens.Tie as tie
 
 abbrev Inv-loop : tie.InvT-loop
 Inv-loop page from i₀ i = Unit

@@ -1,14 +1,15 @@
--- `spellings::scan::are_items` is safe and ends: what is left of the part falls. Assumes nothing.
+-- `spellings::cases::each` is safe and ends: what is left of the input falls. Assumes nothing.
 use Prim.Native.Nat.{_-_}
+use lib.ListN.{length}
 use borrow.Author.Needs.{needs}
-use Rattle.spellings.proofs.scan.are_items.Statement.{statement}
-use Rattle.spellings.proofs.scan.are_items.Tie as tie
+use Rattle.spellings.proofs.cases.each.Statement.{statement}
+use Rattle.spellings.proofs.cases.each.Tie as tie
 
 abbrev Inv-loop : tie.InvT-loop
-Inv-loop text from to start₀ i₀ start i = Unit
+Inv-loop input from₀ i₀ from i = Unit
 
 abbrev μ-loop : tie.MeasureT-loop
-μ-loop text from to start₀ i₀ start i = to - i
+μ-loop input from₀ i₀ from i = length input - i
 
 loop-holds : tie.Need-loop-holds Inv-loop μ-loop
 loop-holds c = search needs
@@ -25,11 +26,14 @@ loop-less c = search needs
 loop-again : tie.Need-loop-again Inv-loop μ-loop
 loop-again c = search needs
 
-is-item-requires : tie.Need-is-item-requires Inv-loop μ-loop
-is-item-requires c κs = search needs
+prefix-requires : tie.Need-prefix-requires Inv-loop μ-loop
+prefix-requires c κs = search needs
 
-returns : tie.Need-returns Inv-loop μ-loop
-returns c = search needs
+suffix-requires : tie.Need-suffix-requires Inv-loop μ-loop
+suffix-requires c κs = search needs
+
+one-requires : tie.Need-one-requires Inv-loop μ-loop
+one-requires c κs = search needs
 
 loop-less-2 : tie.Need-loop-less-2 Inv-loop μ-loop
 loop-less-2 c = search needs
@@ -37,14 +41,11 @@ loop-less-2 c = search needs
 loop-again-2 : tie.Need-loop-again-2 Inv-loop μ-loop
 loop-again-2 c = search needs
 
-is-item-requires-2 : tie.Need-is-item-requires-2 Inv-loop μ-loop
-is-item-requires-2 c κs = search needs
+returns : tie.Need-returns Inv-loop μ-loop
+returns c = search needs
 
-returns-2 : tie.Need-returns-2 Inv-loop μ-loop
-returns-2 c = search needs
-
-pub are-items-spec : {M : Type 1} → statement M
-are-items-spec =
+pub each-spec : {M : Type 1} → statement M
+each-spec =
     tie.close
     (tie.spec
     Inv-loop
@@ -54,9 +55,9 @@ are-items-spec =
     byte-at-requires
     loop-less
     loop-again
-    is-item-requires
-    returns
+    prefix-requires
+    suffix-requires
+    one-requires
     loop-less-2
     loop-again-2
-    is-item-requires-2
-    returns-2)
+    returns)

@@ -1,9 +1,9 @@
--- `spellings::round_trips::begins_as` is safe and ends: what is left of the text falls. Assumes nothing.
+-- `spellings::page::begins_as` is safe and ends: what is left of the text falls. Assumes nothing.
 use Prim.Native.Nat.{_-_}
 use lib.ListN.{length}
 use borrow.Author.Needs.{needs}
-use Rattle.spellings.proofs.round_trips.begins_as.Statement.{statement}
-use Rattle.spellings.proofs.round_trips.begins_as.Tie as tie
+use Rattle.spellings.proofs.page.begins_as.Statement.{statement}
+use Rattle.spellings.proofs.page.begins_as.Tie as tie
 
 abbrev Inv-loop : tie.InvT-loop
 Inv-loop page n text at₀ i₀ at i = Unit

@@ -1,20 +1,21 @@
--- `spellings::scan::past_spaces` is safe and ends: what is left of the part falls. Assumes nothing.
+-- `spellings::cases::first_space` is safe and ends: what is left of the text falls. Assumes nothing.
 use Prim.Native.Nat.{_-_}
+use lib.ListN.{length}
 use borrow.Author.Needs.{needs}
-use Rattle.spellings.proofs.scan.past_spaces.Statement.{statement}
-use Rattle.spellings.proofs.scan.past_spaces.Tie as tie
+use Rattle.spellings.proofs.cases.first_space.Statement.{statement}
+use Rattle.spellings.proofs.cases.first_space.Tie as tie
 
 abbrev Inv-loop : tie.InvT-loop
-Inv-loop text from to i₀ i = Unit
+Inv-loop a i₀ i = Unit
 
 abbrev μ-loop : tie.MeasureT-loop
-μ-loop text from to i₀ i = to - i
+μ-loop a i₀ i = length a - i
 
 loop-holds : tie.Need-loop-holds Inv-loop μ-loop
 loop-holds c = search needs
 
-byte-at-requires : tie.Need-byte-at-requires Inv-loop μ-loop
-byte-at-requires c κs = search needs
+shared-slice-read-if1 : tie.Need-shared-slice-read-if1 Inv-loop μ-loop
+shared-slice-read-if1 c = search needs
 
 returns : tie.Need-returns Inv-loop μ-loop
 returns c = search needs
@@ -31,14 +32,14 @@ loop-again c = search needs
 returns-2 : tie.Need-returns-2 Inv-loop μ-loop
 returns-2 c = search needs
 
-pub past-spaces-spec : {M : Type 1} → statement M
-past-spaces-spec =
+pub first-space-spec : {M : Type 1} → statement M
+first-space-spec =
     tie.close
     (tie.spec
     Inv-loop
     μ-loop
     loop-holds
-    byte-at-requires
+    shared-slice-read-if1
     returns
     add-i
     loop-less

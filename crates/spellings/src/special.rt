@@ -1,0 +1,96 @@
+// Texts that a line of the input does not hold: with other bytes than its characters have, cut inside a mark, or of the greatest length.
+use crate::line::of_patterns;
+use crate::line::of_scheme;
+use crate::print;
+use crate::texts::prefix;
+
+// the bytes of the short scheme
+const BYTES: usize = 32;
+// the short scheme: {(ε,{⟨0⟩},∅),(1,∅,{1})}
+const SHORT: [u8; BYTES] =
+    *b"{(\xCE\xB5,{\xE2\x9F\xA80\xE2\x9F\xA9},\xE2\x88\x85),(1,\xE2\x88\x85,{1})}";
+// "Pattern text 1,024 bytes" (01)
+const LONGEST_SET: usize = 1024;
+// one byte beyond
+const BEYOND_SET: usize = 1025;
+// "scheme text 32,768" (01)
+const LONGEST_SCHEME: usize = 32768;
+// one byte beyond
+const BEYOND_SCHEME: usize = 32769;
+
+// A line for each text.
+pub fn lines() {
+    other_bytes();
+    cut_marks();
+    cuts();
+    long_patterns();
+    long_schemes();
+}
+
+// Bytes that are no characters, or end a line.
+fn other_bytes() {
+    of_patterns(b"patterns-line-end-behind", b"{12}\n");
+    of_patterns(b"patterns-byte-0-behind", b"{12}\x00");
+    of_patterns(b"patterns-byte-255-within", b"{1\xFF2}");
+    of_scheme(b"scheme-empty-mark-line-end-behind", b"\xE2\x88\x85\n");
+    of_scheme(b"scheme-empty-mark-byte-0-behind", b"\xE2\x88\x85\x00");
+}
+
+// Texts that end inside a mark. The bytes that the mark lacks stand behind the end.
+fn cut_marks() {
+    let mark = *b"\xE2\x88\x85";
+    of_patterns(b"patterns-empty-mark-after-1-byte", prefix(&mark, 1));
+    of_patterns(b"patterns-empty-mark-after-2-bytes", prefix(&mark, 2));
+    of_patterns(b"patterns-epsilon-after-1-byte", prefix(b"{\xCE\xB5}", 2));
+    of_scheme(b"scheme-empty-mark-after-1-byte", prefix(&mark, 1));
+    of_scheme(b"scheme-empty-mark-after-2-bytes", prefix(&mark, 2));
+}
+
+// The short scheme cut after each number of bytes: ε after 3, ⟨ after 7 and 8, ⟩ after 11 and 12, ∅ after 16 and 17. The rest stands behind the end.
+fn cuts() {
+    let mut n: usize = 0;
+    while n <= BYTES {
+        cut_after(n);
+        n += 1;
+    }
+}
+
+// The short scheme cut after n bytes.
+fn cut_after(n: usize) {
+    print::text(b"scheme-cut-after");
+    print::next_number(n as u64);
+    of_scheme(b"", prefix(&SHORT, n));
+}
+
+// The mark ∅ among spaces, and spaces alone.
+fn long_patterns() {
+    let mut page = [b' '; BEYOND_SET];
+    of_patterns(b"patterns-1024-spaces", prefix(&page, LONGEST_SET));
+    of_patterns(b"patterns-1025-spaces", &page);
+    page[500] = 0xE2;
+    page[501] = 0x88;
+    page[502] = 0x85;
+    of_patterns(b"patterns-in-1024-bytes", prefix(&page, LONGEST_SET));
+    of_patterns(b"patterns-in-1025-bytes", &page);
+}
+
+// The short scheme with spaces behind it, and spaces alone.
+fn long_schemes() {
+    let padded = padded_short();
+    of_scheme(b"scheme-in-32768-bytes", prefix(&padded, LONGEST_SCHEME));
+    of_scheme(b"scheme-in-32769-bytes", &padded);
+    let spaces = [b' '; BEYOND_SCHEME];
+    of_scheme(b"scheme-32768-spaces", prefix(&spaces, LONGEST_SCHEME));
+    of_scheme(b"scheme-32769-spaces", &spaces);
+}
+
+// The short scheme and spaces behind it.
+fn padded_short() -> [u8; BEYOND_SCHEME] {
+    let mut page = [b' '; BEYOND_SCHEME];
+    let mut i: usize = 0;
+    while i < BYTES {
+        page[i] = SHORT[i];
+        i += 1;
+    }
+    page
+}
