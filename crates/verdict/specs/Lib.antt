@@ -1,0 +1,6 @@
+-- The definition of the verdict, and the theorem on it.
+pub mod Verdict
+pub mod Truth
+pub mod FindingLaws
+pub mod ProperLaws
+pub mod VerdictLaws

@@ -1,0 +1,118 @@
+-- The theorem on the verdict: a scheme is accepted exactly if it is well-formed and all its claims are true at every length.
+use Prim.Native.Nat.{ℕ}
+use mathlib.Core.Path.{_≡_, refl, sym, ap, _∙_}
+use mathlib.Core.Bool.{Bool, true, false, not}
+use mathlib.Core.List.{List, [], _∷_, _++_, List·Memᴰ, List·Memᴰ·head, List·Memᴰ·tail}
+use mathlib.Core.Logic.{_↔_}
+use lib.ListN.{length}
+use lib.Dec.{eqb}
+use borrow.Author.Tests.{eqb-true, eq-eqb}
+use Rattle.word.specs.Lists.{all, any}
+use Rattle.word.specs.Word.{isPerm, within}
+use Rattle.word.specs.ListLaws.{true-not-false}
+use Rattle.word.specs.Finding.{Finding, clean, fault, firstFault}
+use Rattle.word.specs.declared.refusal.Refusal.the-variants.{LiveGap, Irreversible}
+use Rattle.cell.specs.Cell.{cell, deleted, merged, compared}
+use Rattle.cell.specs.Claim.{GapClaim, DeletionClaim, SizesAgree}
+use Rattle.cell.specs.Theorems.{gap-law, finite-law}
+use Rattle.scheme.specs.SchemeList.{Does, expands, deletes, EntryList}
+use Rattle.scheme.specs.WellFormed.{firstAt, outside, patternTests, schemeTests}
+use Rattle.scheme.specs.SchemeMemory.{faultOf}
+use Rattle.verdict.specs.Verdict.{isEmpty, liveGap, sizesDiffer, differs, claimTests, comparedCells, judgeTests, answered, verdictOf, accepted}
+use Rattle.verdict.specs.Truth.{WellFormed, RuleClaim, EntryTrue, AllTrue}
+use Rattle.verdict.specs.FindingLaws.{clean-in, clean-left, clean-right, clean-append, clean-two, first-out, first-in, none-out, none-in}
+use Rattle.verdict.specs.ProperLaws.{ProperEntry, proper-entry, position-inside}
+
+-- a list is empty or not
+pub empty-out : (l : List (List ℕ)) → not (isEmpty l) ≡ false → l ≡ []
+empty-out [] e = refl
+empty-out (w ∷ l) e = absurd (true-not-false e)
+
+pub empty-in : (l : List (List ℕ)) → l ≡ [] → not (isEmpty l) ≡ false
+empty-in l e = rw e refl
+
+-- No gap vector has a live cell exactly if the claims of all of them are true.
+pub live-law : (P : List (List ℕ)) (p : List ℕ) (B : List (List ℕ)) → isPerm p ≡ true →
+    (liveGap P p B ≡ false) ↔ ((b : List ℕ) → List·Memᴰ b B → GapClaim P p b)
+unfolding liveGap
+live-law P p B perm = (
+  λ e b m. gap-law P p b perm .0 (empty-out (cell P p b) (none-out (λ (x : List ℕ). not (isEmpty (cell P p x))) e m)),
+  λ h. none-in (λ (x : List ℕ). not (isEmpty (cell P p x))) B (λ b m. empty-in (cell P p b) (gap-law P p b perm .1 (h b m))),
+)
+
+-- the sizes agree at all compared spacings
+sizes-agree : (P : List (List ℕ)) (p : List ℕ) (B : List (List ℕ)) (R : List ℕ) →
+    (any (sizesDiffer P p R) (compared P (length p) B) ≡ false) ↔ SizesAgree P p B R
+unfolding sizesDiffer
+sizes-agree P p B R = (
+  λ e g m. agree (length (cell P p g)) (length (cell P (deleted R p) (merged R p g))) (none-out (sizesDiffer P p R) e m),
+  λ h. none-in (sizesDiffer P p R) (compared P (length p) B)
+      (λ g m. ap not (eq-eqb (length (cell P p g)) (length (cell P (deleted R p) (merged R p g))) (h g m))),
+)
+  where
+    agree : (a b : ℕ) → not (eqb a b) ≡ false → a ≡ b
+    agree a b e = eqb-true a b (go (eqb a b) e)
+      where
+        go : (t : Bool) → not t ≡ false → t ≡ true
+        go true h = refl
+        go false h = sym h
+
+-- No compared sizes differ exactly if the claim of the rule is true.
+pub differs-law : (P : List (List ℕ)) (p : List ℕ) (B : List (List ℕ)) (rule : Does) → isPerm p ≡ true → outside (length p) rule ≡ false →
+    (differs P p B rule ≡ false) ↔ RuleClaim P p B rule
+unfolding differs
+differs-law P p B expands perm inside = (λ e. tt, λ h. refl)
+differs-law P p B (deletes r) perm inside =
+    let (there, back) = sizes-agree P p B (r ∷ []) in
+    let (up, down) = finite-law P p (r ∷ []) perm (position-inside (length p) r inside) B in
+    (λ e. up (there e), λ h. back (down h))
+
+-- the tests 10 and 11 find nothing exactly if all claims are true
+module _ (P : List (List ℕ)) (E : List EntryList) (formed : firstFault (schemeTests E) ≡ clean) where
+  pub claims-true : firstFault (claimTests P E) ≡ clean → AllTrue P E
+  claims-true c e m =
+      let q = proper-entry E formed e m in
+      record {
+        gaps =
+            live-law P (e .prefix) (e .gaps) (q .perm) .0
+            (first-out LiveGap (λ (d : EntryList). liveGap P (d .prefix) (d .gaps)) 0 (clean-in (claimTests P E) (List·Memᴰ·head refl) c) m);
+        rule =
+            differs-law P (e .prefix) (e .gaps) (e .rule) (q .perm) (q .inside) .0
+            (first-out Irreversible (λ (d : EntryList). differs P (d .prefix) (d .gaps) (d .rule)) 0 (clean-in (claimTests P E) (List·Memᴰ·tail (List·Memᴰ·head refl)) c) m);
+      }
+
+  pub claims-clean : AllTrue P E → firstFault (claimTests P E) ≡ clean
+  claims-clean h =
+      clean-two (firstAt LiveGap (λ (d : EntryList). liveGap P (d .prefix) (d .gaps)) 0 E)
+      (firstAt Irreversible (λ (d : EntryList). differs P (d .prefix) (d .gaps) (d .rule)) 0 E)
+      (first-in LiveGap (λ (d : EntryList). liveGap P (d .prefix) (d .gaps)) 0 E
+      (λ e m. live-law P (e .prefix) (e .gaps) (proper-entry E formed e m .perm) .1 (h e m .gaps)))
+      (first-in Irreversible (λ (d : EntryList). differs P (d .prefix) (d .gaps) (d .rule)) 0 E
+      (λ e m. let q = proper-entry E formed e m in differs-law P (e .prefix) (e .gaps) (e .rule) (q .perm) (q .inside) .1 (h e m .rule)))
+
+-- an answer accepts exactly if no test finds a fault
+pub accepted-clean : (x : Finding) (n : ℕ) → accepted (answered (faultOf x) n) ≡ true → x ≡ clean
+accepted-clean clean n e = refl
+accepted-clean (fault r i) n e = absurd (true-not-false (sym e))
+
+pub clean-accepted : (x : Finding) (n : ℕ) → x ≡ clean → answered (faultOf x) n ≡ answered (faultOf clean) n
+clean-accepted x n e = ap (λ (y : Finding). answered (faultOf y) n) e
+
+-- Accepted exactly if well-formed and all claims true at every length.
+pub accepted-exactly : (P : List (List ℕ)) (E : List EntryList) → (accepted (verdictOf P E) ≡ true) ↔ (WellFormed P E × AllTrue P E)
+accepted-exactly P E = (there, back)
+  where
+    there : accepted (verdictOf P E) ≡ true → WellFormed P E × AllTrue P E
+    there a =
+        let c = accepted-clean (firstFault (judgeTests P E)) (comparedCells P E) a in
+        let s = clean-right (patternTests P) (schemeTests E ++ claimTests P E) c in
+        let f = clean-left (schemeTests E) (claimTests P E) s in (
+          record { patterns = clean-left (patternTests P) (schemeTests E ++ claimTests P E) c; scheme = f },
+          claims-true P E f (clean-right (schemeTests E) (claimTests P E) s),
+        )
+
+    back : WellFormed P E × AllTrue P E → accepted (verdictOf P E) ≡ true
+    back h =
+        ap accepted (clean-accepted (firstFault (judgeTests P E)) (comparedCells P E)
+        (clean-append (patternTests P) (schemeTests E ++ claimTests P E) (h .0 .patterns) ∙
+        clean-append (schemeTests E) (claimTests P E) (h .0 .scheme) ∙ claims-clean P E (h .0 .scheme) (h .1)))

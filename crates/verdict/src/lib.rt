@@ -1,0 +1,2 @@
+// The answer of judging.
+pub mod answer;
