@@ -1,0 +1,109 @@
+-- The rule of an entry: the deletion that the candidate search decides, and the number of compared cells.
+-- Assumes nothing.
+use Prim.Native.Nat.{ℕ, zero, suc, _+_, _≤_, _<_}
+use native.Mathlib.Numerals.{add-one}
+use native.Mathlib.Omega.{arith}
+use mathlib.Core.Path.{_≡_, refl, sym, ap, ap₂, _∙_}
+use mathlib.Core.Bool.{Bool, true, false}
+use mathlib.Core.List.{List, [], _∷_, map, List·Memᴰ, List·Memᴰ·head, List·Memᴰ·tail}
+use mathlib.Core.Logic.{_↔_}
+use lib.ListN.{length, getD, take, set}
+use lib.Seq.{length-take-le}
+use Rattle.word.specs.Lists.{all, keep, each, row}
+use Rattle.word.specs.Word.{isPerm, within}
+use Rattle.word.specs.ListLaws.{and-left}
+use Rattle.word.specs.PermLaws.{within-out}
+use Rattle.word.specs.Containment.{patternsOf}
+use Rattle.cell.specs.Cell.{free, vectors, mOf, compared}
+use Rattle.cell.specs.Claim.{DeletionClaim}
+use Rattle.spacing.specs.GapRows.{gapsOf}
+use Rattle.candidate.specs.Ready.{patternAt, Given, EntryAnswer}
+use Rattle.candidate.specs.BasisMemory.{pattern-member}
+use Rattle.scheme.specs.SchemeList.{Does, expands, deletes, EntryList}
+use Rattle.scheme.specs.WellFormed.{outside}
+use Rattle.scheme.specs.SchemeMemory.{doesOf, entryIn}
+use Rattle.scheme.specs.MemoryLaws.{length-padded}
+use Rattle.scheme.specs.declared.memory.Entry.{Entry}
+use Rattle.scheme.specs.declared.memory.Rule.{Rule}
+use Rattle.scheme.specs.declared.memory.Rule.the-variants.{Expand, Delete}
+use Rattle.verdict.specs.Verdict.{differs, comparedWith}
+use Rattle.verdict.specs.Truth.{RuleClaim}
+use Rattle.verdict.specs.FindingLaws.{same-failure}
+use Rattle.verdict.specs.ProperLaws.{ProperEntry, position-inside}
+use Rattle.verdict.specs.VerdictLaws.{differs-law}
+use Rattle.claims.specs.EntryMemory.{HasRows, ProperSet, DeletesAt, ComparedAnswer}
+use Rattle.claims.specs.EntryMemoryLaws.{entry-short, rows-hold, prefix-is, prefix-perm}
+use Rattle.claims.specs.ComparedLaws.{compared-small}
+
+-- the first of the positions
+pub first-position : (l : List ℕ) (r : ℕ) → 0 < length l → take 1 (set l 0 r) ≡ r ∷ []
+first-position [] r h = absurd (omega arith)
+first-position (x ∷ l) r h = refl
+
+-- an expanding entry
+pub expands-differs : (P : List (List ℕ)) (e : Entry) → e .rule ≡ Expand → differs P ((entryIn e) .prefix) ((entryIn e) .gaps) ((entryIn e) .rule) ≡ false
+unfolding differs
+expands-differs P e q = ap (λ (x : Rule). differs P ((entryIn e) .prefix) ((entryIn e) .gaps) (doesOf x)) q
+
+module _ (e : Entry) (proper : ProperEntry (entryIn e)) (six : length (e .prefix) ≡ 6) (r : ℕ) (rule : DeletesAt e r) where
+  deletes-inside : outside (length ((entryIn e) .prefix)) (deletes r) ≡ false
+  deletes-inside = ap (λ (x : Rule). outside (length ((entryIn e) .prefix)) (doesOf x)) (sym rule) ∙ proper .inside
+
+  pub positions-inside : all (within (length (take (e .length) (e .prefix)))) (r ∷ []) ≡ true
+  positions-inside =
+      ap (λ (u : List ℕ). all (within (length u)) (r ∷ [])) (sym (prefix-is e proper six)) ∙
+      position-inside (length ((entryIn e) .prefix)) r deletes-inside
+
+  pub position-bound : r ≤ 6
+  position-bound = omega (arith, position-at-most, proper .short)
+    where
+      position-at-most : r ≤ length ((entryIn e) .prefix)
+      position-at-most =
+          within-out (length ((entryIn e) .prefix)) r
+          (and-left (within (length ((entryIn e) .prefix)) r) true (position-inside (length ((entryIn e) .prefix)) r deletes-inside)) .1
+
+  -- what the search is given
+  pub given : (set : List (List ℕ)) (lengths : List ℕ) (count : ℕ) → length set ≡ 24 → length lengths ≡ 24 → ProperSet set lengths count →
+      Given set lengths count (take (e .length) (e .prefix)) (r ∷ [])
+  given set lengths count hs hl q =
+      record {
+        few = q .few;
+        patterns = λ (i : ℕ) (h : i < count). q .perms (patternAt set lengths i) (pattern-member set lengths count i h (omega (arith, q .few)) (omega (arith, q .few)));
+        perm = prefix-perm e proper six;
+        short = omega (arith, entry-short e proper, length-take-le (e .length) (e .prefix) (omega (arith, entry-short e proper)));
+        inside = positions-inside;
+      }
+
+  -- what it answers
+  pub answers : (P : List (List ℕ)) (rows : List (List ℕ)) (b : Bool) → length rows ≡ 8 → HasRows (e .gaps) rows →
+      EntryAnswer P (take (e .length) (e .prefix)) (gapsOf rows (e .length + 1) (e .«gap_count»)) (r ∷ []) b →
+      b ≡ differs P ((entryIn e) .prefix) ((entryIn e) .gaps) ((entryIn e) .rule)
+  answers P rows b eight has a =
+      let claimed : (b ≡ false) ↔ DeletionClaim P ((entryIn e) .prefix) ((entryIn e) .gaps) (r ∷ []) =
+      rw (prefix-is e proper six, ← rows-hold e proper rows eight has) (a .claimed) in
+      same-failure b (differs P ((entryIn e) .prefix) ((entryIn e) .gaps) (deletes r)) claimed
+      (differs-law P ((entryIn e) .prefix) ((entryIn e) .gaps) (deletes r) (proper .perm) deletes-inside) ∙
+      ap (λ (x : Rule). differs P ((entryIn e) .prefix) ((entryIn e) .gaps) (doesOf x)) (sym rule)
+
+-- the number of compared cells
+pub expands-compared : (m : ℕ) (e : Entry) → e .rule ≡ Expand → ComparedAnswer m (entryIn e) 0
+unfolding comparedWith
+expands-compared m e q =
+    record {
+      compares = λ P h. ap (λ (x : Rule). comparedWith P ((entryIn e) .prefix) ((entryIn e) .gaps) (doesOf x)) (sym q);
+      small = omega arith;
+    }
+
+pub deletes-compared : (m : ℕ) (e : Entry) (r : ℕ) (rows : List (List ℕ)) (n : ℕ) → m ≤ 8 → ProperEntry (entryIn e) → e .rule ≡ Delete r → length rows ≡ 8 →
+    HasRows (e .gaps) rows → n ≡ length (keep (free (gapsOf rows (e .length + 1) (e .«gap_count»))) (each (vectors (suc (e .length))) (row 0 m))) →
+    ComparedAnswer m (entryIn e) n
+unfolding comparedWith compared
+deletes-compared m e r rows n low proper q eight has is =
+    record {
+      compares = λ P h.
+          is ∙
+          ap₂ (λ (B : List (List ℕ)) (i : ℕ). length (keep (free B) (each (vectors (suc (e .length))) (row 0 i)))) (rows-hold e proper rows eight has) (sym h) ∙
+          ap (λ (k : ℕ). length (keep (free ((entryIn e) .gaps)) (each (vectors (suc k)) (row 0 (mOf P))))) (sym (length-padded (e .length) (e .prefix))) ∙
+          ap (λ (x : Rule). comparedWith P ((entryIn e) .prefix) ((entryIn e) .gaps) (doesOf x)) (sym q);
+      small = omega (arith, is, compared-small m (e .length) (gapsOf rows (e .length + 1) (e .«gap_count»)) low (entry-short e proper));
+    }

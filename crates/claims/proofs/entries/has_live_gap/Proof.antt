@@ -1,0 +1,94 @@
+-- `claims::entries::has_live_gap` meets its contract: some vector is live if one from the index on is.
+-- Assumes nothing.
+use borrow.Author.Needs.{needs}
+use Prim.Native.Nat.{ℕ, _-_, _≤_}
+use mathlib.Core.Path.{_≡_, sym, ap, _∙_}
+use mathlib.Core.List.{List}
+use native.Mathlib.Omega.{arith}
+use lib.ListN.{length, getD, take}
+use Rattle.word.specs.Lists.{any}
+use Rattle.word.specs.Containment.{patternsOf}
+use Rattle.scheme.specs.SchemeMemory.{entryIn}
+use Rattle.scheme.specs.TestLaws.{from, any-here, any-later, any-end}
+use Rattle.verdict.specs.Verdict.{liveGap}
+use Rattle.claims.specs.EntryMemoryLaws.{entry-short, entry-few, gap-width, gap-total, prefix-is, prefix-perm}
+use Rattle.claims.proofs.GapLaws.{vectorAt, liveAt, live-start}
+use Rattle.claims.proofs.entries.has_live_gap.Statement.{statement}
+use Rattle.claims.proofs.entries.has_live_gap.Tie as tie
+
+abbrev Inv-loop : tie.InvT-loop
+Inv-loop set lengths count e prefix k n j₀ j = (n ≤ 8) × (j ≤ n) × (liveGap (patternsOf set lengths count) ((entryIn e) .prefix) ((entryIn e) .gaps) ≡ any (liveAt (patternsOf set lengths count) ((entryIn e) .prefix)) (from (vectorAt e) n j))
+
+abbrev μ-loop : tie.MeasureT-loop
+μ-loop set lengths count e prefix k n j₀ j = n - j
+
+loop-holds : tie.Need-loop-holds Inv-loop μ-loop
+loop-holds c =
+    let a = c .before .args in
+    (entry-few (a .t4) (c .before .pre), omega arith, live-start (patternsOf (a .set) (a .lengths) (a .count)) (a .t4))
+
+mul-b : tie.Need-mul-b Inv-loop μ-loop
+mul-b c = search needs
+
+element-copy-out-b : tie.Need-element-copy-out-b Inv-loop μ-loop
+element-copy-out-b c = search needs
+
+is-live-requires : tie.Need-is-live-requires Inv-loop μ-loop
+is-live-requires c κs =
+    let a = c .before .before .before .before .args in
+    let q = c .before .before .before .before .pre in
+    let l = c .before .before .loop in
+    let six : length (a .t4 .prefix) ≡ 6 = (let g = c .before .before .before .before .good in search needs) in
+    (entry-short (a .t4) q, prefix-perm (a .t4) q six, gap-width (a .t4) q (l .j) (omega arith), gap-total (a .t4) q (l .j) (omega arith))
+
+returns : tie.Need-returns Inv-loop μ-loop
+returns c =
+    let a = c .before .before .before .before .before .before .args in
+    let q = c .before .before .before .before .before .before .pre in
+    let l = c .before .before .before .before .loop in
+    let P = patternsOf (a .set) (a .lengths) (a .count) in
+    let p = (entryIn (a .t4)) .prefix in
+    let six : length (a .t4 .prefix) ≡ 6 = (let g = c .before .before .before .before .before .before .good in search needs) in
+    let live = ap (λ (u : List ℕ). liveAt P u (vectorAt (a .t4) (l .j))) (prefix-is (a .t4) q six) ∙ sym (c .before .is-live .ensures) ∙ c .if1 .taken in
+    sym (l .inv .2 ∙ any-here (liveAt P p) (vectorAt (a .t4)) (a .t4 .«gap_count») (l .j) (omega arith) live)
+
+add-j : tie.Need-add-j Inv-loop μ-loop
+add-j c = search needs
+
+loop-less : tie.Need-loop-less Inv-loop μ-loop
+loop-less c = search needs
+
+loop-again : tie.Need-loop-again Inv-loop μ-loop
+loop-again c =
+    let a = c .before .before .before .before .before .before .args in
+    let q = c .before .before .before .before .before .before .pre in
+    let l = c .before .before .before .before .loop in
+    let P = patternsOf (a .set) (a .lengths) (a .count) in
+    let p = (entryIn (a .t4)) .prefix in
+    let six : length (a .t4 .prefix) ≡ 6 = (let g = c .before .before .before .before .before .before .good in search needs) in
+    let dead = ap (λ (u : List ℕ). liveAt P u (vectorAt (a .t4) (l .j))) (prefix-is (a .t4) q six) ∙ sym (c .before .is-live .ensures) ∙ c .if1 .left in
+    (l .inv .0, omega arith, l .inv .2 ∙ any-later (liveAt P p) (vectorAt (a .t4)) (a .t4 .«gap_count») (l .j) (omega arith) dead)
+
+returns-2 : tie.Need-returns-2 Inv-loop μ-loop
+returns-2 c =
+    let a = c .before .before .before .args in
+    let l = c .before .loop in
+    let P = patternsOf (a .set) (a .lengths) (a .count) in
+    let p = (entryIn (a .t4)) .prefix in
+    sym (l .inv .2 ∙ any-end (liveAt P p) (vectorAt (a .t4)) (a .t4 .«gap_count») (l .j) (omega arith))
+
+pub has-live-gap-spec : {M : Type 1} → statement M
+has-live-gap-spec =
+    tie.close
+    (tie.spec
+    Inv-loop
+    μ-loop
+    loop-holds
+    mul-b
+    element-copy-out-b
+    is-live-requires
+    returns
+    add-j
+    loop-less
+    loop-again
+    returns-2)

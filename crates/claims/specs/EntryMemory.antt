@@ -1,0 +1,37 @@
+-- What the code that judges an entry has in hand. Definitions only.
+use Prim.Native.Nat.{ℕ, _≤_, _<_}
+use mathlib.Core.Path.{_≡_}
+use mathlib.Core.Bool.{Bool, true}
+use mathlib.Core.List.{List, [], List·Memᴰ}
+use lib.ListN.{length, getD}
+use Rattle.word.specs.Word.{isPerm}
+use Rattle.word.specs.Containment.{patternsOf}
+use Rattle.cell.specs.Cell.{mOf, cell}
+use Rattle.scheme.specs.SchemeList.{EntryList}
+use Rattle.scheme.specs.SchemeMemory.{noGap}
+use Rattle.scheme.specs.declared.memory.Gap.{Gap}
+use Rattle.scheme.specs.declared.memory.Rule.the-variants.{Delete}
+use Rattle.scheme.specs.declared.memory.Entry.{Entry}
+use Rattle.verdict.specs.Verdict.{comparedWith}
+
+-- each row has the components of a gap vector
+abbrev pub HasRows : List Gap → List (List ℕ) → Type 0
+HasRows gaps rows = (j : ℕ) → j < 8 → (getD rows j [] ≡ (getD gaps j noGap) .parts) × (length (getD rows j []) ≡ 7)
+
+-- a set in memory of at most 24 permutations
+pub record ProperSet (set : List (List ℕ)) (lengths : List ℕ) (count : ℕ) : Type 0 where
+  pub few : count ≤ 24
+  pub perms : (β : List ℕ) → List·Memᴰ β (patternsOf set lengths count) → isPerm β ≡ true
+
+-- the entry deletes position r
+abbrev pub DeletesAt : Entry → ℕ → Type 0
+DeletesAt e r = e .rule ≡ Delete r
+
+-- the number of compared cells of an entry, for every set whose m is this one; it is small
+pub record ComparedAnswer (m : ℕ) (e : EntryList) (r : ℕ) : Type 0 where
+  pub compares : (P : List (List ℕ)) → mOf P ≡ m → r ≡ comparedWith P (e .prefix) (e .gaps) (e .rule)
+  pub small : r ≤ 3432
+
+-- a yes shows that the cell is empty
+abbrev pub ShowsEmpty : List (List ℕ) → List ℕ → List ℕ → Bool → Type 0
+ShowsEmpty P p b r = r ≡ true → cell P p b ≡ []

@@ -1,0 +1,95 @@
+// The claims of one entry in memory: whether a gap vector's cell is not empty, whether the deletion is irreversible, how many cells are compared.
+use crate::gaps::gap_rows;
+use crate::gaps::is_live;
+use candidate::search::irreversible;
+use scheme::limits::PREFIX;
+use scheme::memory::Entry;
+use scheme::memory::Rule;
+use spacing::compared_count;
+use word::limits::DIGITS;
+use word::limits::PATTERNS;
+ghost use mathlib.Core.Path.{_≡_};
+ghost use Prim.Native.Nat.{_≤_};
+ghost use Rattle.word.specs.Containment.{patternsOf};
+ghost use Rattle.scheme.specs.SchemeMemory.{entryIn};
+ghost use Rattle.verdict.specs.Verdict.{liveGap, differs};
+ghost use Rattle.verdict.specs.ProperLaws.{ProperEntry};
+ghost use Rattle.claims.specs.EntryMemory.{ProperSet, DeletesAt, ComparedAnswer};
+
+// Refusal 10 of one entry: whether the cell at one of its gap vectors is not empty.
+pub fn has_live_gap(
+    set: [[u8; DIGITS]; PATTERNS],
+    lengths: [u8; PATTERNS],
+    count: usize,
+    e: Entry,
+) -> bool
+    requires { ⌜ ProperEntry (entryIn e) ⌝ }
+    ensures { λ r. ⌜ r ≡ liveGap (patternsOf set lengths count) ((entryIn e) .prefix) ((entryIn e) .gaps) ⌝ }
+{
+    let prefix = e.prefix;
+    let k = e.length;
+    let n = e.gap_count;
+    let mut j: usize = 0;
+    while j < n {
+        let b = e.gaps[j];
+        if is_live(set, lengths, count, prefix, k, b) {
+            return true;
+        }
+        j += 1;
+    }
+    false
+}
+
+// Refusal 11 of one entry: whether some compared sizes differ.
+pub fn is_irreversible(
+    set: [[u8; DIGITS]; PATTERNS],
+    lengths: [u8; PATTERNS],
+    count: usize,
+    e: Entry,
+) -> bool
+    requires { ⌜ ProperSet set lengths count × ProperEntry (entryIn e) ⌝ }
+    ensures { λ r. ⌜ r ≡ differs (patternsOf set lengths count) ((entryIn e) .prefix) ((entryIn e) .gaps) ((entryIn e) .rule) ⌝ }
+{
+    let rule = e.rule;
+    match rule {
+        Rule::Expand => false,
+        Rule::Delete(r) => loses(set, lengths, count, e, r),
+    }
+}
+
+// Whether the deletion of position r loses a member of the shorter cell.
+fn loses(
+    set: [[u8; DIGITS]; PATTERNS],
+    lengths: [u8; PATTERNS],
+    count: usize,
+    e: Entry,
+    r: usize,
+) -> bool
+    requires { ⌜ ProperSet set lengths count × ProperEntry (entryIn e) × DeletesAt e r ⌝ }
+    ensures { λ b. ⌜ b ≡ differs (patternsOf set lengths count) ((entryIn e) .prefix) ((entryIn e) .gaps) ((entryIn e) .rule) ⌝ }
+{
+    let prefix = e.prefix;
+    let k = e.length;
+    let gaps = e.gaps;
+    let rows = gap_rows(gaps);
+    let n = e.gap_count;
+    let mut positions = [0u8; PREFIX];
+    positions[0] = r as u8;
+    irreversible(set, lengths, count, prefix, k, positions, 1, rows, n)
+}
+
+// How many cells are compared for one entry, m being the length of the longest pattern.
+pub fn compared_with(m: usize, e: Entry) -> usize
+    requires { ⌜ (m ≤ 8) × ProperEntry (entryIn e) ⌝ }
+    ensures { λ r. ⌜ ComparedAnswer m (entryIn e) r ⌝ }
+{
+    let k = e.length;
+    let gaps = e.gaps;
+    let rows = gap_rows(gaps);
+    let n = e.gap_count;
+    let rule = e.rule;
+    match rule {
+        Rule::Expand => 0,
+        Rule::Delete(_) => compared_count(m, k, rows, n),
+    }
+}

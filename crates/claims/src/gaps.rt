@@ -1,0 +1,174 @@
+// The gap vectors of an entry: as an array of arrays, and whether the cell at one of them is not empty.
+use candidate::tables::kept;
+use candidate::tables::levels_of;
+use completion::completable;
+use scheme::limits::COMPONENTS;
+use scheme::limits::GAPS;
+use scheme::limits::PREFIX;
+use scheme::limits::TOTAL;
+use scheme::memory::Gap;
+use spacing::at_least;
+use spacing::first_spacing;
+use spacing::next_spacing;
+use word::limits::DIGITS;
+use word::limits::PATTERNS;
+ghost use mathlib.Core.Path.{_≡_};
+ghost use mathlib.Core.Bool.{true, not};
+ghost use Prim.Native.Nat.{suc, _+_, _≤_, _<_};
+ghost use lib.ListN.{length, take};
+ghost use Rattle.word.specs.Word.{isPerm};
+ghost use Rattle.word.specs.Containment.{patternsOf};
+ghost use Rattle.cell.specs.Cell.{total, cell};
+ghost use Rattle.scheme.specs.SchemeMemory.{gapIn};
+ghost use Rattle.verdict.specs.Verdict.{isEmpty};
+ghost use Rattle.claims.specs.EntryMemory.{HasRows, ShowsEmpty};
+
+// The components of a gap vector.
+fn parts_of(b: Gap) -> [u8; COMPONENTS]
+    ensures { λ r. ⌜ (r ≡ b .parts) × (length r ≡ 7) ⌝ }
+{
+    b.parts
+}
+
+// The components of each gap vector.
+pub fn gap_rows(gaps: [Gap; GAPS]) -> [[u8; COMPONENTS]; GAPS]
+    ensures { λ r. ⌜ HasRows gaps r ⌝ }
+{
+    let mut rows = [[0u8; COMPONENTS]; GAPS];
+    let mut j: usize = 0;
+    while j < GAPS {
+        let b = gaps[j];
+        rows[j] = parts_of(b);
+        j += 1;
+    }
+    rows
+}
+
+// A byte as a length.
+fn wide(x: u8) -> usize
+    ensures { λ r. ⌜ (r ≡ x) × (r < 256) ⌝ }
+{
+    x as usize
+}
+
+// Whether the cell of the prefix at the gap vector is not empty. Smaller vectors are tried first: by the gap law the cell is empty if one of theirs is, and
+// that shows sooner.
+pub fn is_live(
+    set: [[u8; DIGITS]; PATTERNS],
+    lengths: [u8; PATTERNS],
+    count: usize,
+    prefix: [u8; PREFIX],
+    k: usize,
+    b: Gap,
+) -> bool
+    requires { ⌜ (k ≤ 6) × (isPerm (take k prefix) ≡ true) × (b .width ≡ suc k) × (total (gapIn b) ≤ 8) ⌝ }
+    ensures { λ r. ⌜ r ≡ not (isEmpty (cell (patternsOf set lengths count) (take k prefix) (gapIn b))) ⌝ }
+{
+    let parts = parts_of(b);
+    if has_empty_below(set, lengths, count, prefix, k, parts) {
+        return false;
+    }
+    is_live_at(set, lengths, count, prefix, k, parts)
+}
+
+// Whether the cell at the spacing is not empty: whether its first entries can be completed to an avoider.
+fn is_live_at(
+    set: [[u8; DIGITS]; PATTERNS],
+    lengths: [u8; PATTERNS],
+    count: usize,
+    prefix: [u8; PREFIX],
+    k: usize,
+    parts: [u8; COMPONENTS],
+) -> bool
+    requires { ⌜ (k ≤ 6) × (isPerm (take k prefix) ≡ true) × (total (take (k + 1) parts) ≤ 8) ⌝ }
+    ensures { λ r. ⌜ r ≡ not (isEmpty (cell (patternsOf set lengths count) (take k prefix) (take (k + 1) parts))) ⌝ }
+{
+    let levels = levels_of(parts, k);
+    let w = kept(prefix, k, levels, [0u8; 9]);
+    let entries = w.entries;
+    let n = k + wide(levels[k]) + wide(parts[k]);
+    completable(set, lengths, count, entries, k, n)
+}
+
+// Whether a vector of a smaller total, by rising total, shows that the cell is empty.
+fn has_empty_below(
+    set: [[u8; DIGITS]; PATTERNS],
+    lengths: [u8; PATTERNS],
+    count: usize,
+    prefix: [u8; PREFIX],
+    k: usize,
+    parts: [u8; COMPONENTS],
+) -> bool
+    requires { ⌜ (k ≤ 6) × (isPerm (take k prefix) ≡ true) ⌝ }
+    ensures { λ r. ⌜ ShowsEmpty (patternsOf set lengths count) (take k prefix) (take (k + 1) parts) r ⌝ }
+{
+    let mut t: usize = 0;
+    while t < TOTAL {
+        if sum_is(parts, k, t) {
+            return false;
+        }
+        if has_empty(set, lengths, count, prefix, k, parts, t) {
+            return true;
+        }
+        t += 1;
+    }
+    false
+}
+
+// Whether the first k + 1 components add up to t, or to more than they can.
+fn sum_is(parts: [u8; COMPONENTS], k: usize, t: usize) -> bool
+    requires { ⌜ k ≤ 6 ⌝ }
+{
+    let mut sum: usize = 0;
+    let mut i: usize = 0;
+    while i <= k {
+        sum += wide(parts[i]);
+        i += 1;
+    }
+    sum <= t
+}
+
+// Whether a vector of total t that is at most this one has an empty cell.
+fn has_empty(
+    set: [[u8; DIGITS]; PATTERNS],
+    lengths: [u8; PATTERNS],
+    count: usize,
+    prefix: [u8; PREFIX],
+    k: usize,
+    parts: [u8; COMPONENTS],
+    t: usize,
+) -> bool
+    requires { ⌜ (k ≤ 6) × (isPerm (take k prefix) ≡ true) × (t ≤ 8) ⌝ }
+    ensures { λ r. ⌜ ShowsEmpty (patternsOf set lengths count) (take k prefix) (take (k + 1) parts) r ⌝ }
+{
+    let mut g = first_spacing(k, t as u8);
+    loop {
+        if is_empty_below(set, lengths, count, prefix, k, parts, g) {
+            return true;
+        }
+        let next = next_spacing(g, k);
+        if !next.found {
+            return false;
+        }
+        g = next.g;
+    }
+}
+
+// Whether the vector g is at most this one and has an empty cell.
+fn is_empty_below(
+    set: [[u8; DIGITS]; PATTERNS],
+    lengths: [u8; PATTERNS],
+    count: usize,
+    prefix: [u8; PREFIX],
+    k: usize,
+    parts: [u8; COMPONENTS],
+    g: [u8; COMPONENTS],
+) -> bool
+    requires { ⌜ (k ≤ 6) × (isPerm (take k prefix) ≡ true) × (total (take (k + 1) g) ≤ 8) ⌝ }
+    ensures { λ r. ⌜ ShowsEmpty (patternsOf set lengths count) (take k prefix) (take (k + 1) parts) r ⌝ }
+{
+    if !at_least(parts, g, k) {
+        return false;
+    }
+    !is_live_at(set, lengths, count, prefix, k, g)
+}

@@ -1,0 +1,117 @@
+-- The parts of the verdict in their order, as the code has them in hand.
+-- Assumes nothing.
+use Prim.Native.Nat.{ℕ, zero, suc, _≤_, _<_}
+use native.Mathlib.Omega.{arith}
+use mathlib.Core.Path.{_≡_, refl, sym, ap, ap₂, _∙_}
+use mathlib.Core.Bool.{Bool, true, false}
+use mathlib.Core.List.{List, [], _∷_, _++_, List·Memᴰ}
+use lib.ListN.{length, take}
+use Rattle.word.specs.Word.{isPerm, longest}
+use Rattle.word.specs.Finding.{Finding, clean, firstFault}
+use Rattle.word.specs.declared.refusal.Refusal.the-variants.{LiveGap, Irreversible}
+use Rattle.word.specs.Containment.{patternsOf}
+use Rattle.cell.specs.Cell.{mOf}
+use Rattle.cell.specs.Basis.{basis, basisRows, basisLengths}
+use Rattle.cell.specs.BasisLaws.{basis-in}
+use Rattle.candidate.specs.BasisMemory.{basis-memory}
+use Rattle.scheme.specs.SchemeList.{EntryList}
+use Rattle.scheme.specs.WellFormed.{firstAt, patternTests, schemeTests}
+use Rattle.scheme.specs.SchemeMemory.{patternsIn, schemeIn, faultOf}
+use Rattle.scheme.specs.TestOrder.{orElse, faulty}
+use Rattle.scheme.specs.declared.memory.Patterns.{Patterns}
+use Rattle.scheme.specs.declared.memory.Scheme.{Scheme}
+use Rattle.scheme.specs.declared.memory.Fault.{Fault}
+use Rattle.scheme.specs.declared.memory.Fault.the-variants.{Clean, At}
+use Rattle.scheme.specs.TestLaws.{clean-of}
+use Rattle.wellformed.proofs.OrderLaws.{or-else-fault, or-else-clean, not-faulty, two-faults}
+use Rattle.verdict.specs.Verdict.{claimTests, comparedCells, answered, verdictOf}
+use Rattle.verdict.specs.Truth.{WellFormed}
+use Rattle.claims.specs.EntryMemory.{ProperSet}
+use Rattle.judge.specs.SetMemory.{HasDigits, HasLengths, ProperScheme, ComparesCells}
+use Rattle.judge.specs.SetLaws.{set-holds}
+use Rattle.judge.specs.JudgementLaws.{verdict-parts, live-same, differs-same, basis-shorter, refused-answer}
+use Rattle.judge.proofs.EntriesLaws.{liveEntry, differingEntry}
+
+-- the earlier of two findings, where the first decides and where it does not
+pub earlier-first : (f a b : Fault) → f ≡ a → faulty f ≡ true → f ≡ orElse a b
+earlier-first f a b e h = sym (or-else-fault f b h) ∙ ap (λ (x : Fault). orElse x b) e
+
+pub earlier-second : (f a b : Fault) → f ≡ a → faulty f ≡ false → b ≡ orElse a b
+earlier-second f a b e h = sym (or-else-clean a b (ap faulty (sym e) ∙ h))
+
+module _ (P : List (List ℕ)) (E : List EntryList) where
+  module _ (formed : Fault) (is : formed ≡ orElse (faultOf (firstFault (patternTests P))) (faultOf (firstFault (schemeTests E)))) where
+    -- a list that is not well-formed is refused
+    pub verdict-refused : faulty formed ≡ true → answered formed 0 ≡ verdictOf P E
+    verdict-refused h =
+        refused-answer formed 0 (comparedCells P E) h ∙
+        ap (λ (f : Fault). answered f (comparedCells P E)) (earlier-first formed _ (faultOf (firstFault (claimTests P E))) is h ∙ sym (verdict-parts P E))
+
+    -- the others are well-formed, and their claims decide
+    pub formed-well : faulty formed ≡ false → WellFormed P E
+    formed-well h =
+        let none = not-faulty formed h in
+        let parts = both (faultOf (firstFault (patternTests P))) (faultOf (firstFault (schemeTests E))) (sym is ∙ none) in
+        record { patterns = clean-of (firstFault (patternTests P)) (parts .0); scheme = clean-of (firstFault (schemeTests E)) (parts .1) }
+      where
+        both : (a b : Fault) → orElse a b ≡ Clean → (a ≡ Clean) × (b ≡ Clean)
+        both Clean b e = (refl, e)
+        both (At r i) b e = let z : _≡_ {A = ℕ} 0 1 = cc in absurd (omega arith)
+
+    pub verdict-claims : faulty formed ≡ false → answered (faultOf (firstFault (claimTests P E))) (comparedCells P E) ≡ verdictOf P E
+    verdict-claims h =
+        ap (λ (f : Fault). answered f (comparedCells P E)) (earlier-second formed _ (faultOf (firstFault (claimTests P E))) is h ∙ sym (verdict-parts P E))
+
+-- a set has no more patterns than its count
+patterns-few : (rows : List (List ℕ)) (lengths : List ℕ) (n : ℕ) → length (patternsOf rows lengths n) ≤ n
+patterns-few rows lengths zero = omega arith
+patterns-few [] lengths (suc n) = omega arith
+patterns-few (r ∷ rows) [] (suc n) = omega arith
+patterns-few (r ∷ rows) (k ∷ lengths) (suc n) = omega (arith, patterns-few rows lengths n)
+
+-- The basis of a set, as the code makes it.
+module _ (set : List (List ℕ)) (lengths : List ℕ) (count : ℕ) (q : ProperSet set lengths count) (rows : List (List ℕ)) (sizes : List ℕ) (n : ℕ)
+    (hn : n ≡ length (basis (patternsOf set lengths count)))
+    (hr : take (length (basis (patternsOf set lengths count))) rows ≡ basisRows set lengths count)
+    (hs : take (length (basis (patternsOf set lengths count))) sizes ≡ basisLengths set lengths count) where
+  basis-holds : patternsOf rows sizes n ≡ basis (patternsOf set lengths count)
+  basis-holds = basis-memory set lengths count rows sizes n hn hr hs
+
+  pub basis-proper : ProperSet rows sizes n
+  basis-proper =
+      record {
+        few = omega (arith, hn, basis-shorter (patternsOf set lengths count), patterns-few set lengths count, q .few);
+        perms = λ (β : List ℕ) (m : List·Memᴰ β (patternsOf rows sizes n)). q .perms β (basis-in (patternsOf set lengths count) (rw basis-holds at m));
+      }
+
+  module _ (s : Scheme) (p : ProperScheme s) (live : Fault) (is : live ≡ faultOf (firstAt LiveGap (liveEntry (patternsOf rows sizes n)) 0 (schemeIn s))) where
+    live-is : live ≡ faultOf (firstAt LiveGap (liveEntry (patternsOf set lengths count)) 0 (schemeIn s))
+    live-is =
+        is ∙ ap (λ (Q : List (List ℕ)). faultOf (firstAt LiveGap (liveEntry Q) 0 (schemeIn s))) basis-holds ∙
+        ap faultOf (live-same (patternsOf set lengths count) (q .perms) s p)
+
+    tests-parts : faultOf (firstFault (claimTests (patternsOf set lengths count) (schemeIn s))) ≡
+        orElse (faultOf (firstAt LiveGap (liveEntry (patternsOf set lengths count)) 0 (schemeIn s)))
+        (faultOf (firstAt Irreversible (differingEntry (patternsOf set lengths count)) 0 (schemeIn s)))
+    tests-parts =
+        two-faults (firstAt LiveGap (liveEntry (patternsOf set lengths count)) 0 (schemeIn s))
+        (firstAt Irreversible (differingEntry (patternsOf set lengths count)) 0 (schemeIn s))
+
+    -- the earlier of the two findings on the basis is that of the tests
+    pub claims-found : (lost : Fault) → orElse live lost ≡ orElse live (faultOf (firstAt Irreversible (differingEntry (patternsOf rows sizes n)) 0 (schemeIn s))) →
+        orElse live lost ≡ faultOf (firstFault (claimTests (patternsOf set lengths count) (schemeIn s)))
+    claims-found lost e =
+        e ∙
+        ap₂ orElse live-is
+        (ap (λ (Q : List (List ℕ)). faultOf (firstAt Irreversible (differingEntry Q) 0 (schemeIn s))) basis-holds ∙
+        ap faultOf (differs-same (patternsOf set lengths count) (q .perms) s p)) ∙
+        sym tests-parts
+
+-- the answer on the claims, from the set in memory
+pub claims-answer : (patterns : Patterns) (s : Scheme) (Q : List (List ℕ)) (f : Fault) (m cells : ℕ) → Q ≡ patternsIn patterns →
+    f ≡ faultOf (firstFault (claimTests Q (schemeIn s))) → m ≡ longest Q → ComparesCells m s cells →
+    answered f cells ≡ answered (faultOf (firstFault (claimTests (patternsIn patterns) (schemeIn s)))) (comparedCells (patternsIn patterns) (schemeIn s))
+unfolding mOf
+claims-answer patterns s Q f m cells holds e is c =
+    ap₂ answered (e ∙ ap (λ (P : List (List ℕ)). faultOf (firstFault (claimTests P (schemeIn s)))) holds)
+    (c (patternsIn patterns) (ap longest (sym holds) ∙ sym is))

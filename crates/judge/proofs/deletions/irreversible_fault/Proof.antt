@@ -1,0 +1,82 @@
+-- `judge::deletions::irreversible_fault` meets its contract: the first entry at fault is the first one from the index on.
+-- Assumes nothing.
+use borrow.Author.Needs.{needs}
+use Prim.Native.Nat.{_-_, _≤_}
+use mathlib.Core.Path.{_≡_, sym, ap, _∙_}
+use native.Mathlib.Omega.{arith}
+use Rattle.word.specs.Containment.{patternsOf}
+use Rattle.word.specs.declared.refusal.Refusal.the-variants.{Irreversible}
+use Rattle.scheme.specs.WellFormed.{firstAt}
+use Rattle.scheme.specs.SchemeMemory.{schemeIn, faultOf}
+use Rattle.scheme.specs.TestLaws.{from, first-start, first-here, first-later, first-end}
+use Rattle.scheme.specs.SchemeMemory.{entryAt}
+use Rattle.judge.proofs.EntriesLaws.{differingEntry}
+use Rattle.judge.proofs.deletions.irreversible_fault.Statement.{statement}
+use Rattle.judge.proofs.deletions.irreversible_fault.Tie as tie
+
+abbrev Inv-loop : tie.InvT-loop
+Inv-loop set lengths count s n i₀ i = (n ≤ 128) × (i ≤ n) × (firstAt Irreversible (differingEntry (patternsOf set lengths count)) 0 (schemeIn s) ≡ firstAt Irreversible (differingEntry (patternsOf set lengths count)) i (from (entryAt s) n i))
+
+abbrev μ-loop : tie.MeasureT-loop
+μ-loop set lengths count s n i₀ i = n - i
+
+loop-holds : tie.Need-loop-holds Inv-loop μ-loop
+loop-holds c =
+    let a = c .args in
+    let P = patternsOf (a .set) (a .lengths) (a .count) in
+    (c .pre .1 .few, omega arith, first-start Irreversible (differingEntry P) (entryAt (a .t4)) (a .t4 .count))
+
+mul-e : tie.Need-mul-e Inv-loop μ-loop
+mul-e c = search needs
+
+element-copy-out-e : tie.Need-element-copy-out-e Inv-loop μ-loop
+element-copy-out-e c = search needs
+
+is-irreversible-requires : tie.Need-is-irreversible-requires Inv-loop μ-loop
+is-irreversible-requires c κs =
+    let l = c .before .before .loop in
+    let q = c .before .before .before .pre in
+    (q .0, q .1 .each (l .i) (omega arith))
+
+returns : tie.Need-returns Inv-loop μ-loop
+returns c =
+    let a = c .before .before .before .before .before .args in
+    let l = c .before .before .before .before .loop in
+    let P = patternsOf (a .set) (a .lengths) (a .count) in
+    sym (ap faultOf (l .inv .2 ∙ first-here Irreversible (differingEntry P) (entryAt (a .t4)) (a .t4 .count) (l .i) (omega arith) (sym (c .before .is-irreversible .ensures) ∙ c .if1 .taken)))
+
+add-i : tie.Need-add-i Inv-loop μ-loop
+add-i c = search needs
+
+loop-less : tie.Need-loop-less Inv-loop μ-loop
+loop-less c = search needs
+
+loop-again : tie.Need-loop-again Inv-loop μ-loop
+loop-again c =
+    let a = c .before .before .before .before .before .args in
+    let l = c .before .before .before .before .loop in
+    let P = patternsOf (a .set) (a .lengths) (a .count) in
+    (l .inv .0, omega arith, l .inv .2 ∙ first-later Irreversible (differingEntry P) (entryAt (a .t4)) (a .t4 .count) (l .i) (omega arith) (sym (c .before .is-irreversible .ensures) ∙ c .if1 .left))
+
+returns-2 : tie.Need-returns-2 Inv-loop μ-loop
+returns-2 c =
+    let a = c .before .before .args in
+    let l = c .before .loop in
+    let P = patternsOf (a .set) (a .lengths) (a .count) in
+    sym (ap faultOf (l .inv .2 ∙ first-end Irreversible (differingEntry P) (entryAt (a .t4)) (a .t4 .count) (l .i) (omega arith)))
+
+pub irreversible-fault-spec : {M : Type 1} → statement M
+irreversible-fault-spec =
+    tie.close
+    (tie.spec
+    Inv-loop
+    μ-loop
+    loop-holds
+    mul-e
+    element-copy-out-e
+    is-irreversible-requires
+    returns
+    add-i
+    loop-less
+    loop-again
+    returns-2)

@@ -1,0 +1,53 @@
+-- `judge::judging::judge` meets its contract: the verdict by its parts, and the theorem on it.
+-- Assumes nothing.
+use mathlib.Core.Path.{sym, _∙_}
+use Rattle.scheme.specs.SchemeMemory.{patternsIn, schemeIn}
+use Rattle.judge.specs.JudgementLaws.{judges}
+use Rattle.judge.proofs.JudgeLaws.{verdict-refused, formed-well, verdict-claims}
+use borrow.Author.Needs.{needs}
+use Rattle.judge.proofs.judging.judge.Statement.{statement}
+use Rattle.judge.proofs.judging.judge.Tie as tie
+
+formed-fault-requires : tie.Need-formed-fault-requires
+formed-fault-requires c κs = search needs
+
+is-fault-requires : tie.Need-is-fault-requires
+is-fault-requires c κs = search needs
+
+answer-requires : tie.Need-answer-requires
+answer-requires c κs = search needs
+
+returns : tie.Need-returns
+returns c =
+    let a = c .before .before .before .before .args in
+    let f = c .before .before .before .formed-fault in
+    let P = patternsIn (a .patterns) in
+    let E = schemeIn (a .scheme) in
+    judges P E (c .answer .result)
+    (c .answer .ensures ∙ verdict-refused P E (f .result) (f .ensures) (sym (c .before .before .is-fault .ensures) ∙ c .before .if1 .taken))
+
+judge-claims-requires : tie.Need-judge-claims-requires
+judge-claims-requires c κs =
+    let a = c .before .before .before .args in
+    let f = c .before .before .formed-fault in
+    formed-well (patternsIn (a .patterns)) (schemeIn (a .scheme)) (f .result) (f .ensures) (sym (c .before .is-fault .ensures) ∙ c .if1 .left)
+
+returns-2 : tie.Need-returns-2
+returns-2 c =
+    let a = c .before .before .before .before .args in
+    let f = c .before .before .before .formed-fault in
+    let P = patternsIn (a .patterns) in
+    let E = schemeIn (a .scheme) in
+    judges P E (c .judge-claims .result)
+    (c .judge-claims .ensures ∙ verdict-claims P E (f .result) (f .ensures) (sym (c .before .before .is-fault .ensures) ∙ c .before .if1 .left))
+
+pub judge-spec : {M : Type 1} → statement M
+judge-spec =
+    tie.close
+    (tie.spec
+    formed-fault-requires
+    is-fault-requires
+    answer-requires
+    returns
+    judge-claims-requires
+    returns-2)

@@ -1,0 +1,67 @@
+-- `judge::sets::lengths_of` meets its contract: the numbers up to the index are the lengths of their patterns.
+-- Assumes nothing.
+use borrow.Author.Needs.{needs}
+use Prim.Native.Nat.{ℕ, _-_, _%_, _≤_, _<_}
+use mathlib.Core.Path.{_≡_, refl, _∙_}
+use native.Mathlib.Omega.{arith}
+use lib.ListN.{length, getD, length-set}
+use Rattle.scheme.specs.SchemeMemory.{noPattern}
+use Rattle.claims.specs.EntryMemoryLaws.{rows-more}
+use Rattle.judge.proofs.sets.lengths_of.Statement.{statement}
+use Rattle.judge.proofs.sets.lengths_of.Tie as tie
+
+abbrev Inv-loop : tie.InvT-loop
+Inv-loop s lengths₀ i₀ lengths i = (length lengths ≡ 24) × (i ≤ 24) × ((j : ℕ) → j < i → getD lengths j 0 ≡ (getD (s .items) j noPattern) .length % 256)
+
+abbrev μ-loop : tie.MeasureT-loop
+μ-loop s lengths₀ i₀ lengths i = 24 - i
+
+loop-holds : tie.Need-loop-holds Inv-loop μ-loop
+loop-holds c = (refl, omega arith, λ i h. absurd (omega arith))
+
+mul-p : tie.Need-mul-p Inv-loop μ-loop
+mul-p c = search needs
+
+element-copy-out-p : tie.Need-element-copy-out-p Inv-loop μ-loop
+element-copy-out-p c = search needs
+
+length-of-requires : tie.Need-length-of-requires Inv-loop μ-loop
+length-of-requires c κs = search needs
+
+array-write-lengths : tie.Need-array-write-lengths Inv-loop μ-loop
+array-write-lengths c = search needs
+
+add-i : tie.Need-add-i Inv-loop μ-loop
+add-i c = search needs
+
+loop-less : tie.Need-loop-less Inv-loop μ-loop
+loop-less c = search needs
+
+loop-again : tie.Need-loop-again Inv-loop μ-loop
+loop-again c =
+    let l = c .before .before .before .loop in
+    let items = c .before .before .before .before .args .t1 .items in (
+      length-set (l .lengths) (l .i) (c .length-of .result) ∙ l .inv .0,
+      omega arith,
+      rows-more (λ (j : ℕ) (x : ℕ). x ≡ (getD items j noPattern) .length % 256) (l .lengths) 0 (l .i) (c .length-of .result)
+          (omega (arith, l .inv .0)) (c .length-of .ensures) (l .inv .2),
+    )
+
+returns : tie.Need-returns Inv-loop μ-loop
+returns c = λ j h. c .before .loop .inv .2 j (omega arith)
+
+pub lengths-of-spec : {M : Type 1} → statement M
+lengths-of-spec =
+    tie.close
+    (tie.spec
+    Inv-loop
+    μ-loop
+    loop-holds
+    mul-p
+    element-copy-out-p
+    length-of-requires
+    array-write-lengths
+    add-i
+    loop-less
+    loop-again
+    returns)

@@ -1,0 +1,72 @@
+-- `judge::sets::rows_of` meets its contract: the rows up to the index have the digits of their patterns.
+-- Assumes nothing.
+use borrow.Author.Needs.{needs}
+use Prim.Native.Nat.{ℕ, _-_, _≤_, _<_}
+use mathlib.Core.Path.{_≡_, refl, _∙_}
+use mathlib.Core.List.{List, []}
+use native.Mathlib.Omega.{arith}
+use lib.ListN.{length, getD, length-set}
+use Rattle.scheme.specs.SchemeMemory.{noPattern}
+use Rattle.claims.specs.EntryMemoryLaws.{rows-more}
+use Rattle.judge.proofs.sets.rows_of.Statement.{statement}
+use Rattle.judge.proofs.sets.rows_of.Tie as tie
+
+abbrev Inv-loop : tie.InvT-loop
+Inv-loop s rows₀ i₀ rows i = (length rows ≡ 24) × (i ≤ 24) × ((j : ℕ) → j < i → (getD rows j [] ≡ (getD (s .items) j noPattern) .digits) × (length (getD rows j []) ≡ 8))
+
+abbrev μ-loop : tie.MeasureT-loop
+μ-loop s rows₀ i₀ rows i = 24 - i
+
+loop-holds : tie.Need-loop-holds Inv-loop μ-loop
+loop-holds c = (refl, omega arith, λ i h. absurd (omega arith))
+
+mul-p : tie.Need-mul-p Inv-loop μ-loop
+mul-p c = search needs
+
+element-copy-out-p : tie.Need-element-copy-out-p Inv-loop μ-loop
+element-copy-out-p c = search needs
+
+digits-of-requires : tie.Need-digits-of-requires Inv-loop μ-loop
+digits-of-requires c κs = search needs
+
+mul-rows : tie.Need-mul-rows Inv-loop μ-loop
+mul-rows c = search needs
+
+array-set-from-rows : tie.Need-array-set-from-rows Inv-loop μ-loop
+array-set-from-rows c = search needs
+
+add-i : tie.Need-add-i Inv-loop μ-loop
+add-i c = search needs
+
+loop-less : tie.Need-loop-less Inv-loop μ-loop
+loop-less c = search needs
+
+loop-again : tie.Need-loop-again Inv-loop μ-loop
+loop-again c =
+    let l = c .before .before .before .loop in
+    let items = c .before .before .before .before .args .t1 .items in (
+      length-set (l .rows) (l .i) (c .digits-of .result) ∙ l .inv .0,
+      omega arith,
+      rows-more (λ (j : ℕ) (x : List ℕ). (x ≡ (getD items j noPattern) .digits) × (length x ≡ 8)) (l .rows) [] (l .i) (c .digits-of .result)
+          (omega (arith, l .inv .0)) (c .digits-of .ensures) (l .inv .2),
+    )
+
+returns : tie.Need-returns Inv-loop μ-loop
+returns c = λ j h. c .before .loop .inv .2 j (omega arith)
+
+pub rows-of-spec : {M : Type 1} → statement M
+rows-of-spec =
+    tie.close
+    (tie.spec
+    Inv-loop
+    μ-loop
+    loop-holds
+    mul-p
+    element-copy-out-p
+    digits-of-requires
+    mul-rows
+    array-set-from-rows
+    add-i
+    loop-less
+    loop-again
+    returns)

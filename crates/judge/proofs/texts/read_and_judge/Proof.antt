@@ -1,0 +1,59 @@
+-- `judge::texts::read_and_judge` meets its contract: what reading found decides, and then the claims.
+-- Assumes nothing.
+use mathlib.Core.Path.{sym, _∙_}
+use Rattle.judge.specs.TextLaws.{refused-texts, texts-formed, judged-texts}
+use borrow.Author.Needs.{needs}
+use Rattle.judge.proofs.texts.read_and_judge.Statement.{statement}
+use Rattle.judge.proofs.texts.read_and_judge.Tie as tie
+
+read-patterns-requires : tie.Need-read-patterns-requires
+read-patterns-requires c κs = search needs
+
+read-scheme-requires : tie.Need-read-scheme-requires
+read-scheme-requires c κs = search needs
+
+earlier-requires : tie.Need-earlier-requires
+earlier-requires c κs = search needs
+
+is-fault-requires : tie.Need-is-fault-requires
+is-fault-requires c κs = search needs
+
+answer-requires : tie.Need-answer-requires
+answer-requires c κs = search needs
+
+returns : tie.Need-returns
+returns c =
+    let p = c .before .before .before .before .before .before .before .read-patterns in
+    let q = c .before .before .before .before .before .before .read-scheme in
+    let f = c .before .before .before .earlier in
+    refused-texts _ _ (p .result) (p .ensures .0) (p .ensures .1) (q .result) (q .ensures .0) (q .ensures .1) (f .result) (f .ensures)
+    (sym (c .before .before .is-fault .ensures) ∙ c .before .if1 .taken) (c .answer .result) (c .answer .ensures)
+
+judge-claims-requires : tie.Need-judge-claims-requires
+judge-claims-requires c κs =
+    let p = c .before .before .before .before .before .before .read-patterns in
+    let q = c .before .before .before .before .before .read-scheme in
+    let f = c .before .before .earlier in
+    texts-formed _ _ (p .result) (p .ensures .0) (p .ensures .1) (q .result) (q .ensures .0) (q .ensures .1) (f .result) (f .ensures)
+    (sym (c .before .is-fault .ensures) ∙ c .if1 .left)
+
+returns-2 : tie.Need-returns-2
+returns-2 c =
+    let p = c .before .before .before .before .before .before .before .read-patterns in
+    let q = c .before .before .before .before .before .before .read-scheme in
+    let f = c .before .before .before .earlier in
+    judged-texts _ _ (p .result) (p .ensures .0) (p .ensures .1) (q .result) (q .ensures .0) (q .ensures .1) (f .result) (f .ensures)
+    (sym (c .before .before .is-fault .ensures) ∙ c .before .if1 .left) (c .judge-claims .result) (c .judge-claims .ensures)
+
+pub read-and-judge-spec : {M : Type 1} → statement M
+read-and-judge-spec =
+    tie.close
+    (tie.spec
+    read-patterns-requires
+    read-scheme-requires
+    earlier-requires
+    is-fault-requires
+    answer-requires
+    returns
+    judge-claims-requires
+    returns-2)

@@ -1,0 +1,119 @@
+-- Laws of judging: the tests on the basis are those on the set, and the parts of the verdict.
+use Prim.Native.Nat.{ℕ, suc, _≤_, _<_}
+use native.Mathlib.Omega.{arith}
+use mathlib.Core.Path.{_≡_, refl, sym, ap, ap₂, _∙_, fun-ext}
+use mathlib.Core.Bool.{Bool, true, false, not, cond}
+use mathlib.Core.List.{List, [], _∷_, _++_, map, List·Memᴰ, List·Memᴰ·head, List·Memᴰ·tail, Memᴰ·of-map}
+use mathlib.Core.Logic.{_↔_}
+use lib.ListN.{length, getD}
+use Rattle.word.specs.Lists.{any, row}
+use Rattle.word.specs.Word.{isPerm}
+use Rattle.word.specs.ListLaws.{row-out}
+use Rattle.word.specs.Finding.{Finding, clean, fault, firstFault}
+use Rattle.word.specs.declared.refusal.Refusal.{Refusal}
+use Rattle.word.specs.declared.refusal.Refusal.the-variants.{LiveGap, Irreversible}
+use Rattle.word.specs.Containment.{patternsOf}
+use Rattle.cell.specs.Cell.{cell}
+use Rattle.cell.specs.Basis.{basis}
+use Rattle.cell.specs.BasisLaws.{basis-in, basis-cell, basis-deletion}
+use Rattle.cell.specs.BinomialLaws.{keep-shorter}
+use Rattle.scheme.specs.SchemeList.{Does, expands, deletes, EntryList}
+use Rattle.scheme.specs.WellFormed.{firstAt, outside, patternTests, schemeTests}
+use Rattle.scheme.specs.SchemeMemory.{noEntry, entryIn, schemeIn, faultOf}
+use Rattle.scheme.specs.TestOrder.{orElse, faulty}
+use Rattle.scheme.specs.declared.memory.Scheme.{Scheme}
+use Rattle.scheme.specs.declared.memory.Fault.{Fault}
+use Rattle.scheme.specs.declared.memory.Fault.the-variants.{Clean, At}
+use Rattle.wellformed.proofs.OrderLaws.{faults-append}
+use Rattle.verdict.specs.Verdict.{isEmpty, liveGap, differs, claimTests, comparedCells, judgeTests, answered, verdictOf, accepted}
+use Rattle.verdict.specs.Truth.{WellFormed, RuleClaim, AllTrue}
+use Rattle.verdict.specs.FindingLaws.{same-failure}
+use Rattle.verdict.specs.ProperLaws.{ProperEntry}
+use Rattle.verdict.specs.VerdictLaws.{differs-law, accepted-exactly}
+use Rattle.verdict.specs.declared.answer.Verdict.{Verdict}
+use Rattle.verdict.specs.declared.answer.Verdict.the-variants.{Accepted, Refused}
+use Rattle.judge.specs.SetMemory.{ProperScheme}
+use Rattle.judge.specs.Judgement.{Judges}
+
+-- tests that agree on the items find the same
+pub first-same : {A : Type 0} (r : Refusal) (f g : A → Bool) (i : ℕ) (l : List A) → ((x : A) → List·Memᴰ x l → f x ≡ g x) → firstAt r f i l ≡ firstAt r g i l
+first-same r f g i [] h = refl
+first-same r f g i (x ∷ l) h =
+    ap₂ (λ (b : Bool) (y : Finding). cond b (fault r i) y) (h x (List·Memᴰ·head refl)) (first-same r f g (suc i) l (λ y m. h y (List·Memᴰ·tail m)))
+
+module _ (P : List (List ℕ)) (perms : (β : List ℕ) → List·Memᴰ β P → isPerm β ≡ true) where
+  live-basis : (p : List ℕ) (B : List (List ℕ)) → liveGap (basis P) p B ≡ liveGap P p B
+  unfolding liveGap
+  live-basis p B = ap (λ (f : List ℕ → Bool). any f B) (fun-ext (λ b. ap (λ (l : List (List ℕ)). not (isEmpty l)) (sym (basis-cell P perms p b))))
+
+  rule-basis : (p : List ℕ) (B : List (List ℕ)) (rule : Does) → RuleClaim (basis P) p B rule ↔ RuleClaim P p B rule
+  rule-basis p B expands = (λ h. h, λ h. h)
+  rule-basis p B (deletes r) = let (there, back) = basis-deletion P perms p B (r ∷ []) in (back, there)
+
+  differs-basis : (p : List ℕ) (B : List (List ℕ)) (rule : Does) → isPerm p ≡ true → outside (length p) rule ≡ false →
+      differs (basis P) p B rule ≡ differs P p B rule
+  differs-basis p B rule perm inside =
+      let (there, back) = rule-basis p B rule in
+      let (up, down) = differs-law (basis P) p B rule perm inside in
+      same-failure (differs (basis P) p B rule) (differs P p B rule) (λ e. there (up e), λ h. down (back h)) (differs-law P p B rule perm inside)
+
+  -- each entry of a proper scheme
+  entry-of : (s : Scheme) → ProperScheme s → (e : EntryList) → List·Memᴰ e (schemeIn s) → ProperEntry e
+  entry-of s q e m =
+      let (i, n, is) = Memᴰ·of-map (λ j. entryIn (getD (s .entries) j noEntry)) (row 0 (s .count)) m in
+      rw (← is) (q .each i (omega (arith, row-out 0 (s .count) n)))
+
+  module _ (s : Scheme) (q : ProperScheme s) where
+    -- the tests on the basis are those on the set
+    pub live-same : firstAt LiveGap (λ (e : EntryList). liveGap (basis P) (e .prefix) (e .gaps)) 0 (schemeIn s) ≡
+        firstAt LiveGap (λ (e : EntryList). liveGap P (e .prefix) (e .gaps)) 0 (schemeIn s)
+    live-same =
+        first-same LiveGap (λ (e : EntryList). liveGap (basis P) (e .prefix) (e .gaps)) (λ (e : EntryList). liveGap P (e .prefix) (e .gaps)) 0 (schemeIn s)
+        (λ e m. live-basis (e .prefix) (e .gaps))
+
+    pub differs-same : firstAt Irreversible (λ (e : EntryList). differs (basis P) (e .prefix) (e .gaps) (e .rule)) 0 (schemeIn s) ≡
+        firstAt Irreversible (λ (e : EntryList). differs P (e .prefix) (e .gaps) (e .rule)) 0 (schemeIn s)
+    differs-same =
+        first-same Irreversible (λ (e : EntryList). differs (basis P) (e .prefix) (e .gaps) (e .rule)) (λ (e : EntryList). differs P (e .prefix) (e .gaps) (e .rule))
+        0 (schemeIn s)
+        (λ e m. differs-basis (e .prefix) (e .gaps) (e .rule) (entry-of s q e m .perm) (entry-of s q e m .inside))
+
+-- the basis is no larger than the set
+pub basis-shorter : (P : List (List ℕ)) → length (basis P) ≤ length P
+unfolding basis
+basis-shorter P = keep-shorter (Rattle.cell.specs.Basis.basic P) P
+
+-- the first of three findings
+pub or-else-assoc : (a b c : Fault) → orElse a (orElse b c) ≡ orElse (orElse a b) c
+or-else-assoc Clean b c = refl
+or-else-assoc (At r i) b c = refl
+
+-- the tests of the patterns, of the scheme, of the claims
+pub verdict-parts : (P : List (List ℕ)) (E : List EntryList) → faultOf (firstFault (judgeTests P E)) ≡
+    orElse (orElse (faultOf (firstFault (patternTests P))) (faultOf (firstFault (schemeTests E)))) (faultOf (firstFault (claimTests P E)))
+verdict-parts P E =
+    faults-append (patternTests P) (schemeTests E ++ claimTests P E) ∙
+    ap (orElse (faultOf (firstFault (patternTests P)))) (faults-append (schemeTests E) (claimTests P E)) ∙
+    or-else-assoc (faultOf (firstFault (patternTests P))) (faultOf (firstFault (schemeTests E))) (faultOf (firstFault (claimTests P E)))
+
+-- an answer by its fault: a refusal does not ask for the cells
+pub refused-answer : (f : Fault) (m n : ℕ) → faulty f ≡ true → answered f m ≡ answered f n
+refused-answer Clean m n e = let z : _≡_ {A = ℕ} 0 1 = cc in absurd (omega arith)
+refused-answer (At r i) m n e = refl
+
+-- what an equation with the verdict promises
+pub judges : (P : List (List ℕ)) (E : List EntryList) (r : Verdict) → r ≡ verdictOf P E → Judges P E r
+judges P E r e =
+    record {
+      verdict = e;
+      exactly = rw e (accepted-exactly P E);
+      cells = λ n q. read (faultOf (firstFault (judgeTests P E))) (comparedCells P E) n (sym e ∙ q);
+    }
+  where
+    cellsIn : Verdict → ℕ
+    cellsIn (Accepted n) = n
+    cellsIn (Refused r i) = 0
+
+    read : (f : Fault) (m n : ℕ) → answered f m ≡ Accepted n → n ≡ m
+    read Clean m n q = sym (ap cellsIn q)
+    read (At r i) m n q = let z : _≡_ {A = Bool} false true = ap accepted q in absurd (Rattle.word.specs.ListLaws.true-not-false (sym z))

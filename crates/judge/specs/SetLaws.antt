@@ -1,0 +1,79 @@
+-- A set of patterns in memory as containment takes it holds the patterns; a well-formed scheme is proper.
+use Prim.Native.Nat.{ℕ, zero, suc, _%_, _≤_, _<_}
+use native.Mathlib.Omega.{arith}
+use mathlib.Core.Path.{_≡_, refl, sym, ap, ap₂, _∙_}
+use mathlib.Core.Bool.{true}
+use mathlib.Core.List.{List, [], _∷_, map, List·Memᴰ, Memᴰ·map}
+use lib.ListN.{length, getD, take}
+use Rattle.word.specs.Lists.{row}
+use Rattle.word.specs.Word.{isPerm}
+use Rattle.word.specs.ListLaws.{map-same, row-out, row-in}
+use Rattle.word.specs.Finding.{clean, firstFault}
+use Rattle.word.specs.Containment.{patternsOf}
+use Rattle.candidate.specs.Ready.{patternAt}
+use Rattle.scheme.specs.WellFormed.{patternTests, schemeTests}
+use Rattle.scheme.specs.SchemeMemory.{padded, noPattern, noEntry, patternIn, patternsIn, entryIn, schemeIn}
+use Rattle.scheme.specs.MemoryLaws.{padded-within, length-padded}
+use Rattle.scheme.specs.TestLaws.{length-items}
+use Rattle.scheme.specs.declared.memory.Patterns.{Patterns}
+use Rattle.scheme.specs.declared.memory.Scheme.{Scheme}
+use Rattle.verdict.specs.ProperLaws.{ProperPattern, few-patterns, proper-pattern, few-entries, proper-entry}
+use Rattle.claims.specs.EntryMemory.{ProperSet}
+use Rattle.judge.specs.SetMemory.{HasDigits, HasLengths, ProperScheme}
+
+-- the patterns of a set, place by place
+patterns-row : (rows : List (List ℕ)) (lengths : List ℕ) (n : ℕ) → n ≤ length rows → n ≤ length lengths →
+    patternsOf rows lengths n ≡ map (patternAt rows lengths) (row 0 n)
+patterns-row rows lengths zero h k = refl
+patterns-row [] lengths (suc n) h k = absurd (omega arith)
+patterns-row (r ∷ rows) [] (suc n) h k = absurd (omega arith)
+patterns-row (r ∷ rows) (x ∷ lengths) (suc n) h k = ap (λ u. take x r ∷ u) (patterns-row rows lengths n (omega arith) (omega arith) ∙ later 0 n)
+  where
+    later : (a n : ℕ) → map (patternAt rows lengths) (row a n) ≡ map (patternAt (r ∷ rows) (x ∷ lengths)) (row (suc a) n)
+    later a zero = refl
+    later a (suc n) = ap (λ u. patternAt rows lengths a ∷ u) (later (suc a) n)
+
+module _ (s : Patterns) (formed : firstFault (patternTests (patternsIn s)) ≡ clean) where
+  few : s .count ≤ 24
+  few = omega (arith, few-patterns (patternsIn s) formed, length-items (λ i. patternIn (getD (s .items) i noPattern)) (s .count))
+
+  short : (i : ℕ) → i < s .count → (getD (s .items) i noPattern) .length ≤ 8
+  short i h =
+      let p = getD (s .items) i noPattern in
+      let q = proper-pattern (patternsIn s) formed (patternIn p)
+      (Memᴰ·map (λ j. patternIn (getD (s .items) j noPattern)) (row-in 0 (s .count) i (omega arith) (omega arith))) in
+      omega (arith, q .short, length-padded (p .length) (p .digits))
+
+  module _ (rows : List (List ℕ)) (lengths : List ℕ) (hr : length rows ≡ 24) (hl : length lengths ≡ 24) (has : HasDigits (s .items) rows) (sizes : HasLengths (s .items) lengths) where
+    -- the arrays hold the patterns
+    pub set-holds : patternsOf rows lengths (s .count) ≡ patternsIn s
+    set-holds =
+        patterns-row rows lengths (s .count) (omega (arith, few, hr)) (omega (arith, few, hl)) ∙
+        map-same (patternAt rows lengths) (λ i. patternIn (getD (s .items) i noPattern)) (row 0 (s .count))
+        (λ (i : ℕ) (m : List·Memᴰ i (row 0 (s .count))). at i (omega (arith, row-out 0 (s .count) m)))
+      where
+        at : (i : ℕ) → i < s .count → patternAt rows lengths i ≡ patternIn (getD (s .items) i noPattern)
+        at i h =
+            let p = getD (s .items) i noPattern in
+            let (same, eight) = has i (omega (arith, few)) in
+            let low = short i h in
+            let size : getD lengths i 0 ≡ p .length = sizes i (omega (arith, few)) ∙ omega arith in
+            let d : length (p .digits) ≡ 8 = sym (ap length same) ∙ eight in
+            ap₂ take size same ∙ sym (padded-within (p .length) (p .digits) (omega (arith, d)))
+
+    pub proper-set : ProperSet rows lengths (s .count)
+    proper-set =
+        record {
+          few = few;
+          perms = λ (β : List ℕ) (m : List·Memᴰ β (patternsOf rows lengths (s .count))). proper-pattern (patternsIn s) formed β (rw set-holds at m) .perm;
+        }
+
+-- a well-formed scheme in memory
+pub proper-scheme : (s : Scheme) → firstFault (schemeTests (schemeIn s)) ≡ clean → ProperScheme s
+proper-scheme s formed =
+    record {
+      few = omega (arith, few-entries (schemeIn s) formed, length-items (λ i. entryIn (getD (s .entries) i noEntry)) (s .count));
+      each = λ (i : ℕ) (h : i < s .count).
+          proper-entry (schemeIn s) formed (entryIn (getD (s .entries) i noEntry))
+          (Memᴰ·map (λ j. entryIn (getD (s .entries) j noEntry)) (row-in 0 (s .count) i (omega arith) (omega arith)));
+    }

@@ -1,0 +1,59 @@
+-- What judging two texts promises. Definitions only.
+use Prim.Native.Nat.{ℕ, _≤_}
+use mathlib.Core.Path.{_≡_}
+use mathlib.Core.Bool.{true}
+use mathlib.Core.List.{List}
+use mathlib.Core.Logic.{_↔_}
+use lib.ListN.{length}
+use Rattle.word.specs.Finding.{firstFault}
+use Rattle.scheme.specs.SchemeList.{EntryList}
+use Rattle.scheme.specs.SchemeMemory.{patternsIn, schemeIn, faultOf}
+use Rattle.scheme.specs.TestOrder.{orElse}
+use Rattle.grammar.specs.Spelling.{SpellsPatterns, SpellsScheme}
+use Rattle.notation.specs.PatternAnswers.{patternsAnswer}
+use Rattle.notation.specs.SchemeAnswers.{schemeAnswer}
+use Rattle.notation.specs.declared.patterns.PatternsRead.{PatternsRead}
+use Rattle.notation.specs.declared.schemes.SchemeRead.{SchemeRead}
+use Rattle.verdict.specs.Verdict.{claimTests, comparedCells, answered, verdictOf, accepted}
+use Rattle.verdict.specs.Truth.{WellFormed, AllTrue}
+use Rattle.verdict.specs.declared.answer.Verdict.{Verdict}
+use Rattle.judge.specs.declared.texts.TextsJudged.{TextsJudged}
+
+-- the verdict on what was read: the faults of reading, of the set before the scheme, and then those of the claims
+abbrev pub verdictRead : PatternsRead → SchemeRead → Verdict
+verdictRead p q =
+    answered (orElse (p .fault) (orElse (q .fault) (faultOf (firstFault (claimTests (patternsIn (p .patterns)) (schemeIn (q .scheme)))))))
+    (comparedCells (patternsIn (p .patterns)) (schemeIn (q .scheme)))
+
+-- "Text length comes before spelling, then the numbers in order, each over the whole input. Here the input is one text or one list: patterns are
+-- judged before the scheme" (01)
+abbrev pub verdictOfTexts : List ℕ → List ℕ → Verdict
+verdictOfTexts s t = verdictRead (patternsAnswer s) (schemeAnswer t)
+
+-- the texts are within their ceilings, they spell a set and a scheme, this is well-formed, and its claims are true at every length
+pub record TextsTrue (s t : List ℕ) : Type 0 where
+  pub patterns : List (List ℕ)
+  pub scheme : List EntryList
+  pub short : length s ≤ 1024
+  pub short-scheme : length t ≤ 32768
+  pub spells : SpellsPatterns s patterns
+  pub spells-scheme : SpellsScheme t scheme
+  pub formed : WellFormed patterns scheme
+  pub claims : AllTrue patterns scheme
+
+-- the answer r to the texts s and t
+pub record JudgesTexts (s t : List ℕ) (r : Verdict) : Type 0 where
+  pub verdict : r ≡ verdictOfTexts s t
+  -- where the texts spell lists, it is the verdict on these
+  pub spelt : (P : List (List ℕ)) (E : List EntryList) → length s ≤ 1024 → length t ≤ 32768 → SpellsPatterns s P → SpellsScheme t E → r ≡ verdictOf P E
+  pub exactly : (accepted r ≡ true) ↔ TextsTrue s t
+
+-- the answer with the lists that were read: those of the definition; where it accepts, the texts spell them, they are well-formed, and the claims are true
+pub record JudgesAndReads (s t : List ℕ) (r : TextsJudged) : Type 0 where
+  pub judges : JudgesTexts s t (r .verdict)
+  pub patterns : r .patterns ≡ (patternsAnswer s) .patterns
+  pub scheme : r .scheme ≡ (schemeAnswer t) .scheme
+  pub spells : accepted (r .verdict) ≡ true → SpellsPatterns s (patternsIn (r .patterns))
+  pub spells-scheme : accepted (r .verdict) ≡ true → SpellsScheme t (schemeIn (r .scheme))
+  pub formed : accepted (r .verdict) ≡ true → WellFormed (patternsIn (r .patterns)) (schemeIn (r .scheme))
+  pub claims : accepted (r .verdict) ≡ true → AllTrue (patternsIn (r .patterns)) (schemeIn (r .scheme))

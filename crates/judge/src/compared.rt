@@ -1,0 +1,21 @@
+// The number of compared cells of all entries.
+use claims::entries::compared_with;
+use scheme::memory::Scheme;
+ghost use Prim.Native.Nat.{_≤_};
+ghost use Rattle.judge.specs.SetMemory.{ProperScheme, ComparesCells};
+
+// The number of compared cells of all entries, m being the length of the longest pattern.
+pub fn compared_cells(m: usize, s: Scheme) -> usize
+    requires { ⌜ (m ≤ 8) × ProperScheme s ⌝ }
+    ensures { λ r. ⌜ ComparesCells m s r ⌝ }
+{
+    let n = s.count;
+    let mut sum: usize = 0;
+    let mut i: usize = 0;
+    while i < n {
+        let e = s.entries[i];
+        sum += compared_with(m, e);
+        i += 1;
+    }
+    sum
+}

@@ -1,0 +1,37 @@
+// Test 11 over all entries, one entry at a time.
+use claims::entries::is_irreversible;
+use scheme::memory::Fault;
+use scheme::memory::Scheme;
+use word::limits::DIGITS;
+use word::limits::PATTERNS;
+use word::refusal::Refusal;
+ghost use mathlib.Core.Path.{_≡_};
+ghost use Rattle.word.specs.Containment.{patternsOf};
+ghost use Rattle.word.specs.declared.refusal.Refusal.the-variants.{Irreversible};
+ghost use Rattle.scheme.specs.WellFormed.{firstAt};
+ghost use Rattle.scheme.specs.SchemeMemory.{schemeIn, faultOf};
+ghost use Rattle.verdict.specs.Verdict.{differs};
+ghost use Rattle.claims.specs.EntryMemory.{ProperSet};
+ghost use Rattle.judge.specs.SetMemory.{ProperScheme};
+
+// Test 11: the first entry some of whose compared sizes differ.
+pub fn irreversible_fault(
+    set: [[u8; DIGITS]; PATTERNS],
+    lengths: [u8; PATTERNS],
+    count: usize,
+    s: Scheme,
+) -> Fault
+    requires { ⌜ ProperSet set lengths count × ProperScheme s ⌝ }
+    ensures { λ r. ⌜ r ≡ faultOf (firstAt Irreversible (λ e. differs (patternsOf set lengths count) (e .prefix) (e .gaps) (e .rule)) 0 (schemeIn s)) ⌝ }
+{
+    let n = s.count;
+    let mut i: usize = 0;
+    while i < n {
+        let e = s.entries[i];
+        if is_irreversible(set, lengths, count, e) {
+            return Fault::At(Refusal::Irreversible, i);
+        }
+        i += 1;
+    }
+    Fault::Clean
+}

@@ -1,0 +1,36 @@
+// Test 10 over all entries, one entry at a time.
+use claims::entries::has_live_gap;
+use scheme::memory::Fault;
+use scheme::memory::Scheme;
+use word::limits::DIGITS;
+use word::limits::PATTERNS;
+use word::refusal::Refusal;
+ghost use mathlib.Core.Path.{_≡_};
+ghost use Rattle.word.specs.Containment.{patternsOf};
+ghost use Rattle.word.specs.declared.refusal.Refusal.the-variants.{LiveGap};
+ghost use Rattle.scheme.specs.WellFormed.{firstAt};
+ghost use Rattle.scheme.specs.SchemeMemory.{schemeIn, faultOf};
+ghost use Rattle.verdict.specs.Verdict.{liveGap};
+ghost use Rattle.judge.specs.SetMemory.{ProperScheme};
+
+// Test 10: the first entry with a gap vector whose cell is not empty.
+pub fn live_fault(
+    set: [[u8; DIGITS]; PATTERNS],
+    lengths: [u8; PATTERNS],
+    count: usize,
+    s: Scheme,
+) -> Fault
+    requires { ⌜ ProperScheme s ⌝ }
+    ensures { λ r. ⌜ r ≡ faultOf (firstAt LiveGap (λ e. liveGap (patternsOf set lengths count) (e .prefix) (e .gaps)) 0 (schemeIn s)) ⌝ }
+{
+    let n = s.count;
+    let mut i: usize = 0;
+    while i < n {
+        let e = s.entries[i];
+        if has_live_gap(set, lengths, count, e) {
+            return Fault::At(Refusal::LiveGap, i);
+        }
+        i += 1;
+    }
+    Fault::Clean
+}

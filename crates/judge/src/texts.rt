@@ -1,0 +1,53 @@
+// Judging two texts: the set's text, then the scheme's, then the claims.
+use crate::judging::judge_claims;
+use notation::patterns::read_patterns;
+use notation::schemes::read_scheme;
+use scheme::memory::Patterns;
+use scheme::memory::Scheme;
+use scheme::order::earlier;
+use scheme::order::is_fault;
+use verdict::answer::Verdict;
+use verdict::answer::answer;
+ghost use Rattle.judge.specs.TextJudgement.{JudgesTexts, JudgesAndReads};
+
+// The verdict on two texts, and what they were read as.
+pub struct TextsJudged {
+    pub verdict: Verdict,
+    pub patterns: Patterns,
+    pub scheme: Scheme,
+}
+
+// Judges the scheme that one text spells for the patterns that another spells. The texts may have any length and content.
+pub fn judge_texts(patterns: &[u8], scheme: &[u8]) -> Verdict
+    ensures { λ r. ⌜ JudgesTexts (now (patterns .entry)) (now (scheme .entry)) r ⌝ }
+{
+    let judged = read_and_judge(patterns, scheme);
+    judged.verdict
+}
+
+// The same, with the lists that were read. They went through their tests while they were read, so only their claims are judged.
+pub fn read_and_judge(patterns: &[u8], scheme: &[u8]) -> TextsJudged
+    ensures { λ r. ⌜ JudgesAndReads (now (patterns .entry)) (now (scheme .entry)) r ⌝ }
+{
+    let p = read_patterns(patterns);
+    let s = read_scheme(scheme);
+    let set = p.patterns;
+    let list = s.scheme;
+    let first = p.fault;
+    let second = s.fault;
+    let fault = earlier(first, second);
+    if is_fault(fault) {
+        let verdict = answer(fault, 0);
+        return TextsJudged {
+            verdict,
+            patterns: set,
+            scheme: list,
+        };
+    }
+    let verdict = judge_claims(set, list);
+    TextsJudged {
+        verdict,
+        patterns: set,
+        scheme: list,
+    }
+}
