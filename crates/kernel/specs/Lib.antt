@@ -1,0 +1,3 @@
+-- What the call from C promises.
+pub mod Call
+pub mod CallLaws
