@@ -1,0 +1,3 @@
+-- The values of a scheme, and the theorem on them.
+pub mod Value
+pub mod ValueLaws

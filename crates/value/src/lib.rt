@@ -1,0 +1,1 @@
+// The values of a scheme: definitions and theorems only.
