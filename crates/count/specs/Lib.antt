@@ -1,0 +1,6 @@
+-- Counting by the table.
+pub mod Rows
+pub mod Run
+pub mod RowLaws
+pub mod StateLaws
+pub mod RunLaws

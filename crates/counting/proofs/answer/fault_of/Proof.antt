@@ -1,0 +1,22 @@
+-- `counting::answer::fault_of` meets its contract: by the cases of the verdict.
+-- Assumes nothing.
+use mathlib.Core.Path.{sym, ap}
+use Rattle.counting.specs.Counting.{faultIn}
+use borrow.Author.Needs.{needs}
+use Rattle.counting.proofs.answer.fault_of.Statement.{statement}
+use Rattle.counting.proofs.answer.fault_of.Tie as tie
+
+enum-told : tie.Need-enum-told
+enum-told c = search needs
+
+enum-known-verdict : tie.Need-enum-known-verdict
+enum-known-verdict c = search needs
+
+returns : tie.Need-returns
+returns c = search needs
+
+returns-2 : tie.Need-returns-2
+returns-2 c = sym (ap faultIn (c .before .verdict .given .1))
+
+pub fault-of-spec : {M : Type 1} → statement M
+fault-of-spec = tie.close (tie.spec enum-told enum-known-verdict returns returns-2)

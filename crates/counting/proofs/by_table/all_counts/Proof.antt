@@ -1,0 +1,44 @@
+-- `counting::by_table::all_counts` meets its contract: the arrays hold the patterns.
+-- Assumes nothing.
+use mathlib.Core.Path.{_≡_}
+use lib.ListN.{length}
+use Rattle.judge.specs.SetLaws.{set-holds}
+use borrow.Author.Needs.{needs}
+use Rattle.counting.proofs.by_table.all_counts.Statement.{statement}
+use Rattle.counting.proofs.by_table.all_counts.Tie as tie
+
+rows-of-requires : tie.Need-rows-of-requires
+rows-of-requires c κs = search needs
+
+lengths-of-requires : tie.Need-lengths-of-requires
+lengths-of-requires c κs = search needs
+
+counts-requires : tie.Need-counts-requires
+counts-requires c κs =
+    let a = c .before .before .before .before .args in
+    let q = c .before .before .before .before .pre in
+    let r = c .before .before .rows-of in
+    let k = c .before .lengths-of in
+    let hr : length (r .result) ≡ 24 = search needs in
+    let hk : length (k .result) ≡ 24 = search needs in
+    let holds = set-holds (a .patterns) (q .1 .patterns) (r .result) (k .result) hr hk (r .ensures) (k .ensures) in
+    (q .0, rw holds (q .1), rw holds (q .2), q .3)
+
+same-length : tie.Need-same-length
+same-length c = search needs
+
+returns : tie.Need-returns
+returns c =
+    let a = c .before .before .before .before .before .before .before .args in
+    let q = c .before .before .before .before .before .before .before .pre in
+    let r = c .before .before .before .before .before .rows-of in
+    let k = c .before .before .before .before .lengths-of in
+    let hr : length (r .result) ≡ 24 = search needs in
+    let hk : length (k .result) ≡ 24 = search needs in
+    let holds = set-holds (a .patterns) (q .1 .patterns) (r .result) (k .result) hr hk (r .ensures) (k .ensures) in
+    let n = c .before .before .counts .ensures in
+    (rw holds at (n .0), n .1)
+
+pub all-counts-spec : {M : Type 1} → statement M
+all-counts-spec =
+    tie.close (tie.spec rows-of-requires lengths-of-requires counts-requires same-length returns)

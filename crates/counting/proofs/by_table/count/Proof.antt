@@ -1,0 +1,140 @@
+-- `counting::by_table::count` meets its contract: judging, then n, then the table, then the counts.
+-- Assumes nothing.
+use denote.Ref.{now}
+use mathlib.Core.Path.{_≡_, sym, ap, _∙_}
+use native.Mathlib.Omega.{arith}
+use lib.ListN.{length, getD}
+use Rattle.scheme.specs.SchemeMemory.{patternsIn, schemeIn}
+use Rattle.wellformed.proofs.OrderLaws.{not-faulty}
+use Rattle.counting.specs.CountLaws.{verdict-fault, clean-accepts, refused-judging, refused-n-or-table, served, done}
+use borrow.Author.Needs.{needs}
+use Rattle.counting.proofs.by_table.count.Statement.{statement}
+use Rattle.counting.proofs.by_table.count.Tie as tie
+
+judge-requires : tie.Need-judge-requires
+judge-requires c κs = search needs
+
+fault-of-requires : tie.Need-fault-of-requires
+fault-of-requires c κs = search needs
+
+is-fault-requires : tie.Need-is-fault-requires
+is-fault-requires c κs = search needs
+
+count-or-requires : tie.Need-count-or-requires
+count-or-requires c κs = search needs
+
+returns : tie.Need-returns
+returns c =
+    let a = c .before .before .before .before .before .before .args in
+    let P = patternsIn (a .patterns) in
+    let E = schemeIn (a .scheme) in
+    let j = c .before .before .before .before .judge in
+    let f = c .before .before .before .fault-of in
+    let is = f .ensures ∙ verdict-fault P E (j .result) (j .ensures .verdict) in
+    refused-judging P E (a .n) (now (a .table)) (f .result) is (sym (c .before .before .is-fault .ensures) ∙ c .before .if1 .taken) (c .count-or .result) (c .count-or .ensures)
+
+table-fault-requires : tie.Need-table-fault-requires
+table-fault-requires c κs =
+    let j = c .before .before .before .judge in
+    let f = c .before .before .fault-of in
+    let none = not-faulty (f .result) (sym (c .before .is-fault .ensures) ∙ c .if1 .left) in
+    j .ensures .exactly .0 (clean-accepts (j .result) (sym (f .ensures) ∙ none)) .0 .scheme
+
+is-fault-requires-2 : tie.Need-is-fault-requires-2
+is-fault-requires-2 c κs = search needs
+
+count-or-requires-2 : tie.Need-count-or-requires-2
+count-or-requires-2 c κs = search needs
+
+returns-2 : tie.Need-returns-2
+returns-2 c =
+    let a = c .before .before .before .before .before .before .before .before .before .args in
+    let P = patternsIn (a .patterns) in
+    let E = schemeIn (a .scheme) in
+    let j = c .before .before .before .before .before .before .before .judge in
+    let f = c .before .before .before .before .before .before .fault-of in
+    let is = f .ensures ∙ verdict-fault P E (j .result) (j .ensures .verdict) in
+    let g = c .before .before .before .table-fault in
+    refused-n-or-table P E (a .n) (now (a .table)) (f .result) is (sym (c .before .before .before .before .before .is-fault .ensures) ∙ c .before .before .before .before .if1 .left) (g .result) (g .ensures)
+    (sym (c .before .before .is-fault2 .ensures) ∙ c .before .if2 .taken) (c .count-or2 .result) (c .count-or2 .ensures)
+
+all-counts-requires : tie.Need-all-counts-requires
+all-counts-requires c κs =
+    let a = c .before .before .before .before .before .before .before .before .before .args in
+    let P = patternsIn (a .patterns) in
+    let E = schemeIn (a .scheme) in
+    let j = c .before .before .before .before .before .before .before .judge in
+    let f = c .before .before .before .before .before .before .fault-of in
+    let is = f .ensures ∙ verdict-fault P E (j .result) (j .ensures .verdict) in
+    let g = c .before .before .before .table-fault in
+    let clean = sym (c .before .before .before .before .before .is-fault .ensures) ∙ c .before .before .before .before .if1 .left in
+    let good = served P E (a .n) (now (a .table)) (f .result) is clean (g .result) (g .ensures) (sym (c .before .before .is-fault2 .ensures) ∙ c .before .if2 .left) in
+    let so = j .ensures .exactly .0 (clean-accepts (j .result) (sym (f .ensures) ∙ not-faulty (f .result) clean)) in
+    (good .0, so .0, so .1, good .1)
+
+mul-count-or : tie.Need-mul-count-or
+mul-count-or c =
+    let a = c .before .before .before .before .before .before .before .before .before .before .before .before .args in
+    let P = patternsIn (a .patterns) in
+    let E = schemeIn (a .scheme) in
+    let j = c .before .before .before .before .before .before .before .before .before .before .judge in
+    let f = c .before .before .before .before .before .before .before .before .before .fault-of in
+    let g = c .before .before .before .before .before .before .table-fault in
+    let is = f .ensures ∙ verdict-fault P E (j .result) (j .ensures .verdict) in
+    let good = served P E (a .n) (now (a .table)) (f .result) is (sym (c .before .before .before .before .before .before .before .before .is-fault .ensures) ∙ c .before .before .before .before .before .before .before .if1 .left) (g .result) (g .ensures)
+    (sym (c .before .before .before .before .before .is-fault2 .ensures) ∙ c .before .before .before .before .if2 .left) in
+    let low = good .0 in search needs
+
+array-read-count-or : tie.Need-array-read-count-or
+array-read-count-or c =
+    let a = c .before .before .before .before .before .before .before .before .before .before .before .before .args in
+    let P = patternsIn (a .patterns) in
+    let E = schemeIn (a .scheme) in
+    let j = c .before .before .before .before .before .before .before .before .before .before .judge in
+    let f = c .before .before .before .before .before .before .before .before .before .fault-of in
+    let g = c .before .before .before .before .before .before .table-fault in
+    let is = f .ensures ∙ verdict-fault P E (j .result) (j .ensures .verdict) in
+    let good = served P E (a .n) (now (a .table)) (f .result) is (sym (c .before .before .before .before .before .before .before .before .is-fault .ensures) ∙ c .before .before .before .before .before .before .before .if1 .left) (g .result) (g .ensures)
+    (sym (c .before .before .before .before .before .is-fault2 .ensures) ∙ c .before .before .before .before .if2 .left) in
+    omega (arith, good .0)
+
+count-or-requires-3 : tie.Need-count-or-requires-3
+count-or-requires-3 c κs = search needs
+
+same-length : tie.Need-same-length
+same-length c = search needs
+
+returns-3 : tie.Need-returns-3
+returns-3 c =
+    let a = c .before .before .before .before .before .before .before .before .before .before .before .before .before .args in
+    let P = patternsIn (a .patterns) in
+    let E = schemeIn (a .scheme) in
+    let j = c .before .before .before .before .before .before .before .before .before .before .before .judge in
+    let f = c .before .before .before .before .before .before .before .before .before .before .fault-of in
+    let g = c .before .before .before .before .before .before .before .table-fault in
+    let is = f .ensures ∙ verdict-fault P E (j .result) (j .ensures .verdict) in
+    let all = c .before .before .before .all-counts in
+    let clean = sym (c .before .before .before .before .before .before .before .before .before .is-fault .ensures) ∙ c .before .before .before .before .before .before .before .before .if1 .left in
+    let serves = sym (c .before .before .before .before .before .before .is-fault2 .ensures) ∙ c .before .before .before .before .before .if2 .left in
+    done P E (a .n) (now (a .table)) (f .result) is clean (g .result) (g .ensures) serves _ (getD (all .result) (a .n) 0) (c .count-or3 .result)
+    (all .ensures .1) (all .ensures .0 .upto (a .n) (omega arith)) (c .count-or3 .ensures)
+
+pub count-spec : {M : Type 1} → statement M
+count-spec =
+    tie.close
+    (tie.spec
+    judge-requires
+    fault-of-requires
+    is-fault-requires
+    count-or-requires
+    returns
+    table-fault-requires
+    is-fault-requires-2
+    count-or-requires-2
+    returns-2
+    all-counts-requires
+    mul-count-or
+    array-read-count-or
+    count-or-requires-3
+    same-length
+    returns-3)

@@ -1,0 +1,44 @@
+-- `counting::plainly::evaluated` meets its contract: the arrays hold the patterns.
+-- Assumes nothing.
+use Prim.Native.Nat.{ℕ}
+use mathlib.Core.Path.{_≡_, ap, _∙_}
+use mathlib.Core.List.{List}
+use lib.ListN.{length}
+use Rattle.scheme.specs.SchemeMemory.{schemeIn}
+use Rattle.judge.specs.SetLaws.{set-holds}
+use Rattle.value.specs.Value.{countOf}
+use borrow.Author.Needs.{needs}
+use Rattle.counting.proofs.plainly.evaluated.Statement.{statement}
+use Rattle.counting.proofs.plainly.evaluated.Tie as tie
+
+rows-of-requires : tie.Need-rows-of-requires
+rows-of-requires c κs = search needs
+
+lengths-of-requires : tie.Need-lengths-of-requires
+lengths-of-requires c κs = search needs
+
+plain-count-requires : tie.Need-plain-count-requires
+plain-count-requires c κs =
+    let a = c .before .before .args in
+    let q = c .before .before .pre in
+    let r = c .before .rows-of in
+    let k = c .lengths-of in
+    let hr : length (r .result) ≡ 24 = search needs in
+    let hk : length (k .result) ≡ 24 = search needs in
+    let holds = set-holds (a .patterns) (q .1 .patterns) (r .result) (k .result) hr hk (r .ensures) (k .ensures) in
+    (q .0, rw holds (q .1), rw holds (q .2))
+
+returns : tie.Need-returns
+returns c =
+    let a = c .before .before .before .args in
+    let q = c .before .before .before .pre in
+    let r = c .before .before .rows-of in
+    let k = c .before .lengths-of in
+    let hr : length (r .result) ≡ 24 = search needs in
+    let hk : length (k .result) ≡ 24 = search needs in
+    let holds = set-holds (a .patterns) (q .1 .patterns) (r .result) (k .result) hr hk (r .ensures) (k .ensures) in
+    c .plain-count .ensures ∙ ap (λ (P : List (List ℕ)). countOf P (schemeIn (a .scheme)) (a .n)) holds
+
+pub evaluated-spec : {M : Type 1} → statement M
+evaluated-spec =
+    tie.close (tie.spec rows-of-requires lengths-of-requires plain-count-requires returns)

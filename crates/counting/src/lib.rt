@@ -1,0 +1,4 @@
+// Counting.
+pub mod answer;
+pub mod by_table;
+pub mod plainly;

@@ -1,0 +1,3 @@
+-- The laws that the proofs of the crate plain use.
+pub mod SheetLaws
+pub mod CellLaws

@@ -1,0 +1,6 @@
+-- The plain evaluation.
+pub mod Pieces
+pub mod PieceLaws
+pub mod SheetForm
+pub mod Reading
+pub mod ReadingLaws

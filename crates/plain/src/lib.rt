@@ -1,0 +1,6 @@
+// The plain evaluation: counting without a table.
+pub mod counting;
+pub mod evaluation;
+pub mod reading;
+pub mod sheet;
+pub mod spacings;

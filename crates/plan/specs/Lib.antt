@@ -1,0 +1,4 @@
+-- The plan of a count.
+pub mod Layout
+pub mod Plan
+pub mod LayoutLaws

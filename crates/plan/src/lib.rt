@@ -1,0 +1,3 @@
+// The plan of a count: where the cells of each entry stand, and those that it reads.
+pub mod items;
+pub mod places;

@@ -1,0 +1,3 @@
+// Binomials, and the ranks of spacings.
+pub mod binomials;
+pub mod walk;

@@ -1,0 +1,4 @@
+-- What a step of the count stores.
+pub mod Step
+pub mod StepLaws
+pub mod Task

@@ -1,0 +1,3 @@
+// One step of the count, and the cells of one entry.
+pub mod cells;
+pub mod filling;
