@@ -1,0 +1,34 @@
+-- `bfile::printing::put_fault` meets its contract: by the cases of the fault.
+-- Assumes nothing.
+use mathlib.Core.Path.{sym, ap, _∙_}
+use native.Mathlib.Omega.{arith}
+use Rattle.word.specs.ListLaws.{true-not-false}
+use Rattle.scheme.specs.TestOrder.{faulty}
+use borrow.Author.Needs.{needs}
+use Rattle.bfile.proofs.printing.put_fault.Statement.{statement}
+use Rattle.bfile.proofs.printing.put_fault.Tie as tie
+
+enum-told : tie.Need-enum-told
+enum-told c = search needs
+
+enum-known-fault : tie.Need-enum-known-fault
+enum-known-fault c = search needs
+
+put-refusal-requires : tie.Need-put-refusal-requires
+put-refusal-requires c κs = search needs
+
+returns : tie.Need-returns
+returns c = (λ text h. absurd (true-not-false (sym h ∙ ap faulty (c .enum-told .given .1))), omega arith)
+
+same-length : tie.Need-same-length
+same-length c = search needs
+
+returns-2 : tie.Need-returns-2
+returns-2 c =
+    let put = c .before .before .put-refusal .ensures in
+    (λ text h. rw (c .before .before .before .before .before .fault .given .1) (put .0), put .1)
+
+pub put-fault-spec : {M : Type 1} → statement M
+put-fault-spec =
+    tie.close
+    (tie.spec enum-told enum-known-fault put-refusal-requires returns same-length returns-2)

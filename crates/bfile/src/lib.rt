@@ -1,0 +1,2 @@
+// What the table program prints, from what was kept of its input.
+pub mod printing;

@@ -1,0 +1,2 @@
+// The bytes that the table program prints.
+pub mod printing;

@@ -1,0 +1,2 @@
+// What is kept of an input of three lines.
+pub mod input;
