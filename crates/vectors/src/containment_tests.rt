@@ -1,8 +1,8 @@
 // Tests of containment: against the direct search on every short pair, at the limits, on bad input, and on the examples of document 01.
-use crate::direct;
-use crate::listing;
-use crate::listing::LONGEST;
 use crate::print;
+use listing::direct;
+use listing::permutations;
+use listing::permutations::LONGEST;
 use word::containment::Contained;
 use word::containment::contains;
 use word::refusal::number;
@@ -11,7 +11,9 @@ use word::refusal::number;
 const PATTERN: usize = 4;
 // how many patterns of that length there are
 const PATTERNS: usize = 24;
-// how many permutations of the length LONGEST there are
+// the length of the longest permutations that they are compared on
+const PERMUTATION: usize = 7;
+// how many permutations of that length there are
 const PERMUTATIONS: usize = 5040;
 
 // a permutation of twenty entries in which 24163857 stands once, at the positions 6, 7, 8, 10, 14, 15, 16 and 18
@@ -105,7 +107,7 @@ pub fn against_direct_search() {
 // The lines of the patterns of length k.
 fn lines_of(k: usize) {
     let mut n: usize = 0;
-    while n <= LONGEST {
+    while n <= PERMUTATION {
         line_of(k, n);
         n += 1;
     }
@@ -129,12 +131,12 @@ fn over_patterns(k: usize, n: usize) -> Tally {
         pairs: 0,
         disagreements: 0,
     };
-    let mut p = listing::first();
+    let mut p = permutations::first();
     let mut turn: usize = 0;
     while turn < PATTERNS {
         let sum = over_permutations(t, p, k, n);
         t = sum;
-        let next = listing::after(p, k);
+        let next = permutations::after(p, k);
         if !next.found {
             return t;
         }
@@ -147,7 +149,7 @@ fn over_patterns(k: usize, n: usize) -> Tally {
 // The tally, and in it the pattern with every permutation of length n.
 fn over_permutations(t: Tally, p: [u8; LONGEST], k: usize, n: usize) -> Tally {
     let mut sum = t;
-    let mut w = listing::first();
+    let mut w = permutations::first();
     let mut turn: usize = 0;
     while turn < PERMUTATIONS {
         let more = with_pair(
@@ -156,7 +158,7 @@ fn over_permutations(t: Tally, p: [u8; LONGEST], k: usize, n: usize) -> Tally {
             direct::has_copy(p, k, w, n),
         );
         sum = more;
-        let next = listing::after(w, n);
+        let next = permutations::after(w, n);
         if !next.found {
             return sum;
         }
@@ -168,7 +170,7 @@ fn over_permutations(t: Tally, p: [u8; LONGEST], k: usize, n: usize) -> Tally {
 
 // What `contains` answers on the first k entries of p and the first n of w.
 fn library_answer(p: [u8; LONGEST], k: usize, w: [u8; LONGEST], n: usize) -> Contained {
-    contains(listing::prefix(&p, k), listing::prefix(&w, n))
+    contains(permutations::prefix(&p, k), permutations::prefix(&w, n))
 }
 
 // The tally, and in it one pair with the answer of `contains` and that of the direct search. A refusal is a disagreement.

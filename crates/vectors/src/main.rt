@@ -1,7 +1,5 @@
-// A test program: the public operations of the repository against searches and listings of its own. It prints totals, a line each.
+// A test program: the public operations of the repository against the direct search and the listing of the crate `listing`. It prints totals, a line each.
 mod containment_tests;
-mod direct;
-mod listing;
 mod print;
 
 fn main() {

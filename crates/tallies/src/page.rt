@@ -1,0 +1,59 @@
+// A count with a table that is lent from a page of cells, and what the page holds afterwards.
+use crate::need::need;
+use counting::answer::Counted;
+use counting::by_table::count;
+use scheme::memory::Patterns;
+use scheme::memory::Scheme;
+
+// the cells of the page
+pub const CELLS: usize = 32768;
+// what each of its cells holds before the count
+const OLD: u64 = 9876543210123456789;
+
+// The answer of a count, whether the page holds what it held before, and whether the cells that are needed hold 0 and all others what they held.
+pub struct Left {
+    pub answer: Counted,
+    pub kept: bool,
+    pub cleared: bool,
+}
+
+// A count that is lent the first cells of a page: so many, or all of them where there are fewer.
+pub fn run(patterns: Patterns, scheme: Scheme, n: usize, cells: usize) -> Left {
+    let mut page = [OLD; CELLS];
+    let answer = lend(patterns, scheme, n, &mut page, cells);
+    outcome(answer, &page, need(scheme, n))
+}
+
+// The count with the first cells of the page as its table.
+fn lend(patterns: Patterns, scheme: Scheme, n: usize, page: &mut [u64], cells: usize) -> Counted {
+    if page.len() < cells {
+        return count(patterns, scheme, n, page);
+    }
+    count(patterns, scheme, n, &mut page[..cells])
+}
+
+// The answer, and what the page holds.
+fn outcome(answer: Counted, page: &[u64], needed: usize) -> Left {
+    Left {
+        answer,
+        kept: holds(page, 0),
+        cleared: holds(page, needed),
+    }
+}
+
+// Whether so many of the first cells hold 0 and all others what they held before.
+fn holds(page: &[u64], zeros: usize) -> bool {
+    let mut i: usize = 0;
+    while i < page.len() {
+        if page[i] != content(i, zeros) {
+            return false;
+        }
+        i += 1;
+    }
+    true
+}
+
+// What the cell with the index i holds if so many of the first cells hold 0.
+fn content(i: usize, zeros: usize) -> u64 {
+    if i < zeros { 0 } else { OLD }
+}

@@ -1,0 +1,18 @@
+// Writes words and numbers to standard output.
+use libc::STDOUT_FILENO;
+
+// Writes the bytes as they are.
+pub fn text(bytes: &[u8]) {
+    io::write_all(STDOUT_FILENO, bytes);
+}
+
+// Writes the number in decimal.
+pub fn number(n: u64) {
+    io::print_decimal(STDOUT_FILENO, n);
+}
+
+// Writes a space and then the number in decimal.
+pub fn next_number(n: u64) {
+    text(b" ");
+    number(n);
+}
