@@ -10,14 +10,19 @@ use Rattle.word.specs.Word.{contains, reduce, isPerm}
 use Rattle.word.specs.Containment.{containment}
 use Rattle.word.specs.declared.containment.Contained.{Contained}
 use Rattle.word.specs.declared.containment.Contained.the-variants.{Yes, No}
-use Rattle.word.specs.declared.refusal.Refusal.the-variants.{Rootless}
-use Rattle.cell.specs.Cell.{spacing, cell, deleted, merged, vectors, free, same}
+use Rattle.word.specs.declared.refusal.Refusal.the-variants.{Rootless, LiveGap, Irreversible}
+use Rattle.cell.specs.Cell.{spacing, cell, deleted, merged, vectors, free, same, total, children, compared}
+use Rattle.scheme.specs.SchemeList.{Does, expands, deletes, EntryList}
 use Rattle.scheme.specs.declared.memory.Fault.{Fault}
 use Rattle.scheme.specs.declared.memory.Fault.the-variants.{At}
-use Rattle.notation.specs.Tokens.{tokens, tokensAfter, tokenAt}
-use Rattle.notation.specs.Grammar.{itemsOf, readEntries}
-use Rattle.notation.specs.SchemeLoaded.{loadedScheme}
+use Rattle.grammar.specs.Tokens.{tokens, tokensAfter, tokenAt}
+use Rattle.grammar.specs.Grammar.{itemsOf, readEntries}
+use Rattle.scheme_text.specs.SchemeLoaded.{loadedScheme}
 use Rattle.notation.specs.SchemeAnswers.{schemeAnswer}
+use Rattle.verdict.specs.Verdict.{verdictOf, comparedCells, liveGap, differs, sizesDiffer, comparedWith}
+use Rattle.verdict.specs.declared.answer.Verdict.{Verdict}
+use Rattle.value.specs.Value.{countOf}
+use Rattle.verdict.specs.declared.answer.Verdict.the-variants.{Accepted, Refused}
 
 -- what an example asks
 pub data Question : Type 0 where
@@ -33,6 +38,10 @@ pub data Question : Type 0 where
   agreeTo : (patterns : List (List ℕ)) (prefix : List ℕ) (vectors : List (List ℕ)) (positions : List ℕ) (total : ℕ) → Question
   -- with what is the text of a scheme refused when it is read?
   reading : (text : List ℕ) → Question
+  -- what is the verdict on the scheme?
+  judging : (patterns : List (List ℕ)) (scheme : List EntryList) → Question
+  -- what is the count for n?
+  counting : (patterns : List (List ℕ)) (scheme : List EntryList) (n : ℕ) → Question
 
 -- what it answers
 pub data Answer : Type 0 where
@@ -41,6 +50,8 @@ pub data Answer : Type 0 where
   sizesAre : ℕ → ℕ → Answer
   holds : Bool → Answer
   refusedAs : Fault → Answer
+  verdictIs : Verdict → Answer
+  countIs : ℕ → Answer
 
 -- a row of the table: a question, and the answer of document 01
 pub record Example : Type 0 where
@@ -53,7 +64,7 @@ unfolding cell deleted merged
 shorterSize P p R g = length (cell P (deleted R p) (merged R p g))
 
 unfoldable pub answer : Question → Answer
-unfolding contains isPerm reduce spacing shorterSize vectors free tokens tokensAfter tokenAt readEntries itemsOf same loadedScheme
+unfolding countOf contains isPerm reduce spacing shorterSize vectors free total children deleted merged cell compared comparedCells liveGap differs sizesDiffer comparedWith tokens tokensAfter tokenAt readEntries itemsOf same loadedScheme
 answer (containsPattern w β) = contained (containment β w)
 answer (firstEntries n u) = prefixAndSpacing (reduce u) (spacing n u)
 answer (deletion R p g) = prefixAndSpacing (deleted R p) (merged R p g)
@@ -61,6 +72,24 @@ answer (sizes P p R g) = sizesAre (length (cell P p g)) (shorterSize P p R g)
 answer (agreeTo P p B R t) =
     holds (all (λ g. eqb (length (cell P p g)) (shorterSize P p R g)) (keep (free B) (each (vectors (suc (length p))) (row 0 (suc t)))))
 answer (reading s) = refusedAs ((schemeAnswer s) .fault)
+answer (judging P E) = verdictIs (verdictOf P E)
+answer (counting P E n) = countIs (countOf P E n)
+
+-- an entry of a scheme
+abbrev entry : List ℕ → List (List ℕ) → Does → EntryList
+entry p B r = record { prefix = p; gaps = B; rule = r }
+
+-- the set {123}, and its scheme with 12 deleting position r
+abbrev set123 : List (List ℕ)
+set123 = (1 ∷ 2 ∷ 3 ∷ []) ∷ []
+
+abbrev scheme123 : ℕ → List EntryList
+scheme123 r =
+    entry [] [] expands ∷ entry (1 ∷ []) [] expands ∷ entry (1 ∷ 2 ∷ []) ((0 ∷ 0 ∷ 1 ∷ []) ∷ []) (deletes r) ∷ entry (2 ∷ 1 ∷ []) [] (deletes 1) ∷ []
+
+-- `{(ε,∅,∅),(1,∅,{1})}` with these gap vectors on ε and on 1
+abbrev scheme1 : List (List ℕ) → List (List ℕ) → List EntryList
+scheme1 B C = entry [] B expands ∷ entry (1 ∷ []) C (deletes 1) ∷ []
 
 unfoldable pub starred : List Example
 starred =
@@ -81,6 +110,19 @@ starred =
     } ∷
     -- at (0,2,0) they are 1 and 2
     record { asked = sizes ((1 ∷ 2 ∷ 3 ∷ []) ∷ []) (1 ∷ 2 ∷ []) (1 ∷ []) (0 ∷ 2 ∷ 0 ∷ []); told = sizesAre 1 2 } ∷
+    -- {123}, `{(ε,∅,∅),(1,∅,∅),(12,{⟨0,0,1⟩},{2}),(21,∅,{1})}`: accepted, 16 compared cells
+    record { asked = judging set123 (scheme123 2); told = verdictIs (Accepted 16) } ∷
+    -- the same with 12 deleting 1: refused 11, index 2
+    record { asked = judging set123 (scheme123 1); told = verdictIs (Refused Irreversible 2) } ∷
+    -- ∅ with `{(ε,∅,∅),(1,∅,{1})}`: 0 compared cells
+    record { asked = judging [] (scheme1 [] []); told = verdictIs (Accepted 0) } ∷
+    -- n = 4 gives 24
+    record { asked = counting [] (scheme1 [] []) 4; told = countIs 24 } ∷
+    -- {1} with `{(ε,∅,∅),(1,{⟨0,0⟩},{1})}`: n = 0 gives 1, n = 1 gives 0
+    record { asked = counting ((1 ∷ []) ∷ []) (scheme1 [] ((0 ∷ 0 ∷ []) ∷ [])) 0; told = countIs 1 } ∷
+    record { asked = counting ((1 ∷ []) ∷ []) (scheme1 [] ((0 ∷ 0 ∷ []) ∷ [])) 1; told = countIs 0 } ∷
+    -- {1} with ⟨0⟩ on ε and entry 1 as before: 10, index 0
+    record { asked = judging ((1 ∷ []) ∷ []) (scheme1 ((0 ∷ []) ∷ []) ((0 ∷ 0 ∷ []) ∷ [])); told = verdictIs (Refused LiveGap 0) } ∷
     -- the scheme ∅: 5
     record { asked = reading (0xE2 ∷ 0x88 ∷ 0x85 ∷ []); told = refusedAs (At Rootless 0) } ∷
     []
