@@ -1,0 +1,581 @@
+//! The inputs of the differential test: a set's text and a scheme's, of many kinds.
+
+use crate::finder::{decide, find};
+use crate::judging::basis;
+use crate::model::*;
+use crate::notation::{pattern_pieces, scheme_pieces, write_patterns, write_scheme};
+use crate::published::published;
+use crate::random::Random;
+use crate::word::child;
+use crate::worst::*;
+
+pub struct Case {
+    pub kind: &'static str,
+    pub patterns: Vec<u8>,
+    pub scheme: Vec<u8>,
+}
+
+fn case(kind: &'static str, patterns: impl AsRef<[u8]>, scheme: impl AsRef<[u8]>) -> Case {
+    Case { kind, patterns: patterns.as_ref().to_vec(), scheme: scheme.as_ref().to_vec() }
+}
+
+/// A set and a scheme as lists.
+#[derive(Clone)]
+pub struct Pair {
+    pub patterns: Vec<Pattern>,
+    pub entries: Vec<Entry>,
+}
+
+const SET: &str = "{123}";
+const SCHEME: &str = "{(ε,∅,∅),(1,∅,∅),(12,{⟨0,0,1⟩},{2}),(21,∅,{1})}";
+
+/// The pieces of both texts of a pair, with spaces before the pieces that the test names.
+fn spaced(pair: &Pair, mut spaces: impl FnMut() -> usize) -> (Vec<u8>, Vec<u8>) {
+    let mut join = |pieces: Vec<String>| {
+        let mut text = String::new();
+        for piece in pieces {
+            text.extend(std::iter::repeat_n(' ', spaces()));
+            text.push_str(&piece);
+        }
+        text.extend(std::iter::repeat_n(' ', spaces()));
+        text.into_bytes()
+    };
+    (join(pattern_pieces(&pair.patterns)), join(scheme_pieces(&pair.entries)))
+}
+
+/// The inputs that every run has: the published schemes, a space in every place, and both sides of each ceiling.
+pub fn fixed() -> Vec<Case> {
+    let mut cases = vec![];
+    for p in published() {
+        cases.push(case("published", p.patterns, p.scheme));
+    }
+    for p in published().iter().take(12) {
+        for (text, other, first) in [(p.patterns, p.scheme, true), (p.scheme, p.patterns, false)] {
+            for at in 0..=text.len() {
+                for byte in [b' ', b'\t', b'0', b','] {
+                    let mut bytes = text.as_bytes().to_vec();
+                    bytes.insert(at, byte);
+                    let kind = if byte == b' ' { "a space in every place" } else { "a byte more in every place" };
+                    cases.push(if first { case(kind, bytes, other) } else { case(kind, other, bytes) });
+                }
+                let cut = &text.as_bytes()[..at];
+                cases.push(if first { case("cut at every byte", cut, other) } else { case("cut at every byte", other, cut) });
+            }
+        }
+    }
+    ceilings(&mut cases);
+    cases
+}
+
+fn ceilings(cases: &mut Vec<Case>) {
+    let mut set = |text: String| {
+        cases.push(case("ceilings of a set", &text, SCHEME));
+        cases.push(case("ceilings of a set", text.replace('{', " { "), "{(ε,∅,∅)}"));
+    };
+    for length in [1_000, 1_023, 1_024, 1_025, 1_026, 2_048, 40_000] {
+        for (front, text) in [(true, "{123}"), (false, "{123}"), (true, "{123"), (false, "∅"), (true, ""), (true, "{12, 3}}")] {
+            let pad = " ".repeat(length - text.len());
+            set(if front { format!("{pad}{text}") } else { format!("{text}{pad}") });
+        }
+        set(format!("{{1{}2}}", " ".repeat(length - 4)));
+        set(format!("{{{}}}", "1".repeat(length - 2)));
+    }
+    for digits in [1, 2, 7, 8, 9, 10, 15, 16, 17, 255, 256, 257, 262, 263, 264, 265, 512, 520, 1_000] {
+        let run: String = (0..digits).map(|i| char::from(b'1' + (i % 9) as u8)).collect();
+        set(format!("{{{run}}}"));
+        set(format!("{{1,{run},{run}}}"));
+        set(format!("{{11,{run}}}"));
+    }
+    for count in [1, 2, 23, 24, 25, 26, 48, 255, 256, 257, 280, 281, 400] {
+        let all = all_permutations(4);
+        let distinct: Vec<String> = (0..count).map(|i| all.get(i).cloned().unwrap_or("12345".into())).collect();
+        set(format!("{{{}}}", distinct[..count.min(200)].join(",")));
+        set(format!("{{{}}}", vec!["1"; count].join(",")));
+        set(format!("{{{},}}", vec!["1"; count].join(",")));
+        set(format!("{{{},123456789}}", vec!["1"; count].join(",")));
+    }
+    for text in [
+        "", " ", "∅", "{}", "{ }", "{ε}", "{1,ε}", "{ε,1}", "{0}", "{01}", "{10}", "{1234567890}", "{012345678}", "{123456789}", "{12,12}", "{1,12,1,12}",
+        "{1,2}", "{12,21,11}", "{1}{1}", "{1,}", "{,1}", "{1 1}", "{1\n}", "{1\r}", "{(1)}", "1", "ε", "∅∅", "{∅}", "{{1}}", "[1]", "{1;2}", "{87654321}",
+        "{12345678,12345678}", "{9}", "{19}", "{1,2,99999999999}", "{0,00000000000}", "{⟨1⟩}", "{-1}", "{+1}", "{1.}", "{１}", "{132,0132}",
+    ] {
+        set(text.into());
+    }
+
+    let mut scheme = |text: String| {
+        cases.push(case("ceilings of a scheme", SET, &text));
+        cases.push(case("ceilings of a scheme", "∅", &text));
+        cases.push(case("both faulty", "{123", &text));
+        cases.push(case("both faulty", "{1,1}", &text));
+    };
+    for length in [32_000, 32_767, 32_768, 32_769, 32_770, 65_536, 65_800] {
+        for (front, text) in [(true, SCHEME), (false, SCHEME), (true, "{(ε,∅,∅)"), (false, "∅"), (true, ""), (true, "{(1,∅,{1})}")] {
+            let pad = " ".repeat(length - text.len());
+            scheme(if front { format!("{pad}{text}") } else { format!("{text}{pad}") });
+        }
+        let (front, back) = SCHEME.split_at(SCHEME.len() - 1);
+        scheme(format!("{front}{}{back}", " ".repeat(length - SCHEME.len())));
+    }
+    for entries in [1, 2, 127, 128, 129, 130, 255, 256, 257, 258, 384, 2_000] {
+        let prefixes = prefixes(entries);
+        let listed: Vec<String> = prefixes.iter().map(|p| if p == "ε" { "(ε,∅,∅)".into() } else { format!("({p},∅,{{1}})") }).collect();
+        scheme(format!("{{{}}}", listed.join(",")));
+        scheme(format!("{{{}}}", vec!["(ε,∅,∅)"; entries].join(",")));
+        scheme(format!("{{{}}}", vec!["(1234567,∅,∅)"; entries].join(",")));
+        scheme(format!("{{{},(1,∅)}}", vec!["(ε,∅,∅)"; entries].join(",")));
+    }
+    let around = |entry: String| format!("{{(ε,∅,∅),(1,∅,∅),{entry},(21,∅,{{1}}),(12,∅,{{1}})}}");
+    for digits in [1, 2, 3, 5, 6, 7, 8, 9, 10, 12, 255, 256, 257, 258, 260, 262, 263, 1_000, 20_000] {
+        let run: String = (0..digits).map(|i| char::from(b'1' + (i % 9) as u8)).collect();
+        for rule in ["∅", "{1}", "{2}", "{6}", "{7}"] {
+            scheme(around(format!("({run},∅,{rule})")));
+        }
+    }
+    for vectors in [1, 7, 8, 9, 10, 16, 255, 256, 257, 263, 264, 265, 1_000] {
+        let distinct: Vec<String> = (0..vectors).map(|i| format!("⟨{},{}⟩", i % 3, i / 3 % 3)).collect();
+        scheme(format!("{{(ε,∅,∅),(1,{{{}}},{{1}})}}", distinct.join(",")));
+        scheme(format!("{{(ε,∅,∅),(1,{{{}}},{{1}})}}", vec!["⟨0,1⟩"; vectors].join(",")));
+        scheme(format!("{{(ε,∅,∅),(1,{{{}}},{{1}})}}", vec!["⟨9⟩"; vectors].join(",")));
+    }
+    for components in [1, 2, 3, 6, 7, 8, 9, 16, 255, 256, 257, 258, 259, 260, 262, 263, 1_000] {
+        for fill in ["0", "1", "2", "8", "9"] {
+            let vector = format!("⟨{}⟩", vec![fill; components].join(","));
+            for prefix in ["1", "12", "123456"] {
+                scheme(around(format!("({prefix},{{{vector}}},{{1}})")));
+                scheme(format!("{{(ε,∅,∅),(1,∅,∅),(21,∅,{{1}}),({prefix},{{{vector}}},{{1}})}}"));
+                scheme(format!("{{(ε,∅,∅),({prefix},{{{vector}}},{{1}})}}"));
+            }
+        }
+    }
+    for vector in [
+        "8", "9", "0", "00", "01", "08", "10", "99", "100", "255", "256", "257", "264", "265", "512", "999", "1000", "010", "0000", "", " ", "-1", "+1", "1 1",
+        "1.", "0,8", "8,0", "4,4", "4,5", "8,1", "1,8", "9,0", "0,9", "128,128", "255,1", "256,0", "0,256", "250,6", "255,2", "999,999", "7,1", "7,2", "1,00",
+        "1,", ",1", "65535", "65536", "0,0,8", "8,8,8", "3,3,2", "3,3,3",
+    ] {
+        for prefix in ["ε", "1", "12"] {
+            scheme(format!("{{(ε,∅,∅),(1,∅,∅),({prefix},{{⟨{vector}⟩}},{{1}}),(21,∅,{{1}})}}"));
+            scheme(format!("{{({prefix},{{⟨{vector}⟩}},{{1}}),(ε,∅,∅)}}"));
+            scheme(format!("{{({prefix},{{⟨{vector}⟩}},∅),(1,∅,{{1}})}}"));
+        }
+    }
+    for position in [
+        "0", "1", "2", "3", "6", "7", "8", "9", "10", "99", "254", "255", "256", "257", "258", "259", "262", "512", "513", "999", "1000", "01", "00", "001",
+        "", " ", "1,1", "1,2", "-1", "∅", "ε", "1 ", " 1", " 1 ", "1 2", "{1}",
+    ] {
+        for prefix in ["ε", "1", "12", "21", "123", "123456"] {
+            scheme(format!("{{(ε,∅,∅),(1,∅,∅),({prefix},∅,{{{position}}}),(21,∅,{{1}})}}"));
+            scheme(format!("{{(ε,∅,∅),(1,∅,{{1}}),({prefix},∅,{{{position}}})}}"));
+        }
+    }
+    let mut small = vec![];
+    for text in [
+        "∅", " ∅ ", "{}", "{∅}", "{(ε,∅,∅)}", "{(ε,∅,{1})}", "{(ε,∅,{0})}", "{(∅,∅,∅)}", "{(,∅,∅)}", "{(ε,,∅)}", "{(ε,∅,)}", "{(ε,{},∅)}", "{(ε,∅,{})}",
+        "{(ε,{⟨⟩},∅)}", "{(ε,∅,∅),}", "{,(ε,∅,∅)}", "{(ε,∅,∅)(1,∅,{1})}", "{((ε,∅,∅))}", "(ε,∅,∅)", "{(ε,∅,∅)}}", "{(ε,∅,∅)},", "{(ε,∅,∅,∅)}", "{(ε,∅)}",
+        "{(1,∅,{1})}", "{(0,∅,∅)}", "{(2,∅,∅)}", "{(11,∅,∅)}", "{(10,∅,∅)}", "{(ε,ε,∅)}", "{(ε,∅,ε)}", "{(ε,⟨0⟩,∅)}", "{(ε,{0},∅)}", "{(ε,{(0)},∅)}",
+        "{(ε,{⟨0⟩,},∅),(1,∅,{1})}", "{(ε,{⟨1⟩,⟨1⟩},∅),(1,∅,{1})}", "{(ε,{⟨0⟩,⟨0,0⟩},∅),(1,∅,{1})}", "{(ε,∅,∅),(ε,∅,∅)}", "{(1,∅,{1}),(1,∅,{1})}",
+        "{(ε,∅,∅),(1,∅,{1}),(ε,∅,∅),(12,∅,{7})}", "{(ε,∅,∅),(12,∅,{1})}", "{(ε,∅,∅),(1,∅,∅),(12,∅,{1})}", "{(ε,∅,∅),(1,∅,{1}),(123,∅,{1})}",
+        "{(123456,∅,∅),(ε,∅,∅),(1,∅,{1})}", "{(εε,∅,∅)}", "{(ε1,∅,∅)}", "{(1ε,∅,∅)}", "{(ε,∅∅,∅)}", "{(ε,∅,∅);(1,∅,{1})}",
+        "{ ( ε , ∅ , ∅ ) , ( 1 , { ⟨ 0 , 0 ⟩ } , { 1 } ) }", "{(ε,∅,∅),(1,{⟨0,0⟩},{1})}", "{(ε,{⟨0⟩},∅),(1,{⟨0,0⟩},{1})}",
+    ] {
+        scheme(text.into());
+        small.push(text);
+    }
+    for text in small {
+        for set in ["{1}", "{12}", "{21,12}", "{1,12345678}"] {
+            cases.push(case("small schemes", set, text));
+        }
+    }
+    let mut pairs = vec![exact_need(), unpatterned(128), short_basis(), long_text(), late_gap_vectors(), gap_vectors(5, 96, 2), gap_vectors(6, 4, 2)];
+    for set in [beginning_low(1), beginning_with(&[2, 1, 4, 3]), beginning_with(&[5, 6, 7, 8]), ending_with(&[8, 7, 6, 5])] {
+        let mut pair = true_deletions(set, 30);
+        pairs.push(with_live_gap(pair.clone()));
+        pair.entries.rotate_right(1);
+        pairs.push(pair);
+    }
+    for pair in pairs {
+        cases.push(case("long prefixes", write_patterns(&pair.patterns), write_scheme(&pair.entries)));
+    }
+}
+
+fn all_permutations(n: usize) -> Vec<String> {
+    words(n).iter().map(|w| w.iter().map(|d| char::from(b'0' + d)).collect()).collect()
+}
+
+/// The permutations of length n, by the place of the last value.
+pub fn words(n: usize) -> Vec<Vec<u8>> {
+    if n == 0 {
+        return vec![vec![]];
+    }
+    words(n - 1).iter().flat_map(|w| (1..=n as u8).map(|v| child(w, v).items().to_vec())).collect()
+}
+
+/// The first prefixes, by length.
+fn prefixes(count: usize) -> Vec<String> {
+    let mut all = vec!["ε".to_string()];
+    for n in 1..=6 {
+        all.extend(all_permutations(n));
+    }
+    all.into_iter().cycle().take(count).collect()
+}
+
+/// No patterns, and as many entries as asked for: ε and deletions of the first position.
+pub fn unpatterned(count: usize) -> Pair {
+    let all = (0..=6).flat_map(words).take(count);
+    let entry = |w: Vec<u8>| Entry { prefix: Prefix::of(&w), rule: if w.is_empty() { Rule::Expand } else { Rule::Delete(1) }, ..Entry::default() };
+    Pair { patterns: vec![], entries: all.map(entry).collect() }
+}
+
+/// A scheme that needs just 4,096 cells at n = 10.
+pub fn exact_need() -> Pair {
+    let mut entries = unpatterned(2).entries;
+    let mut add = |word: &[u8], r| entries.push(Entry { prefix: Prefix::of(word), rule: Rule::Delete(r), ..Entry::default() });
+    add(&[1, 2], 1);
+    for w in [[1, 2, 3], [1, 3, 2], [2, 3, 1], [2, 1, 3]] {
+        let r = (1..=3).find(|&r| crate::word::deleted(&w, r).items() == [1, 2]).expect("12 stands in it");
+        add(&w, r as u16);
+    }
+    for w in [[1, 2, 3, 4], [1, 2, 4, 3], [1, 3, 4, 2], [2, 3, 4, 1], [4, 1, 2, 3], [1, 4, 2, 3]] {
+        let r = (1..=4).find(|&r| crate::word::deleted(&w, r).items() == [1, 2, 3]).expect("123 stands in it");
+        add(&w, r as u16);
+    }
+    add(&[1, 2, 3, 4, 5], 1);
+    Pair { patterns: vec![], entries }
+}
+
+/// A maker of random inputs: it keeps the schemes that it found, to damage them.
+pub struct Maker {
+    pub random: Random,
+    pub pool: Vec<Pair>,
+}
+
+impl Maker {
+    pub fn new(seed: u64, pool: usize) -> Maker {
+        let mut maker = Maker { random: Random::new(seed), pool: vec![] };
+        for p in published() {
+            let (patterns, scheme) = (crate::notation::read_patterns(p.patterns.as_bytes()), crate::notation::read_scheme(p.scheme.as_bytes()));
+            if let (Ok(patterns), Ok(scheme)) = (patterns, scheme) {
+                maker.pool.push(Pair { patterns: patterns.items().to_vec(), entries: scheme.entries });
+            }
+        }
+        for _ in 0..pool {
+            let pair = maker.found();
+            maker.pool.push(pair);
+        }
+        maker
+    }
+
+    fn set(&mut self) -> Vec<Pattern> {
+        let r = &mut self.random;
+        let (count, longest) = match r.below(8) {
+            0 => (r.within(0, 2), 8),
+            1 => (r.within(1, 6), 3),
+            2 | 3 => (r.within(1, 4), 4),
+            4 => (r.within(6, 24), 4),
+            5 => (r.within(1, 3), 5),
+            6 => (r.within(10, 24), 5),
+            _ => (r.within(2, 3), 3),
+        };
+        let shortest = if r.one_in(12) { 1 } else { longest.min(3) };
+        let mut set: Vec<Pattern> = vec![];
+        for _ in 0..count {
+            let length = r.within(shortest, longest);
+            let p = Pattern::of(&r.permutation(length));
+            if !set.contains(&p) {
+                set.push(p);
+            }
+        }
+        set
+    }
+
+    /// A scheme that the finder makes, or, where it finds none, one that is cut off with deletions.
+    fn found(&mut self) -> Pair {
+        let mut tries = 0;
+        loop {
+            let patterns = self.set();
+            let longest = crate::judging::longest(&patterns);
+            let depth = if longest > 5 { 2 } else { self.random.within(2, 4) };
+            let total = self.random.within(0, if longest > 5 { 1 } else { 3 });
+            let mut more = vec![];
+            if self.random.one_in(4) {
+                let length = self.random.within(1, depth + 1).min(if longest > 5 { 3 } else { 5 });
+                more.push(Prefix::of(&self.random.permutation(length)));
+            }
+            if let Some(entries) = find(&patterns, &more, depth.max(more.first().map_or(0, |p| p.count())), total) {
+                return Pair { patterns, entries };
+            }
+            tries += 1;
+            if tries == 6 {
+                return self.cut_off(patterns, depth.min(3), total);
+            }
+        }
+    }
+
+    /// All prefixes up to a depth; the longest ones delete some position, rightly or not.
+    fn cut_off(&mut self, patterns: Vec<Pattern>, depth: usize, total: usize) -> Pair {
+        let basis = basis(&patterns);
+        let mut entries = vec![];
+        for word in (0..=depth).flat_map(words) {
+            let mut entry = decide(&basis, Prefix::of(&word), total);
+            if word.len() == depth && entry.rule == Rule::Expand {
+                entry.rule = Rule::Delete(self.random.within(1, depth) as u16);
+            }
+            entries.push(entry);
+        }
+        Pair { patterns, entries }
+    }
+
+    /// The next random input.
+    pub fn next(&mut self) -> Case {
+        let kind = self.random.below(20);
+        if kind == 0 {
+            let pair = self.found();
+            return self.texts("found", &pair);
+        }
+        let at = self.random.below(self.pool.len());
+        let mut pair = self.pool[at].clone();
+        match kind {
+            1 => self.texts("found", &pair),
+            2..=9 => {
+                let times = if self.random.one_in(3) { 2 } else { 1 };
+                let mut kind = "";
+                for _ in 0..times {
+                    kind = self.damage(&mut pair);
+                }
+                self.texts(kind, &pair)
+            }
+            10 => {
+                let random = &mut self.random;
+                let (patterns, scheme) = spaced(&pair, || if random.one_in(3) { random.below(4) } else { 0 });
+                Case { kind: "spaces between pieces", patterns, scheme }
+            }
+            11 | 12 => self.random_list(),
+            13 => self.mixed(pair),
+            14 => self.random_bytes(),
+            _ => {
+                let mut made = self.texts("found", &pair);
+                let set = self.random.one_in(4);
+                let text = if set { &mut made.patterns } else { &mut made.scheme };
+                made.kind = damage_text(&mut self.random, text);
+                made
+            }
+        }
+    }
+
+    fn texts(&mut self, kind: &'static str, pair: &Pair) -> Case {
+        let few = self.random.one_in(6);
+        let random = &mut self.random;
+        let (patterns, scheme) = spaced(pair, || if few { random.one_in(9) as usize } else { 0 });
+        Case { kind, patterns, scheme }
+    }
+
+    /// Changes something in a set or a scheme; what it was.
+    fn damage(&mut self, pair: &mut Pair) -> &'static str {
+        let r = &mut self.random;
+        if pair.entries.is_empty() {
+            return "found";
+        }
+        let at = r.below(pair.entries.len());
+        let other = r.below(pair.entries.len());
+        // an entry with a vector, if there is one
+        let with_vector: Vec<usize> = (0..pair.entries.len()).filter(|&i| pair.entries[i].vectors.count() > 0).collect();
+        let chosen = if with_vector.is_empty() { at } else { *r.pick(&with_vector) };
+        match r.below(15) {
+            0..=2 => {
+                if let Some(v) = pair.entries[chosen].vectors.items_mut().first_mut() {
+                    let c = r.below(v.count());
+                    let x = &mut v.items_mut()[c];
+                    *x = if r.one_in(2) { *x + 1 } else { x.saturating_sub(1) };
+                }
+                "a vector changed"
+            }
+            3 => {
+                let vectors = &mut pair.entries[chosen].vectors;
+                if vectors.count() > 0 {
+                    vectors.remove(r.below(vectors.count()));
+                }
+                "a vector dropped"
+            }
+            4 => {
+                let e = &mut pair.entries[at];
+                let width = if r.one_in(8) { r.within(1, 7) } else { e.prefix.count() + 1 };
+                let v: Vec<u16> = (0..width).map(|_| if r.one_in(3) { r.below(3) as u16 } else { 0 }).collect();
+                if e.vectors.count() < VECTORS {
+                    e.vectors.push(Vector::of(&v));
+                }
+                "a vector more"
+            }
+            5..=7 => {
+                let e = &mut pair.entries[at];
+                let k = e.prefix.count();
+                e.rule = Rule::Delete(if r.one_in(10) { r.below(9) } else { r.within(1, k.max(1)) } as u16);
+                "a position changed"
+            }
+            8 => {
+                pair.entries[at].rule = Rule::Expand;
+                "a deletion expands"
+            }
+            9 => {
+                pair.entries.remove(at);
+                "an entry dropped"
+            }
+            10 => {
+                pair.entries.swap(at, other);
+                "two entries exchanged"
+            }
+            11 => {
+                let p = pair.entries[at].prefix;
+                pair.entries[at].prefix = pair.entries[other].prefix;
+                if r.one_in(3) {
+                    pair.entries[other].prefix = p;
+                    "two prefixes exchanged"
+                } else {
+                    "a prefix changed"
+                }
+            }
+            12 => {
+                let e = pair.entries[other];
+                pair.entries.insert(at, e);
+                "an entry twice"
+            }
+            13 => {
+                if !pair.patterns.is_empty() {
+                    let p = r.below(pair.patterns.len());
+                    if r.one_in(2) {
+                        pair.patterns.remove(p);
+                    } else {
+                        let length = pair.patterns[p].count();
+                        pair.patterns[p] = Pattern::of(&r.permutation(length));
+                    }
+                }
+                "a pattern changed"
+            }
+            _ => {
+                let length = r.within(1, 5);
+                pair.patterns.push(Pattern::of(&r.permutation(length)));
+                "a pattern more"
+            }
+        }
+    }
+
+    /// A list of random parts, most of them right.
+    fn random_list(&mut self) -> Case {
+        let r = &mut self.random;
+        let mut patterns = vec![];
+        for _ in 0..r.below(4) {
+            let length = r.within(1, 5);
+            patterns.push(Pattern::of(&r.permutation(length)));
+        }
+        if r.one_in(10) {
+            patterns.push(Pattern::of(&[r.below(4) as u8, r.below(4) as u8]));
+        }
+        let depth = r.within(0, 3);
+        let mut entries = vec![];
+        for word in (0..=depth).flat_map(words) {
+            if r.one_in(40) {
+                continue;
+            }
+            let k = word.len();
+            let mut entry = Entry { prefix: Prefix::of(&word), ..Entry::default() };
+            if r.one_in(30) && k > 0 {
+                entry.prefix.items_mut()[r.below(k)] = r.below(10) as u8;
+            }
+            if (k == depth && k > 0) || r.one_in(5) {
+                entry.rule = Rule::Delete(if r.one_in(25) { r.below(10) } else { r.within(1, k.max(1)) } as u16);
+            }
+            for _ in 0..if r.one_in(4) { r.below(4) } else { 0 } {
+                let width = if r.one_in(25) { r.within(1, 7) } else { k + 1 };
+                let high = if r.one_in(15) { 9 } else { 2 };
+                let v: Vec<u16> = (0..width).map(|_| if r.one_in(2) { r.within(0, high) as u16 } else { 0 }).collect();
+                entry.vectors.push(Vector::of(&v));
+            }
+            entries.push(entry);
+        }
+        self.texts("random lists", &Pair { patterns, entries })
+    }
+
+    /// The set of one pair with the scheme of another.
+    fn mixed(&mut self, pair: Pair) -> Case {
+        let other = self.random.below(self.pool.len());
+        let entries = self.pool[other].entries.clone();
+        let longest = crate::judging::longest(&pair.patterns);
+        let deepest = entries.iter().map(|e| e.prefix.count()).max().unwrap_or(0);
+        if longest + deepest > 11 && pair.patterns.len() > 3 {
+            return self.random_bytes();
+        }
+        self.texts("set and scheme exchanged", &Pair { patterns: pair.patterns, entries })
+    }
+
+    fn random_bytes(&mut self) -> Case {
+        let r = &mut self.random;
+        let pieces = [
+            "{", "}", "(", ")", ",", "⟨", "⟩", "ε", "∅", "1", "2", "12", "21", "0", " ", "123", "\u{2205}\u{2205}", "\n", "a", "(ε,∅,∅)", "{1}", "⟨0,1⟩",
+            "(1,∅,{1})",
+        ];
+        let text = |r: &mut Random| -> Vec<u8> {
+            let length = r.below(40);
+            match r.below(3) {
+                0 => (0..length).map(|_| r.below(256) as u8).collect(),
+                1 => (0..length).map(|_| *r.pick(&[0x20, 0xce, 0xb5, 0xe2, 0x88, 0x85, 0x9f, 0xa8, 0xa9, b'{', b'}', b'(', b')', b',', b'1', b'0'])).collect(),
+                _ => (0..length).map(|_| *r.pick(&pieces)).collect::<String>().into_bytes(),
+            }
+        };
+        let patterns = if r.one_in(2) { SET.into() } else { text(r) };
+        let scheme = if r.one_in(8) { SCHEME.into() } else { text(r) };
+        Case { kind: "random bytes and pieces", patterns, scheme }
+    }
+}
+
+/// Damages a text; what was done.
+fn damage_text(r: &mut Random, text: &mut Vec<u8>) -> &'static str {
+    if text.is_empty() {
+        return "found";
+    }
+    let at = r.below(text.len());
+    let bytes = [b' ', b'0', b'1', b'2', b'9', b',', b'{', b'}', b'(', b')', 0xce, 0xb5, 0xe2, 0x88, 0x85, 0x9f, 0xa8, 0xa9, b'\n', b'\t', 0, 0xff];
+    match r.below(9) {
+        0 => {
+            text.truncate(at);
+            "truncated"
+        }
+        1 => {
+            text.drain(..at);
+            "truncated"
+        }
+        2 => {
+            let again = text.clone();
+            text.extend(again);
+            "doubled"
+        }
+        3 => {
+            let end = (at + r.below(30)).min(text.len());
+            let part = text[at..end].to_vec();
+            text.splice(at..at, part);
+            "a part doubled"
+        }
+        4 => {
+            let end = (at + r.below(12)).min(text.len());
+            text.drain(at..end);
+            "a part dropped"
+        }
+        5 => {
+            text.insert(at, *r.pick(&bytes));
+            "a byte more"
+        }
+        6 => {
+            text.remove(at);
+            "a byte dropped"
+        }
+        7 => {
+            text[at] = *r.pick(&bytes);
+            "a byte changed"
+        }
+        _ => {
+            // a digit changed, which leaves the spelling right
+            let digits: Vec<usize> = (0..text.len()).filter(|&i| text[i].is_ascii_digit()).collect();
+            if !digits.is_empty() {
+                text[*r.pick(&digits)] = b'0' + r.below(10) as u8;
+            }
+            "a digit changed"
+        }
+    }
+}

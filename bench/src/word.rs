@@ -1,0 +1,112 @@
+//! Words of distinct numbers: permutations, containment, deletion, children.
+
+use crate::model::Kept;
+
+/// A prefix, or a child of one.
+pub type Short = Kept<u8, 8>;
+
+/// Whether the word lists 1 to k, each once.
+pub fn is_permutation(word: &[u8]) -> bool {
+    let mut seen = 0u32;
+    for &x in word {
+        if x == 0 || x as usize > word.len() {
+            return false;
+        }
+        seen |= 1 << x;
+    }
+    seen.count_ones() as usize == word.len()
+}
+
+/// Whether some entries of the word, in their order, compare pairwise as the pattern's entries do.
+pub fn contains(pattern: &[u8], word: &[u8]) -> bool {
+    if pattern.is_empty() {
+        return true;
+    }
+    if pattern.len() > word.len() {
+        return false;
+    }
+    let mut chosen = [0u8; 32];
+    extend(pattern, word, &mut chosen, 0, 0)
+}
+
+/// Whether the entries chosen for the pattern's first `depth` entries go on to a copy, with positions from `from` on.
+fn extend(pattern: &[u8], word: &[u8], chosen: &mut [u8; 32], depth: usize, from: usize) -> bool {
+    if depth == pattern.len() {
+        return true;
+    }
+    let last = word.len() + depth - pattern.len();
+    for at in from..=last {
+        if fits(pattern, chosen, depth, word[at]) {
+            chosen[depth] = word[at];
+            if extend(pattern, word, chosen, depth + 1, at + 1) {
+                return true;
+            }
+        }
+    }
+    false
+}
+
+/// Whether x compares with the chosen entries as the pattern's entry at `depth` does with those before it.
+#[inline]
+fn fits(pattern: &[u8], chosen: &[u8; 32], depth: usize, x: u8) -> bool {
+    let p = pattern[depth];
+    (0..depth).all(|i| (pattern[i] < p) == (chosen[i] < x))
+}
+
+/// Whether the word has a copy of the pattern that ends at the word's last entry.
+pub fn ends_copy(pattern: &[u8], word: &[u8]) -> bool {
+    let (k, n) = (pattern.len(), word.len());
+    if k == 0 || k > n {
+        return k == 0;
+    }
+    ending(pattern, word, &mut [0u8; 32], 0, 0)
+}
+
+fn ending(pattern: &[u8], word: &[u8], chosen: &mut [u8; 32], depth: usize, from: usize) -> bool {
+    let (k, n) = (pattern.len(), word.len());
+    let end = word[n - 1];
+    if depth + 1 == k {
+        return fits(pattern, chosen, depth, end);
+    }
+    let above = pattern[depth] > pattern[k - 1];
+    for at in from..=n + depth - k {
+        let x = word[at];
+        if (x > end) == above && fits(pattern, chosen, depth, x) {
+            chosen[depth] = x;
+            if ending(pattern, word, chosen, depth + 1, at + 1) {
+                return true;
+            }
+        }
+    }
+    false
+}
+
+/// Replaces the smallest entry by 1, the next by 2, and so on.
+pub fn reduce(word: &[u8]) -> Vec<u8> {
+    word.iter().map(|x| word.iter().filter(|y| *y <= x).count() as u8).collect()
+}
+
+/// The reduced rest without the position, which counts from 1.
+pub fn deleted(prefix: &[u8], position: usize) -> Short {
+    let value = prefix[position - 1];
+    let mut rest = Short::new();
+    for &x in prefix.iter().filter(|x| **x != value) {
+        rest.push(if x > value { x - 1 } else { x });
+    }
+    rest
+}
+
+/// The child of the prefix that ends with the value.
+pub fn child(prefix: &[u8], value: u8) -> Short {
+    let mut longer = Short::new();
+    for &x in prefix {
+        longer.push(if x >= value { x + 1 } else { x });
+    }
+    longer.push(value);
+    longer
+}
+
+/// A number for each word of at most eight entries below 10, another one for each.
+pub fn code(word: &[u8]) -> u64 {
+    word.iter().fold(1, |code, &x| 10 * code + x as u64)
+}

@@ -1,0 +1,3 @@
+-- What counting on texts gives as one number.
+pub mod TextCounts
+pub mod TextCountLaws
