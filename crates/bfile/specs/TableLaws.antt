@@ -3,7 +3,7 @@ use Prim.Native.Nat.{ℕ, suc, _+_, min, _≤_, _<_}
 use native.Mathlib.Numerals.{add-one}
 use native.Mathlib.Omega.{arith}
 use mathlib.Core.Path.{_≡_, refl, sym, ap, ap₂, _∙_}
-use mathlib.Core.Bool.{Bool, true, false, not, cond}
+use mathlib.Core.Bool.{Bool, true, false, cond}
 use mathlib.Core.List.{List, [], _∷_, map, List·Memᴰ}
 use mathlib.Core.Logic.{_⊎_, inl, inr}
 use mathlib.Core.Option.{Option, none, some}
@@ -78,15 +78,6 @@ pub accepted-lists : (s t : List ℕ) (j : TextsJudged) → JudgesAndReads s t j
 accepted-lists s t j judges f is found =
     let a = clean-accepts (j .verdict) (sym is ∙ found) in
     record { formed = judges .formed a; claims = judges .claims a }
-
--- a negated test
-pub not-so : (b : Bool) → not b ≡ true → b ≡ false
-not-so true e = sym e
-not-so false e = refl
-
-pub so : (b : Bool) → not b ≡ false → b ≡ true
-so true e = refl
-so false e = sym e
 
 -- whether there is something
 pub none-of : (o : Option Three) → isSome o ≡ false → o ≡ none

@@ -28,7 +28,8 @@ ghost use Rattle.bfile.specs.TableText.{numberText, lengthText, Prints, 
 // "It holds 4,096 cells" (01)
 pub const CELLS: usize = 4096;
 
-// Writes what is to be printed at the start of the page; the number of bytes. A page of 512 bytes is always enough.
+// Writes what is to be printed at the start of the page; the number of bytes. A page of 512 bytes is always enough. What is printed for lines that were kept
+// of no input is left open: then the result is at most 512.
 pub fn print(lines: Lines, page: &mut [u8]) -> usize
     ensures { λ r. ⌜ Prints lines (now (page .entry)) (now (page .exit)) r × (r ≤ 512) ⌝ }
 {

@@ -36,7 +36,7 @@ keep-all f [] h = refl
 keep-all f (x ∷ l) h = rw (h x (List·Memᴰ·head refl)) (ap (λ u. x ∷ u) (keep-all f l (λ y m. h y (List·Memᴰ·tail m))))
 
 -- the level behind the last value is the whole
-level-whole : (g : List ℕ) → level g (length g) ≡ total g
+pub level-whole : (g : List ℕ) → level g (length g) ≡ total g
 unfolding level total
 level-whole [] = refl
 level-whole (x ∷ g) = ap (λ n. x + n) (level-whole g)

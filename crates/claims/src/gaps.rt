@@ -16,6 +16,7 @@ ghost use mathlib.Core.Path.{_≡_};
 ghost use mathlib.Core.Bool.{true, not};
 ghost use Prim.Native.Nat.{suc, _+_, _≤_, _<_};
 ghost use lib.ListN.{length, take};
+ghost use lib.Dec.{leb};
 ghost use Rattle.word.specs.Word.{isPerm};
 ghost use Rattle.word.specs.Containment.{patternsOf};
 ghost use Rattle.cell.specs.Cell.{total, cell};
@@ -104,7 +105,7 @@ fn has_empty_below(
 {
     let mut t: usize = 0;
     while t < TOTAL {
-        if sum_is(parts, k, t) {
+        if is_at_most(parts, k, t) {
             return false;
         }
         if has_empty(set, lengths, count, prefix, k, parts, t) {
@@ -115,9 +116,10 @@ fn has_empty_below(
     false
 }
 
-// Whether the first k + 1 components add up to t, or to more than they can.
-fn sum_is(parts: [u8; COMPONENTS], k: usize, t: usize) -> bool
+// Whether the total of the first k + 1 components is at most t.
+fn is_at_most(parts: [u8; COMPONENTS], k: usize, t: usize) -> bool
     requires { ⌜ k ≤ 6 ⌝ }
+    ensures { λ r. ⌜ r ≡ leb (total (take (k + 1) parts)) t ⌝ }
 {
     let mut sum: usize = 0;
     let mut i: usize = 0;

@@ -19,6 +19,7 @@ use Rattle.scheme.specs.declared.memory.Patterns.{Patterns}
 use Rattle.scheme.specs.declared.memory.Scheme.{Scheme}
 use Rattle.scheme.specs.declared.memory.Fault.{Fault}
 use Rattle.scheme.specs.declared.memory.Fault.the-variants.{Clean, At}
+use Rattle.wellformed.proofs.OrderLaws.{or-else-fault}
 use Rattle.grammar.specs.Spelling.{SpellsPatterns, SpellsScheme}
 use Rattle.grammar.specs.Tokens.{tokens}
 use Rattle.grammar.specs.Grammar.{readPatterns, readEntries}
@@ -40,11 +41,6 @@ use Rattle.judge.specs.declared.texts.TextsJudged.{TextsJudged}
 refused-not : (f : Fault) (n : ℕ) → faulty f ≡ true → accepted (answered f n) ≡ true → ⊥
 refused-not Clean n h a = true-not-false (sym h)
 refused-not (At r i) n h a = true-not-false (sym a)
-
--- the first of three findings that is a fault
-first-of : (f : Fault) (g : Fault) → faulty f ≡ true → orElse f g ≡ f
-first-of Clean g h = absurd (true-not-false (sym h))
-first-of (At r i) g h = refl
 
 -- a clean answer comes from a text within its ceiling
 pub patterns-short : (s : List ℕ) → (patternsAnswer s) .fault ≡ Clean → length s ≤ 1024
@@ -86,7 +82,7 @@ module _ (t : List ℕ) (q : SchemeRead) (reading : ReadsScheme t q) (E : List E
 
 -- an answer by a fault: the refusal stands whatever comes behind it
 refusal : (f g : Fault) (n : ℕ) → faulty f ≡ true → answered f 0 ≡ answered (orElse f g) n
-refusal f g n h = refused-answer f 0 n h ∙ ap (λ (x : Fault). answered x n) (sym (first-of f g h))
+refusal f g n h = refused-answer f 0 n h ∙ ap (λ (x : Fault). answered x n) (sym (or-else-fault f g h))
 
 or-else-clean-both : (a b : Fault) → faulty (orElse a b) ≡ false → (a ≡ Clean) × (b ≡ Clean)
 or-else-clean-both Clean Clean h = (refl, refl)

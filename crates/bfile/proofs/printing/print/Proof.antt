@@ -1,9 +1,10 @@
 -- `bfile::printing::print` meets its contract: the three lines in order.
 -- Assumes nothing.
 use mathlib.Core.Path.{sym, _∙_}
+use borrow.Author.Tests.{not-true, not-false}
 use Rattle.wellformed.proofs.OrderLaws.{not-faulty}
 use Rattle.lines.specs.Lines.{threeLines}
-use Rattle.bfile.specs.TableLaws.{not-so, so, none-of, some-of, refused-text, accepted-text, accepted-lists}
+use Rattle.bfile.specs.TableLaws.{none-of, some-of, refused-text, accepted-text, accepted-lists}
 use borrow.Author.Needs.{needs}
 use Rattle.bfile.proofs.printing.print.Statement.{statement}
 use Rattle.bfile.proofs.printing.print.Tie as tie
@@ -20,7 +21,7 @@ same-length c = search needs
 returns : tie.Need-returns
 returns c =
     let put = c .before .before .put-refusal .ensures in
-    (λ input k. rw (none-of (threeLines input) (sym (c .before .before .before .before .before .complete .ensures input k) ∙ not-so (c .before .before .before .before .before .complete .result) (c .before .before .before .before .if1 .taken))) (put .0), put .1)
+    (λ input k. rw (none-of (threeLines input) (sym (c .before .before .before .before .before .complete .ensures input k) ∙ not-true (c .before .before .before .before .before .complete .result) (c .before .before .before .before .if1 .taken))) (put .0), put .1)
 
 judge-lines-requires : tie.Need-judge-lines-requires
 judge-lines-requires c κs = search needs
@@ -44,7 +45,7 @@ returns-2 c =
     let put = c .before .before .put-fault .ensures in
     let h = sym (c .before .before .before .before .before .is-fault .ensures) ∙ c .before .before .before .before .if2 .taken in (
       λ input k.
-          let (t, e) = some-of (threeLines input) (sym (c .before .before .before .before .before .before .before .before .before .complete .ensures input k) ∙ so (c .before .before .before .before .before .before .before .before .before .complete .result) (c .before .before .before .before .before .before .before .before .if1 .left)) in
+          let (t, e) = some-of (threeLines input) (sym (c .before .before .before .before .before .before .before .before .before .complete .ensures input k) ∙ not-false (c .before .before .before .before .before .before .before .before .before .complete .result) (c .before .before .before .before .before .before .before .before .if1 .left)) in
           rw (refused-text (c .before .before .before .before .before .before .before .before .before .before .before .args .lines) input k t e (j .result) (j .ensures) (f .result) (f .ensures)) (put .0 _ h),
       put .1,
     )
@@ -69,7 +70,7 @@ returns-3 c =
     let put = c .before .before .put-number .ensures in
     let found = not-faulty (f .result) (sym (c .before .before .before .before .before .before .is-fault .ensures) ∙ c .before .before .before .before .before .if2 .left) in (
       λ input k.
-          let (t, e) = some-of (threeLines input) (sym (c .before .before .before .before .before .before .before .before .before .before .complete .ensures input k) ∙ so (c .before .before .before .before .before .before .before .before .before .before .complete .result) (c .before .before .before .before .before .before .before .before .before .if1 .left)) in
+          let (t, e) = some-of (threeLines input) (sym (c .before .before .before .before .before .before .before .before .before .before .complete .ensures input k) ∙ not-false (c .before .before .before .before .before .before .before .before .before .before .complete .result) (c .before .before .before .before .before .before .before .before .before .if1 .left)) in
           rw (accepted-text (c .before .before .before .before .before .before .before .before .before .before .before .before .args .lines) input k t e (j .result) (j .ensures) (f .result) (f .ensures) found (m .result) (m .ensures input k)) (put .0),
       put .1,
     )

@@ -17,8 +17,8 @@ abbrev μ-loop : tie.MeasureT-loop
 loop-holds : tie.Need-loop-holds Inv-loop μ-loop
 loop-holds c = omega arith
 
-sum-is-requires : tie.Need-sum-is-requires Inv-loop μ-loop
-sum-is-requires c κs = c .before .before .pre .0
+is-at-most-requires : tie.Need-is-at-most-requires Inv-loop μ-loop
+is-at-most-requires c κs = c .before .before .pre .0
 
 returns : tie.Need-returns Inv-loop μ-loop
 returns c = λ e. absurd (true-not-false (sym e))
@@ -48,7 +48,7 @@ has-empty-below-spec =
     Inv-loop
     μ-loop
     loop-holds
-    sum-is-requires
+    is-at-most-requires
     returns
     has-empty-requires
     returns-2
