@@ -8,8 +8,7 @@ use Rattle.word.specs.Lists.{row}
 use Rattle.word.specs.Finding.{Finding, test, firstFault}
 use Rattle.word.specs.declared.refusal.Refusal.the-variants.{Misspelt}
 use Rattle.scheme.specs.SchemeList.{EntryList}
-use Rattle.scheme.specs.SchemeMemory.{patternsIn, schemeIn, faultOf}
-use Rattle.scheme.specs.TestOrder.{faulty}
+use Rattle.scheme.specs.SchemeMemory.{patternsIn, schemeIn, faultOf, faulty}
 use Rattle.scheme.specs.declared.memory.Patterns.{Patterns}
 use Rattle.scheme.specs.declared.memory.Scheme.{Scheme}
 use Rattle.scheme.specs.declared.memory.Fault.{Fault}

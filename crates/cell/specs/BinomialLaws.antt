@@ -1,4 +1,4 @@
--- Binomials, the number of spacings with a given total, and how many spacings an entry compares at most.
+-- Laws of binomials, the number of spacings with a given total, and how many spacings an entry compares at most.
 use Prim.Native.Nat.{ℕ, zero, suc, _+_, _-_, _≤_, _<_}
 use native.Mathlib.Omega.{arith}
 use mathlib.Core.Path.{_≡_, refl, sym, ap, ap₂, _∙_}
@@ -6,13 +6,8 @@ use mathlib.Core.Bool.{Bool, true, false, cond}
 use mathlib.Core.List.{List, [], _∷_, _++_, map}
 use lib.ListN.{length, length-append, length-map}
 use Rattle.word.specs.Lists.{keep, each, row}
+use Rattle.cell.specs.Binomial.{binomial}
 use Rattle.cell.specs.Cell.{free, mOf, vectors, compared}
-
--- the binomial C(n, k), by Pascal's rule
-unfoldable pub binomial : ℕ → ℕ → ℕ
-binomial n zero = 1
-binomial zero (suc k) = 0
-binomial (suc n) (suc k) = binomial n k + binomial n (suc k)
 
 pub binomial-above : (n k : ℕ) → n < k → binomial n k ≡ 0
 unfolding binomial

@@ -1,6 +1,7 @@
 -- The definitions of the crate cell, and then its laws.
 pub mod Cell
 pub mod Claim
+pub mod Binomial
 pub mod Built
 pub mod Candidate
 pub mod Basis

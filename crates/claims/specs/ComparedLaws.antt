@@ -10,7 +10,8 @@ use borrow.Author.Tests.{leb-true}
 use Rattle.word.specs.Lists.{all, keep, each, row}
 use Rattle.word.specs.ListLaws.{all-out, row-in}
 use Rattle.cell.specs.Cell.{free, vectors}
-use Rattle.cell.specs.BinomialLaws.{binomial, vectors-below, keep-shorter}
+use Rattle.cell.specs.Binomial.{binomial}
+use Rattle.cell.specs.BinomialLaws.{vectors-below, keep-shorter}
 
 -- C(m + k, k + 1) for the lengths of prefixes and patterns, by computation
 small-binomials : all (λ k. all (λ m. leb (binomial (m + k) (suc k)) 3432) (row 0 9)) (row 0 7) ≡ true

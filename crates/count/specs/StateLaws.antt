@@ -7,7 +7,7 @@ use mathlib.Core.List.{List}
 use lib.ListN.{length, getD}
 use Rattle.word.specs.Lists.{row}
 use Rattle.word.specs.ListLaws.{same-or-not}
-use Rattle.cell.specs.BinomialLaws.{binomial}
+use Rattle.cell.specs.Binomial.{binomial}
 use Rattle.rank.specs.Rank.{rankOf}
 use Rattle.rank.specs.RankLaws.{rank-bound, binomial-mono}
 use Rattle.scheme.specs.SchemeMemory.{noEntry}

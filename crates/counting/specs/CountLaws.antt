@@ -12,8 +12,7 @@ use Rattle.word.specs.ListLaws.{true-not-false}
 use Rattle.word.specs.Finding.{Finding, clean, fault, test, firstFault}
 use Rattle.word.specs.declared.refusal.Refusal.the-variants.{Oversize, ShortTable}
 use Rattle.scheme.specs.SchemeList.{EntryList}
-use Rattle.scheme.specs.SchemeMemory.{faultOf}
-use Rattle.scheme.specs.TestOrder.{orElse, faulty}
+use Rattle.scheme.specs.SchemeMemory.{faultOf, orElse, faulty}
 use Rattle.scheme.specs.declared.memory.Fault.{Fault}
 use Rattle.scheme.specs.declared.memory.Fault.the-variants.{Clean, At}
 use Rattle.wellformed.proofs.OrderLaws.{or-else-fault, or-else-clean, not-faulty, faults-append}

@@ -5,8 +5,7 @@ use mathlib.Core.Bool.{true, false}
 use mathlib.Core.List.{List}
 use lib.ListN.{length}
 use Rattle.word.specs.Finding.{firstFault}
-use Rattle.scheme.specs.SchemeMemory.{patternsIn, schemeIn, faultOf}
-use Rattle.scheme.specs.TestOrder.{orElse, faulty}
+use Rattle.scheme.specs.SchemeMemory.{patternsIn, schemeIn, faultOf, orElse, faulty}
 use Rattle.scheme.specs.declared.memory.Fault.{Fault}
 use Rattle.wellformed.proofs.OrderLaws.{or-else-fault, or-else-clean}
 use Rattle.notation.specs.PatternAnswers.{patternsAnswer}

@@ -6,8 +6,7 @@ use lib.ListN.{length}
 use Rattle.word.specs.Refusal.{numberOf}
 use Rattle.word.specs.Finding.{Finding, firstFault}
 use Rattle.scheme.specs.SchemeList.{EntryList}
-use Rattle.scheme.specs.SchemeMemory.{patternsIn, schemeIn, faultOf}
-use Rattle.scheme.specs.TestOrder.{orElse}
+use Rattle.scheme.specs.SchemeMemory.{patternsIn, schemeIn, faultOf, orElse}
 use Rattle.scheme.specs.declared.memory.Fault.{Fault}
 use Rattle.notation.specs.PatternAnswers.{patternsAnswer}
 use Rattle.notation.specs.SchemeAnswers.{schemeAnswer}

@@ -16,8 +16,7 @@ use Rattle.cell.specs.BasisLaws.{basis-in}
 use Rattle.candidate.specs.BasisMemory.{basis-memory}
 use Rattle.scheme.specs.SchemeList.{EntryList}
 use Rattle.scheme.specs.WellFormed.{firstAt, patternTests, schemeTests}
-use Rattle.scheme.specs.SchemeMemory.{patternsIn, schemeIn, faultOf}
-use Rattle.scheme.specs.TestOrder.{orElse, faulty}
+use Rattle.scheme.specs.SchemeMemory.{patternsIn, schemeIn, faultOf, orElse, faulty}
 use Rattle.scheme.specs.declared.memory.Patterns.{Patterns}
 use Rattle.scheme.specs.declared.memory.Scheme.{Scheme}
 use Rattle.scheme.specs.declared.memory.Fault.{Fault}

@@ -19,8 +19,7 @@ use Rattle.cell.specs.BasisLaws.{basis-in, basis-cell, basis-deletion}
 use Rattle.cell.specs.BinomialLaws.{keep-shorter}
 use Rattle.scheme.specs.SchemeList.{Does, expands, deletes, EntryList}
 use Rattle.scheme.specs.WellFormed.{firstAt, outside, patternTests, schemeTests}
-use Rattle.scheme.specs.SchemeMemory.{noEntry, entryIn, schemeIn, faultOf}
-use Rattle.scheme.specs.TestOrder.{orElse, faulty}
+use Rattle.scheme.specs.SchemeMemory.{noEntry, entryIn, schemeIn, faultOf, orElse, faulty}
 use Rattle.scheme.specs.declared.memory.Scheme.{Scheme}
 use Rattle.scheme.specs.declared.memory.Fault.{Fault}
 use Rattle.scheme.specs.declared.memory.Fault.the-variants.{Clean, At}

@@ -7,8 +7,7 @@ use mathlib.Core.Logic.{_↔_}
 use lib.ListN.{length}
 use Rattle.word.specs.Finding.{firstFault}
 use Rattle.scheme.specs.SchemeList.{EntryList}
-use Rattle.scheme.specs.SchemeMemory.{patternsIn, schemeIn, faultOf}
-use Rattle.scheme.specs.TestOrder.{orElse}
+use Rattle.scheme.specs.SchemeMemory.{patternsIn, schemeIn, faultOf, orElse}
 use Rattle.grammar.specs.Spelling.{SpellsPatterns, SpellsScheme}
 use Rattle.notation.specs.PatternAnswers.{patternsAnswer}
 use Rattle.notation.specs.SchemeAnswers.{schemeAnswer}

@@ -13,8 +13,7 @@ use Rattle.word.specs.Finding.{clean, firstFault}
 use Rattle.word.specs.declared.refusal.Refusal.the-variants.{Oversize}
 use Rattle.scheme.specs.SchemeList.{EntryList}
 use Rattle.scheme.specs.WellFormed.{patternTests, schemeTests}
-use Rattle.scheme.specs.SchemeMemory.{patternsIn, schemeIn, faultOf}
-use Rattle.scheme.specs.TestOrder.{orElse, faulty}
+use Rattle.scheme.specs.SchemeMemory.{patternsIn, schemeIn, faultOf, orElse, faulty}
 use Rattle.scheme.specs.declared.memory.Patterns.{Patterns}
 use Rattle.scheme.specs.declared.memory.Scheme.{Scheme}
 use Rattle.scheme.specs.declared.memory.Fault.{Fault}

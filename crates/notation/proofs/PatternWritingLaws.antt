@@ -8,8 +8,7 @@ use lib.ListN.{length}
 use Rattle.word.specs.Finding.{clean, firstFault}
 use Rattle.word.specs.declared.refusal.Refusal.the-variants.{ShortPage}
 use Rattle.scheme.specs.WellFormed.{patternTests}
-use Rattle.scheme.specs.SchemeMemory.{patternsIn, faultOf}
-use Rattle.scheme.specs.TestOrder.{faulty}
+use Rattle.scheme.specs.SchemeMemory.{patternsIn, faultOf, faulty}
 use Rattle.scheme.specs.declared.memory.Fault.{Fault}
 use Rattle.scheme.specs.declared.memory.Fault.the-variants.{Clean}
 use Rattle.grammar.specs.Spelling.{SpellsPatterns, writtenPatterns}

@@ -13,8 +13,7 @@ use borrow.Author.Tests.{lt-ltb, le-ltb}
 use Rattle.word.specs.Finding.{Finding, clean, fault, test, firstFault}
 use Rattle.word.specs.declared.refusal.Refusal.{Refusal}
 use Rattle.word.specs.declared.refusal.Refusal.the-variants.{ShortPage}
-use Rattle.scheme.specs.SchemeMemory.{faultOf}
-use Rattle.scheme.specs.TestOrder.{faulty}
+use Rattle.scheme.specs.SchemeMemory.{faultOf, faulty}
 use Rattle.scheme.specs.declared.memory.Fault.{Fault}
 use Rattle.scheme.specs.declared.memory.Fault.the-variants.{Clean, At}
 use Rattle.writer.specs.Page.{overlay}

@@ -10,7 +10,7 @@ use lib.Seq.{getD-set-same, getD-set-other}
 use Rattle.word.specs.Lists.{row}
 use Rattle.word.specs.ListLaws.{below-or-not, same-or-not, length-row, row-in}
 use Rattle.cell.specs.Cell.{total}
-use Rattle.cell.specs.BinomialLaws.{binomial}
+use Rattle.cell.specs.Binomial.{binomial}
 use Rattle.rank.specs.TotalLaws.{total-append, row-cut}
 use Rattle.rank.specs.PascalLaws.{binomial-small}
 use Rattle.scheme.specs.SchemeList.{EntryList}

@@ -12,7 +12,7 @@ use borrow.Author.Tests.{eq-eqb, ne-eqb}
 use Rattle.word.specs.Word.{has}
 use Rattle.word.specs.ListLaws.{below-or-not}
 use Rattle.cell.specs.Cell.{total, mergeValues}
-use Rattle.cell.specs.BinomialLaws.{binomial}
+use Rattle.cell.specs.Binomial.{binomial}
 use Rattle.rank.specs.Rank.{rankAfter, carry, nextOf}
 use Rattle.rank.specs.RankLaws.{leaveFrom, merge-rank}
 use Rattle.rank.specs.PascalLaws.{binomial-small}

@@ -3,7 +3,7 @@ use Prim.Native.Nat.{ℕ, _+_, _*_, _<_}
 use mathlib.Core.Path.{_≡_}
 use mathlib.Core.List.{List}
 use lib.ListN.{length, getD}
-use Rattle.cell.specs.BinomialLaws.{binomial}
+use Rattle.cell.specs.Binomial.{binomial}
 
 -- the binomials C(m, l) of the rows m below n, and those of row n for l below k; C(m, l) stands at 8 m + l
 pub record PascalTo (n k : ℕ) (b : List ℕ) : Type 0 where

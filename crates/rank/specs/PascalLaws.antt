@@ -7,7 +7,7 @@ use mathlib.Core.List.{List}
 use lib.ListN.{length, getD, set, length-set}
 use lib.Seq.{getD-set-same, getD-set-other}
 use Rattle.word.specs.ListLaws.{below-or-not}
-use Rattle.cell.specs.BinomialLaws.{binomial}
+use Rattle.cell.specs.Binomial.{binomial}
 use Rattle.rank.specs.RankLaws.{pascal, binomial-zero, binomial-mono}
 use Rattle.rank.specs.Pascal.{PascalTo, Pascal}
 

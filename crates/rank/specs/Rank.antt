@@ -1,7 +1,7 @@
 -- The rank of a spacing among those of its length and total, and the spacing that comes next. Definitions only.
 use Prim.Native.Nat.{ℕ, zero, suc, _+_}
 use mathlib.Core.List.{List, [], _∷_}
-use Rattle.cell.specs.BinomialLaws.{binomial}
+use Rattle.cell.specs.Binomial.{binomial}
 
 -- The values of a cell's first entries, counted from 0 and in rising order, are c0 < c1 < ..: the first is the first component of the spacing, and
 -- each other is one more than the value before it and the component between them. The rank is C(c0, 1) + C(c1, 2) + ..; i values are counted

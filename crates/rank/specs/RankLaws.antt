@@ -12,7 +12,8 @@ use borrow.Author.Tests.{ne-eqb}
 use Rattle.word.specs.ListLaws.{below-or-not}
 use Rattle.word.specs.Word.{has}
 use Rattle.cell.specs.Cell.{total, mergeFrom, mergeValues}
-use Rattle.cell.specs.BinomialLaws.{binomial, binomial-above}
+use Rattle.cell.specs.Binomial.{binomial}
+use Rattle.cell.specs.BinomialLaws.{binomial-above}
 use Rattle.spacing.specs.SpacingOrder.{firstVector, first-length}
 use Rattle.rank.specs.Rank.{rankFrom, rankAfter, rankOf, carry, nextOf}
 

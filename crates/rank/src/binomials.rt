@@ -1,7 +1,7 @@
 // The binomials C(n, k) for n up to 20 and k up to 7, by Pascal's rule. C(n, k) stands at 8 n + k.
 ghost use mathlib.Core.Path.{_≡_};
 ghost use Prim.Native.Nat.{_+_, _≤_, _<_};
-ghost use Rattle.cell.specs.BinomialLaws.{binomial};
+ghost use Rattle.cell.specs.Binomial.{binomial};
 ghost use Rattle.rank.specs.Pascal.{PascalTo, Pascal};
 
 // All binomials, row after row.

@@ -1,5 +1,6 @@
--- The lists that patterns and schemes in memory stand for.
+-- The lists that patterns and schemes in memory stand for, and findings in memory. Definitions only.
 use Prim.Native.Nat.{ℕ}
+use mathlib.Core.Bool.{Bool, true, false}
 use mathlib.Core.List.{List, [], map, _++_}
 use lib.ListN.{getD, take, replicate}
 use Rattle.word.specs.Lists.{row}
@@ -64,3 +65,12 @@ entryAt s i = entryIn (getD (s .entries) i noEntry)
 abbrev pub faultOf : Finding → Fault
 faultOf clean = Clean
 faultOf (fault r i) = At r i
+
+-- the first finding, or the second where the first is clean
+abbrev pub orElse : Fault → Fault → Fault
+orElse Clean b = b
+orElse (At r i) b = At r i
+
+abbrev pub faulty : Fault → Bool
+faulty Clean = false
+faulty (At r i) = true

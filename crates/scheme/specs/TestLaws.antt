@@ -15,8 +15,8 @@ use Rattle.word.specs.Finding.{Finding, clean, fault, firstFault}
 use Rattle.word.specs.declared.refusal.Refusal.{Refusal}
 use Rattle.word.specs.declared.refusal.Refusal.the-variants.{Repeated}
 use Rattle.scheme.specs.WellFormed.{firstAt, firstTwin, listed, repeats}
-use Rattle.scheme.specs.SchemeMemory.{faultOf}
-use Rattle.scheme.specs.TestOrder.{seen, orElse}
+use Rattle.scheme.specs.SchemeMemory.{faultOf, orElse}
+use Rattle.scheme.specs.TestOrder.{seen}
 use Rattle.scheme.specs.declared.memory.Fault.the-variants.{Clean}
 
 -- the items g i to g (n - 1)

@@ -1,6 +1,6 @@
--- What the tests in memory have in hand: an item at a place, the items before a place, the earlier of two findings, the tests in three parts.
+-- What the tests in memory have in hand: an item at a place, the items before a place, the tests in three parts.
 use Prim.Native.Nat.{ℕ, zero, suc}
-use mathlib.Core.Bool.{Bool, true, false, not}
+use mathlib.Core.Bool.{not}
 use mathlib.Core.List.{List, [], _∷_, map}
 use lib.ListN.{length, getD}
 use lib.Dec.{ltb}
@@ -11,8 +11,6 @@ use Rattle.scheme.specs.SchemeList.{EntryList}
 use Rattle.scheme.specs.WellFormed.{firstAt, firstTwin, listed, largeEntry, twinEntry, wrongWidth, outside, lacksChild, lacksTarget}
 use Rattle.scheme.specs.SchemeMemory.{patternIn, noPattern}
 use Rattle.scheme.specs.declared.memory.Patterns.{Patterns}
-use Rattle.scheme.specs.declared.memory.Fault.{Fault}
-use Rattle.scheme.specs.declared.memory.Fault.the-variants.{Clean, At}
 
 -- the pattern at a place
 abbrev pub placeIn : Patterns → ℕ → List ℕ
@@ -22,15 +20,6 @@ placeIn s i = patternIn (getD (s .items) i noPattern)
 abbrev pub seen : {A : Type 0} → (ℕ → A) → ℕ → List A
 seen g zero = []
 seen g (suc i) = g i ∷ seen g i
-
--- the first finding, or the second where the first is clean
-abbrev pub orElse : Fault → Fault → Fault
-orElse Clean b = b
-orElse (At r i) b = At r i
-
-abbrev pub faulty : Fault → Bool
-faulty Clean = false
-faulty (At r i) = true
 
 -- the tests of a scheme list in three parts: those of the ceilings, those of each entry, those that look entries up
 abbrev pub sizeTests : List EntryList → List Finding

@@ -9,7 +9,7 @@ use mathlib.Core.List.{List, [], _∷_}
 use lib.ListN.{length, getD, drop, length-drop, drop-of-length-le}
 use lib.Seq.{drop-cons}
 use Rattle.cell.specs.Cell.{total, mergeValues}
-use Rattle.cell.specs.BinomialLaws.{binomial}
+use Rattle.cell.specs.Binomial.{binomial}
 use Rattle.rank.specs.Rank.{rankFrom, rankAfter}
 use Rattle.rank.specs.RankLaws.{after-head, merge-none}
 use Rattle.rank.specs.PascalLaws.{binomial-small}

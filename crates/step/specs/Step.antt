@@ -5,7 +5,7 @@ use mathlib.Core.List.{List, [], _∷_}
 use lib.ListN.{getD}
 use lib.Dec.{eqb}
 use Rattle.cell.specs.Cell.{total, free, mergeValues}
-use Rattle.cell.specs.BinomialLaws.{binomial}
+use Rattle.cell.specs.Binomial.{binomial}
 use Rattle.rank.specs.Rank.{rankFrom, rankOf}
 
 -- the sum of the cells at `at` + C(z, col) for n values z in a row

@@ -9,7 +9,7 @@ use Rattle.word.specs.ListLaws.{map-same, row-out}
 use Rattle.cell.specs.Cell.{total}
 use Rattle.cell.specs.Child.{slot, split}
 use Rattle.cell.specs.ChildLaws.{split-length, slot-bounds}
-use Rattle.cell.specs.BinomialLaws.{binomial}
+use Rattle.cell.specs.Binomial.{binomial}
 use Rattle.rank.specs.Rank.{rankFrom, rankAfter, rankOf}
 use Rattle.rank.specs.TotalLaws.{total-append, row-cut, total-shift}
 use Rattle.rank.specs.RankLaws.{after-head}

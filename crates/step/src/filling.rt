@@ -8,7 +8,7 @@ ghost use mathlib.Core.Path.{_≡_};
 ghost use Prim.Native.Nat.{_+_, _≤_};
 ghost use lib.ListN.{set};
 ghost use Rattle.cell.specs.Cell.{total};
-ghost use Rattle.cell.specs.BinomialLaws.{binomial};
+ghost use Rattle.cell.specs.Binomial.{binomial};
 ghost use Rattle.rank.specs.Pascal.{Pascal};
 ghost use Rattle.step.specs.Task.{TaskFits, spacingIn, taskStep, Filled};
 

@@ -9,8 +9,8 @@ use Rattle.word.specs.Finding.{Finding, clean, fault, test, firstFault}
 use Rattle.word.specs.declared.refusal.Refusal.the-variants.{Oversize}
 use Rattle.scheme.specs.SchemeList.{EntryList}
 use Rattle.scheme.specs.WellFormed.{firstAt, largeEntry, schemeTests}
-use Rattle.scheme.specs.SchemeMemory.{schemeIn, faultOf}
-use Rattle.scheme.specs.TestOrder.{orElse, faulty, sizeTests, permutationTest, twinTest, rootTest, widthTest, positionTest, entryTests, linkTests}
+use Rattle.scheme.specs.SchemeMemory.{schemeIn, faultOf, orElse, faulty}
+use Rattle.scheme.specs.TestOrder.{sizeTests, permutationTest, twinTest, rootTest, widthTest, positionTest, entryTests, linkTests}
 use Rattle.scheme.specs.Sized.{Sized}
 use Rattle.scheme.specs.TestLaws.{single, clean-cons, clean-of}
 use Rattle.scheme.specs.Links.{Linked}

@@ -13,8 +13,8 @@ use Rattle.word.specs.Containment.{isPattern}
 use Rattle.word.specs.Finding.{firstFault}
 use Rattle.word.specs.declared.refusal.Refusal.the-variants.{Oversize, NoPermutation}
 use Rattle.scheme.specs.WellFormed.{firstAt, firstTwin, listed, patternTests}
-use Rattle.scheme.specs.SchemeMemory.{padded, patternsIn, faultOf}
-use Rattle.scheme.specs.TestOrder.{placeIn, orElse}
+use Rattle.scheme.specs.SchemeMemory.{padded, patternsIn, faultOf, orElse}
+use Rattle.scheme.specs.TestOrder.{placeIn}
 use Rattle.scheme.specs.declared.memory.Patterns.{Patterns}
 use Rattle.scheme.specs.declared.memory.Fault.the-variants.{At}
 use Rattle.scheme.specs.TestLaws.{length-items, three-faults}

@@ -3,7 +3,7 @@
 use mathlib.Core.Path.{sym, ap, _∙_}
 use native.Mathlib.Omega.{arith}
 use Rattle.word.specs.ListLaws.{true-not-false}
-use Rattle.scheme.specs.TestOrder.{faulty}
+use Rattle.scheme.specs.SchemeMemory.{faulty}
 use borrow.Author.Needs.{needs}
 use Rattle.bfile.proofs.printing.put_fault.Statement.{statement}
 use Rattle.bfile.proofs.printing.put_fault.Tie as tie

@@ -6,7 +6,7 @@ use Prim.Native.Nat.{ℕ, _+_, _-_, _≤_}
 use mathlib.Core.Path.{_≡_, sym, ap, _∙_}
 use mathlib.Core.List.{map}
 use lib.ListN.{getD}
-use Rattle.cell.specs.BinomialLaws.{binomial}
+use Rattle.cell.specs.Binomial.{binomial}
 use Rattle.spacing.specs.GapRows.{gapsOf}
 use Rattle.scheme.specs.SchemeMemory.{entryIn}
 use Rattle.step.specs.Step.{stepOf}

@@ -4,7 +4,7 @@ use borrow.Author.Needs.{needs}
 use native.Mathlib.Omega.{arith}
 use Prim.Native.Nat.{_-_, _≤_}
 use mathlib.Core.Path.{ap, _∙_}
-use Rattle.cell.specs.BinomialLaws.{binomial}
+use Rattle.cell.specs.Binomial.{binomial}
 use Rattle.rank.specs.PascalLaws.{binomial-small}
 use Rattle.plan.specs.Layout.{lengthAt}
 use Rattle.plan.specs.LayoutLaws.{count-few, entry-short, place-small, PlacesTo, places-start, places-more, places-end}

@@ -4,7 +4,8 @@ use native.Mathlib.Omega.{arith}
 use Prim.Native.Nat.{_+_, _*_, _-_}
 use mathlib.Core.Path.{_≡_, sym, ap, ap₂, _∙_}
 use lib.ListN.{getD}
-use Rattle.cell.specs.BinomialLaws.{binomial, binomial-above}
+use Rattle.cell.specs.Binomial.{binomial}
+use Rattle.cell.specs.BinomialLaws.{binomial-above}
 use Rattle.rank.specs.RankLaws.{binomial-zero}
 use Rattle.rank.specs.PascalLaws.{pascal-sum, binomial-small}
 use borrow.Author.Needs.{needs}
