@@ -6,7 +6,8 @@ use mathlib.Core.List.{List, [], _∷_, _++_}
 use lib.ListN.{length, drop, replicate}
 use lib.Dec.{ltb}
 use Rattle.word.specs.Word.{avoiders}
-use Rattle.word.specs.Finding.{Finding, test, firstFault}
+use Rattle.word.specs.Finding.{Finding, clean, fault, test, firstFault}
+use Rattle.word.specs.Told.{Told, toldBy}
 use Rattle.word.specs.declared.refusal.Refusal.the-variants.{Oversize, ShortTable}
 use Rattle.scheme.specs.SchemeList.{EntryList}
 use Rattle.scheme.specs.SchemeMemory.{faultOf}
@@ -43,6 +44,11 @@ faultIn (Refused r i) = At r i
 abbrev pub countedOr : Fault → ℕ → Counted
 countedOr Clean v = Count v
 countedOr (At r i) v = RefusedCount r i
+
+-- the answer in the numbers of document 01
+abbrev pub toldCounted : Counted → Told
+toldCounted (Count v) = toldBy clean (v ∷ [])
+toldCounted (RefusedCount r i) = toldBy (fault r i) []
 
 -- "uses that many cells from the front .. After a count those cells hold 0, the rest being untouched"; "Lent memory keeps its content" (01)
 abbrev pub tableAfter : Fault → ℕ → List ℕ → List ℕ

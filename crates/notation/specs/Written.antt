@@ -5,6 +5,7 @@ use mathlib.Core.List.{List, [], _∷_, _++_}
 use lib.ListN.{length, take, drop}
 use lib.Dec.{ltb}
 use Rattle.word.specs.Finding.{Finding, clean, fault, test, firstFault}
+use Rattle.word.specs.Told.{Told, toldBy}
 use Rattle.word.specs.declared.refusal.Refusal.the-variants.{ShortPage}
 use Rattle.scheme.specs.SchemeMemory.{faultOf}
 use Rattle.scheme.specs.declared.memory.Fault.{Fault}
@@ -17,6 +18,11 @@ use Rattle.notation.specs.declared.written.Written.the-variants.{Bytes, 
 abbrev pub writtenOr : Fault → ℕ → Written
 writtenOr Clean n = Bytes n
 writtenOr (At r i) n = Refused r i
+
+-- the answer in the numbers of document 01
+abbrev pub toldWritten : Written → Told
+toldWritten (Bytes n) = toldBy clean (n ∷ [])
+toldWritten (Refused r i) = toldBy (fault r i) []
 
 -- "writing them 2 to 4 and then 13" (01): the tests of the list, and then a page of n bytes that is shorter than the text
 abbrev pub writing : List Finding → List ℕ → ℕ → Finding

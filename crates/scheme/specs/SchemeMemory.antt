@@ -5,6 +5,7 @@ use mathlib.Core.List.{List, [], map, _++_}
 use lib.ListN.{getD, take, replicate}
 use Rattle.word.specs.Lists.{row}
 use Rattle.word.specs.Finding.{Finding, clean, fault}
+use Rattle.word.specs.Told.{Told, toldBy}
 use Rattle.scheme.specs.SchemeList.{Does, expands, deletes, EntryList}
 use Rattle.scheme.specs.declared.memory.Pattern.{Pattern}
 use Rattle.scheme.specs.declared.memory.Patterns.{Patterns}
@@ -70,6 +71,11 @@ faultOf (fault r i) = At r i
 abbrev pub orElse : Fault → Fault → Fault
 orElse Clean b = b
 orElse (At r i) b = At r i
+
+-- in the numbers of document 01; a finding that is clean gives these values
+abbrev pub toldOr : Fault → List ℕ → Told
+toldOr Clean given = toldBy clean given
+toldOr (At r i) given = toldBy (fault r i) given
 
 abbrev pub faulty : Fault → Bool
 faulty Clean = false

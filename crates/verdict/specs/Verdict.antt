@@ -6,6 +6,7 @@ use lib.ListN.{length}
 use lib.Dec.{eqb}
 use Rattle.word.specs.Lists.{any}
 use Rattle.word.specs.Finding.{Finding, clean, fault, firstFault}
+use Rattle.word.specs.Told.{Told, toldBy}
 use Rattle.word.specs.declared.refusal.Refusal.the-variants.{LiveGap, Irreversible}
 use Rattle.cell.specs.Cell.{total, cell, deleted, merged, compared}
 use Rattle.scheme.specs.SchemeList.{Does, expands, deletes, EntryList}
@@ -63,6 +64,11 @@ answered (At r i) n = Refused r i
 
 abbrev pub verdictOf : List (List ℕ) → List EntryList → Verdict
 verdictOf P E = answered (faultOf (firstFault (judgeTests P E))) (comparedCells P E)
+
+-- the answer in the numbers of document 01
+abbrev pub toldVerdict : Verdict → Told
+toldVerdict (Accepted n) = toldBy clean (n ∷ [])
+toldVerdict (Refused r i) = toldBy (fault r i) []
 
 -- "It is accepted for that set if judging the two refuses nothing" (01)
 abbrev pub accepted : Verdict → Bool

@@ -6,6 +6,7 @@ use lib.ListN.{length, take}
 use lib.Dec.{ltb, eqb}
 use Rattle.word.specs.Word.{contains, isPerm}
 use Rattle.word.specs.Finding.{Finding, clean, fault, test, firstFault}
+use Rattle.word.specs.Told.{Told, toldBy}
 use Rattle.word.specs.declared.refusal.Refusal.the-variants.{Oversize, NoPermutation}
 use Rattle.word.specs.declared.containment.Contained.{Contained}
 use Rattle.word.specs.declared.containment.Contained.the-variants.{Yes, No, Refused}
@@ -26,6 +27,12 @@ answerOf clean b = cond b Yes No
 
 abbrev pub containment : List ℕ → List ℕ → Contained
 containment β w = answerOf (firstFault (containmentTests β w)) (contains β w)
+
+-- the answer in the numbers of document 01: 1 for yes, 0 for no
+abbrev pub toldContained : Contained → Told
+toldContained Yes = toldBy clean (1 ∷ [])
+toldContained No = toldBy clean (0 ∷ [])
+toldContained (Refused r i) = toldBy (fault r i) []
 
 -- the patterns of a set in memory: of each of the first `count` rows as many digits as its length says
 abbrev pub patternsOf : List (List ℕ) → List ℕ → ℕ → List (List ℕ)

@@ -3,6 +3,7 @@ pub mod Lists
 pub mod Word
 pub mod Refusal
 pub mod Finding
+pub mod Told
 pub mod Copy
 pub mod Containment
 pub mod ListLaws
