@@ -1,6 +1,6 @@
 -- The rows of the table: which cells are apart, what a step stores, and how one state follows another.
-use Prim.Native.Nat.{ℕ, zero, suc, _+_, _*_, _-_, _^_, _%_, _≤_, _<_}
-use native.Mathlib.Nat.{suc-mod, mod-eq-of-lt, zero-mul, one-mul}
+use Prim.Native.Nat.{ℕ, zero, suc, _+_, _*_, _-_, _%_, _≤_, _<_}
+use native.Mathlib.Nat.{suc-mod, zero-mul, one-mul}
 use native.Mathlib.Omega.{arith}
 use mathlib.Core.Path.{_≡_, refl, sym, ap, _∙_}
 use mathlib.Core.Logic.{_⊎_, inl, inr}
@@ -27,8 +27,8 @@ use Rattle.scheme.proofs.PrefixLaws.{deleted-size}
 use Rattle.verdict.specs.ProperLaws.{position-inside}
 use Rattle.value.specs.Value.{ruleValue, entryValue}
 use Rattle.value.specs.ValueLaws.{position-high}
-use Rattle.step.specs.Step.{childrenOf, stepOf}
-use Rattle.step.specs.StepLaws.{children-sum}
+use Rattle.step.specs.Step.{childrenOf, capped, stepOf}
+use Rattle.step.specs.StepLaws.{children-sum, below-cap}
 use Rattle.plan.specs.Layout.{entryAt, prefixAt, lengthAt, placeAt, widthOf, blockOf, cellAt}
 use Rattle.plan.specs.LayoutLaws.{prefix-length, entry-proper, entry-short, place-apart}
 use Rattle.plan.specs.Plan.{Proper, LeadsTo, RulePlan, Planned}
@@ -166,12 +166,12 @@ module _ (v : List ℕ → List ℕ → ℕ) (P : List (List ℕ)) (s : Scheme) 
   -- where no gap vector covers the spacing
   rule-step : (rule : Does) → (entryAt s e) .rule ≡ rule → RulePlan n P s (prefixAt s e) rule t → v (prefixAt s e) g ≡ ruleValue v P (prefixAt s e) g rule →
       cond (eqb (t .deleted) 0)
-      (cond (eqb (total g) 0) (t .alone) (childrenOf T (map (λ x. readsFrom t here before + x) (t .links)) g % 2 ^ 64))
+      (cond (eqb (total g) 0) (t .alone) (capped (childrenOf T (map (λ x. readsFrom t here before + x) (t .links)) g)))
       (getD T (getD (map (λ x. readsFrom t here before + x) (t .links)) 0 0 + rankOf (mergeValues (t .deleted ∷ []) g)) 0) ≡
       ruleValue v P (prefixAt s e) g rule
   unfolding ruleValue
   rule-step expands r (zero-is, alone-is, leads) is =
-      ap (λ b. cond b (cond (eqb (total g) 0) (t .alone) (childrenOf T (map (λ x. readsFrom t here before + x) (t .links)) g % 2 ^ 64))
+      ap (λ b. cond b (cond (eqb (total g) 0) (t .alone) (capped (childrenOf T (map (λ x. readsFrom t here before + x) (t .links)) g)))
       (getD T (getD (map (λ x. readsFrom t here before + x) (t .links)) 0 0 + rankOf (mergeValues (t .deleted ∷ []) g)) 0)) (eq-eqb (t .deleted) 0 zero-is) ∙
       go (eqb (total g) 0) is
     where
@@ -180,18 +180,17 @@ module _ (v : List ℕ → List ℕ → ℕ) (P : List (List ℕ)) (s : Scheme) 
 
       go : (b : Bool) →
           v (prefixAt s e) g ≡ cond b (cond (avoids P (prefixAt s e)) 1 0) (total (map (λ q. v (childAt (prefixAt s e) (slot g q)) (split g q)) (oneTo (total g)))) →
-          cond b (t .alone) (childrenOf T (map (λ x. readsFrom t here before + x) (t .links)) g % 2 ^ 64) ≡
+          cond b (t .alone) (capped (childrenOf T (map (λ x. readsFrom t here before + x) (t .links)) g)) ≡
           cond b (cond (avoids P (prefixAt s e)) 1 0) (total (map (λ q. v (childAt (prefixAt s e) (slot g q)) (split g q)) (oneTo (total g))))
       go true q = alone-is
       go false q =
-          let fits : total (map (λ q. v (childAt (prefixAt s e) (slot g q)) (split g q)) (oneTo (total g))) < 2 ^ 64 =
-          omega (arith, solved .fits (prefixAt s e) g (omega arith), q) in
-          ap (λ m. m % 2 ^ 64) sum-is ∙ mod-eq-of-lt fits
+          ap capped sum-is ∙ below-cap (total (map (λ q. v (childAt (prefixAt s e) (slot g q)) (split g q)) (oneTo (total g))))
+          (omega (arith, solved .fits (prefixAt s e) g (omega arith), q))
   rule-step (deletes zero) r plan is = absurd (true-not-false (ap (outside (length (prefixAt s e))) (sym r) ∙ entry-proper s proper e inside .inside))
   rule-step (deletes (suc r)) q (value, low, leads) is =
       let o = ap (outside (length (prefixAt s e))) (sym q) ∙ entry-proper s proper e inside .inside in
       let h : r < length (prefixAt s e) = position-high (length (prefixAt s e)) (suc r) o in
-      ap (λ b. cond b (cond (eqb (total g) 0) (t .alone) (childrenOf T (map (λ x. readsFrom t here before + x) (t .links)) g % 2 ^ 64))
+      ap (λ b. cond b (cond (eqb (total g) 0) (t .alone) (capped (childrenOf T (map (λ x. readsFrom t here before + x) (t .links)) g)))
       (getD T (getD (map (λ x. readsFrom t here before + x) (t .links)) 0 0 + rankOf (mergeValues (t .deleted ∷ []) g)) 0))
       (ne-eqb (t .deleted) 0 (λ (z : t .deleted ≡ 0). omega arith)) ∙
       target-cell r h o value low leads

@@ -15,7 +15,7 @@ use Rattle.scheme.specs.declared.memory.Gap.{Gap}
 use Rattle.scheme.specs.declared.memory.Entry.{Entry}
 use Rattle.scheme.specs.declared.memory.Scheme.{Scheme}
 use Rattle.value.specs.Value.{entryValue}
-use Rattle.step.specs.Step.{stepOf}
+use Rattle.step.specs.Step.{LARGEST, stepOf}
 use Rattle.step.specs.Task.{Filled}
 use Rattle.plan.specs.Layout.{entryAt, prefixAt, lengthAt, widthOf, blockOf, cellAt}
 use Rattle.plan.specs.Plan.{Proper, Plan}
@@ -42,11 +42,12 @@ pub record Fits (e : Entry) (t : Item) (j here before : ℕ) : Type 0 where
   pub few : e .«gap_count» ≤ 8
   pub wide : (i : ℕ) → i < e .«gap_count» → (getD (e .gaps) i noGap) .width ≡ e .length + 1
 
--- v solves the recursion of document 01 for the entries of s, and has no value of 2 ^ 64 or more at lengths up to 20
+-- v solves the recursion of document 01 for the entries of s, and its values at totals up to 20 are
+-- numbers of 64 bits
 pub record Solves (v : List ℕ → List ℕ → ℕ) (P : List (List ℕ)) (s : Scheme) : Type 0 where
   pub solves : (i : ℕ) → i < s .count → (g : List ℕ) → length g ≡ suc (length (prefixAt s i)) →
       v (prefixAt s i) g ≡ entryValue v P (some (entryAt s i)) g
-  pub fits : (p g : List ℕ) → total g ≤ 20 → v p g < 18446744073709551616
+  pub fits : (p g : List ℕ) → total g ≤ 20 → v p g ≤ LARGEST
 
 -- the cells of the entry with index d in row j have their values
 abbrev pub Holds : (List ℕ → List ℕ → ℕ) → ℕ → Scheme → List ℕ → ℕ → ℕ → Type 0

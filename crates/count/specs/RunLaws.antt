@@ -123,7 +123,7 @@ sizes-solved P s formed truth =
     record {
       solves = λ (i : ℕ) (h : i < s .count) (g : List ℕ) (wide : length g ≡ suc (length (prefixAt s i))).
           entry-solves P (schemeIn s) formed truth _ (entry-member s i h) g wide;
-      fits = size-fits P;
+      fits = λ (p g : List ℕ) (h : total g ≤ 20). omega (arith, size-fits P p g h);
     }
 
 -- the counts of a run

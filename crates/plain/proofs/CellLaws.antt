@@ -1,7 +1,7 @@
 -- Laws of the plain evaluation: the gap vectors one by one, the target, the sum over the next entries.
 -- Assumes nothing.
-use Prim.Native.Nat.{ℕ, zero, suc, _+_, _*_, _-_, _%_, _≤_, _<_}
-use native.Mathlib.Nat.{sub-zero, mod-eq-of-lt, zero-add}
+use Prim.Native.Nat.{ℕ, zero, suc, _+_, _*_, _-_, _≤_, _<_}
+use native.Mathlib.Nat.{sub-zero, zero-add}
 use native.Mathlib.Numerals.{add-one}
 use native.Mathlib.Omega.{arith}
 use mathlib.Core.Path.{_≡_, refl, sym, ap, ap₂, _∙_}
@@ -25,7 +25,9 @@ use Rattle.plan.specs.Plan.{Proper}
 use Rattle.plan.specs.Layout.{entryAt, prefixAt, lengthAt}
 use Rattle.plan.specs.LayoutLaws.{prefix-length, entry-proper, entry-short, count-few}
 use Rattle.plan.proofs.ItemLaws.{position}
-use Rattle.step.proofs.SumLaws.{wrap-more, wrap-end}
+use Rattle.step.specs.Step.{LARGEST, capped}
+use Rattle.step.specs.StepLaws.{below-cap}
+use Rattle.step.proofs.SumLaws.{cap-more, cap-end}
 use Rattle.count.specs.Rows.{Solves}
 use Rattle.plain.specs.Pieces.{splitAt, HeldAt}
 use Rattle.plain.specs.Reading.{fieldOf, vectorOf, gapsAt, Names, RuleRow, Row, CellAt, Evaluates, sumFrom, Sums}
@@ -154,7 +156,7 @@ module _ (sheet : List ℕ) (e : ℕ) (g : List ℕ) (t : ℕ) (c : CellAt sheet
             (sumFrom v (prefixAt (c .of .s) e) (take (lengthAt (c .of .s) e + 1) g) 1 (total (take (lengthAt (c .of .s) e + 1) g))))
             (eq-eqb (total (take (lengthAt (c .of .s) e + 1) g)) 0 (c .whole ∙ h)))
 
-        pub sum-value : (x : ℕ) → (t ≡ 0 → ⊥) → x ≡ sumFrom v (prefixAt (c .of .s) e) (take (lengthAt (c .of .s) e + 1) g) 1 t % 18446744073709551616 →
+        pub sum-value : (x : ℕ) → (t ≡ 0 → ⊥) → x ≡ capped (sumFrom v (prefixAt (c .of .s) e) (take (lengthAt (c .of .s) e + 1) g) 1 t) →
             x ≡ v (prefixAt (c .of .s) e) (take (lengthAt (c .of .s) e + 1) g)
         unfolding ruleValue
         sum-value x n q =
@@ -164,9 +166,8 @@ module _ (sheet : List ℕ) (e : ℕ) (g : List ℕ) (t : ℕ) (c : CellAt sheet
             (sumFrom v (prefixAt (c .of .s) e) (take (lengthAt (c .of .s) e + 1) g) 1 (total (take (lengthAt (c .of .s) e + 1) g))))
             (ne-eqb (total (take (lengthAt (c .of .s) e + 1) g)) 0 (λ (y : total (take (lengthAt (c .of .s) e + 1) g) ≡ 0). n (sym (c .whole) ∙ y))) ∙
             ap (sumFrom v (prefixAt (c .of .s) e) (take (lengthAt (c .of .s) e + 1) g) 1) (c .whole) in
-            let low : sumFrom v (prefixAt (c .of .s) e) (take (lengthAt (c .of .s) e + 1) g) 1 t < 18446744073709551616 =
-            omega (arith, solved .fits (prefixAt (c .of .s) e) (take (lengthAt (c .of .s) e + 1) g) (omega (arith, c .whole, c .fits)), is) in
-            q ∙ mod-eq-of-lt low ∙ sym is
+            q ∙ below-cap (sumFrom v (prefixAt (c .of .s) e) (take (lengthAt (c .of .s) e + 1) g) 1 t)
+            (omega (arith, solved .fits (prefixAt (c .of .s) e) (take (lengthAt (c .of .s) e + 1) g) (omega (arith, c .whole, c .fits)), is)) ∙ sym is
 
     -- the entry that deletes
     module _ (w : ℕ) (q : w ≡ fieldOf sheet e 1) (n : w ≡ 0 → ⊥) where
@@ -282,23 +283,23 @@ module _ (sheet : List ℕ) (e : ℕ) (g : List ℕ) (t : ℕ) (c : CellAt sheet
 
 -- The sum over the next entries: what is summed, and what is still to come
 
-abbrev pub SumTo : List ℕ → ℕ → List ℕ → ℕ → ℕ → ℕ → ℕ → Type 0
-SumTo sheet e g t m q sum =
+abbrev pub SumTo : List ℕ → ℕ → List ℕ → ℕ → ℕ → ℕ → Type 0
+SumTo sheet e g t q sum =
     (c : CellAt sheet e g t) (v : List ℕ → List ℕ → ℕ) → Solves v (c .of .P) (c .of .s) → fieldOf sheet e 1 ≡ 0 →
-    (sum + sumFrom v (prefixAt (c .of .s) e) (take (lengthAt (c .of .s) e + 1) g) q (suc t - q)) % m ≡
-    sumFrom v (prefixAt (c .of .s) e) (take (lengthAt (c .of .s) e + 1) g) 1 t % m
+    capped (sum + sumFrom v (prefixAt (c .of .s) e) (take (lengthAt (c .of .s) e + 1) g) q (suc t - q)) ≡
+    capped (sumFrom v (prefixAt (c .of .s) e) (take (lengthAt (c .of .s) e + 1) g) 1 t)
 
-module _ (sheet : List ℕ) (e : ℕ) (g : List ℕ) (t m : ℕ) where
-  pub sum-start : SumTo sheet e g t m 1 0
+module _ (sheet : List ℕ) (e : ℕ) (g : List ℕ) (t : ℕ) where
+  pub sum-start : SumTo sheet e g t 1 0
   sum-start c v solved z =
       let o : suc t - 1 ≡ t = omega arith in
-      ap (λ n. (0 + sumFrom v (prefixAt (c .of .s) e) (take (lengthAt (c .of .s) e + 1) g) 1 n) % m) o ∙
-      ap (λ n. n % m) (zero-add (sumFrom v (prefixAt (c .of .s) e) (take (lengthAt (c .of .s) e + 1) g) 1 t))
+      ap (λ n. capped (0 + sumFrom v (prefixAt (c .of .s) e) (take (lengthAt (c .of .s) e + 1) g) 1 n)) o ∙
+      ap capped (zero-add (sumFrom v (prefixAt (c .of .s) e) (take (lengthAt (c .of .s) e + 1) g) 1 t))
 
-  pub sum-more : (q sum y : ℕ) (x : ℕ) → q ≤ t → SumTo sheet e g t m q sum → y ≡ (sum + x) % m →
+  pub sum-more : (q sum y : ℕ) (x : ℕ) → q ≤ t → SumTo sheet e g t q sum → y ≡ capped (sum + x) →
       ((c : CellAt sheet e g t) (v : List ℕ → List ℕ → ℕ) → Solves v (c .of .P) (c .of .s) → fieldOf sheet e 1 ≡ 0 →
       x ≡ v (childAt (prefixAt (c .of .s) e) (slot (take (lengthAt (c .of .s) e + 1) g) q)) (split (take (lengthAt (c .of .s) e + 1) g) q)) →
-      SumTo sheet e g t m (q + 1) y
+      SumTo sheet e g t (q + 1) y
   unfolding total
   sum-more q sum y x h s ye is c v solved z =
       let p = prefixAt (c .of .s) e in
@@ -307,11 +308,11 @@ module _ (sheet : List ℕ) (e : ℕ) (g : List ℕ) (t m : ℕ) where
       let r : suc t - (q + 1) ≡ t - q = omega arith in
       let step : sumFrom v p G q (suc t - q) ≡ x + sumFrom v p G (q + 1) (suc t - (q + 1)) =
       ap (sumFrom v p G q) o ∙ ap₂ _+_ (sym (is c v solved z)) (ap₂ (sumFrom v p G) (sym (add-one q)) (sym r)) in
-      wrap-more m sum x (sumFrom v p G (q + 1) (suc t - (q + 1))) y ye ∙ ap (λ n. (sum + n) % m) (sym step) ∙ s c v solved z
+      cap-more LARGEST sum x (sumFrom v p G (q + 1) (suc t - (q + 1))) y ye ∙ ap (λ n. capped (sum + n)) (sym step) ∙ s c v solved z
 
-  pub sum-end : (q sum : ℕ) → t < q → sum < m → SumTo sheet e g t m q sum → Sums sheet e g t m sum
+  pub sum-end : (q sum : ℕ) → t < q → sum ≤ LARGEST → SumTo sheet e g t q sum → Sums sheet e g t sum
   unfolding total
   sum-end q sum h low s c v solved z =
       let o : suc t - q ≡ 0 = omega arith in
-      wrap-end m sum (sumFrom v (prefixAt (c .of .s) e) (take (lengthAt (c .of .s) e + 1) g) 1 t) low
-      (ap (λ n. (sum + sumFrom v (prefixAt (c .of .s) e) (take (lengthAt (c .of .s) e + 1) g) q n) % m) (sym o) ∙ s c v solved z)
+      cap-end LARGEST sum (sumFrom v (prefixAt (c .of .s) e) (take (lengthAt (c .of .s) e + 1) g) 1 t) low
+      (ap (λ n. capped (sum + sumFrom v (prefixAt (c .of .s) e) (take (lengthAt (c .of .s) e + 1) g) q n)) (sym o) ∙ s c v solved z)

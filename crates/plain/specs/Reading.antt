@@ -1,5 +1,5 @@
 -- What the plain evaluation reads from the sheet. Definitions only.
-use Prim.Native.Nat.{ℕ, suc, _+_, _*_, _%_, _≤_, _<_}
+use Prim.Native.Nat.{ℕ, suc, _+_, _*_, _≤_, _<_}
 use mathlib.Core.Path.{_≡_}
 use mathlib.Core.Bool.{cond}
 use mathlib.Core.List.{List, [], _∷_, map}
@@ -14,6 +14,7 @@ use Rattle.scheme.specs.declared.links.Found.{Found}
 use Rattle.scheme.specs.declared.links.Found.the-variants.{At, Nothing}
 use Rattle.plan.specs.Layout.{entryAt, prefixAt, lengthAt}
 use Rattle.plan.specs.Plan.{Proper}
+use Rattle.step.specs.Step.{capped}
 use Rattle.count.specs.Rows.{Solves}
 
 -- byte f of the entry with index e
@@ -82,7 +83,7 @@ abbrev pub sumFrom : (List ℕ → List ℕ → ℕ) → List ℕ → List ℕ �
 sumFrom v p g q n = total (map (λ s. v (childAt p (slot g s)) (split g s)) (row q n))
 
 -- the sum over every next entry, for every function that solves the recursion
-abbrev pub Sums : List ℕ → ℕ → List ℕ → ℕ → ℕ → ℕ → Type 0
-Sums sheet e g t m r =
+abbrev pub Sums : List ℕ → ℕ → List ℕ → ℕ → ℕ → Type 0
+Sums sheet e g t r =
     (c : CellAt sheet e g t) (v : List ℕ → List ℕ → ℕ) → Solves v (c .of .P) (c .of .s) → fieldOf sheet e 1 ≡ 0 →
-    r ≡ sumFrom v (prefixAt (c .of .s) e) (take (lengthAt (c .of .s) e + 1) g) 1 t % m
+    r ≡ capped (sumFrom v (prefixAt (c .of .s) e) (take (lengthAt (c .of .s) e + 1) g) 1 t)

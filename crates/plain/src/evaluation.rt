@@ -4,7 +4,8 @@ use crate::reading::is_free_at;
 use crate::spacings::held;
 use crate::spacings::merged_spacing;
 use crate::spacings::split_spacing;
-ghost use Prim.Native.Nat.{_≤_, _^_};
+use step::sums::capped_sum;
+ghost use Prim.Native.Nat.{_≤_};
 ghost use mathlib.Core.Path.{_≡_};
 ghost use Rattle.plain.specs.Reading.{fieldOf, CellAt, Evaluates, Sums};
 
@@ -32,7 +33,7 @@ pub fn cell(sheet: &[u8], e: usize, g: [u8; 7], t: usize) -> u64
 // The sum over every next entry.
 fn next_sum(sheet: &[u8], e: usize, k: usize, g: [u8; 7], t: usize) -> u64
     requires { ⌜ CellAt (now sheet) e g t × (k ≡ fieldOf (now sheet) e 0) × (fieldOf (now sheet) e 1 ≡ 0) × (1 ≤ t) ⌝ }
-    ensures { λ r. ⌜ Sums (now (sheet .entry)) e g t (2 ^ 64) r ⌝ }
+    ensures { λ r. ⌜ Sums (now (sheet .entry)) e g t r ⌝ }
 {
     let mut sum: u64 = 0;
     let mut q: usize = 1;
@@ -41,7 +42,7 @@ fn next_sum(sheet: &[u8], e: usize, k: usize, g: [u8; 7], t: usize) -> u64
         let h = split_spacing(g, k, at.index, at.left);
         let child = field(sheet, e, 8 + at.index);
         let x = cell(sheet, child, h, t - 1);
-        sum = std::num::wrapping_add_u64(sum, x);
+        sum = capped_sum(sum, x);
         q += 1;
     }
     sum

@@ -1,6 +1,6 @@
 -- The cases of a step, and the cells of one entry filled one after the other.
 -- Assumes nothing.
-use Prim.Native.Nat.{ℕ, suc, _+_, _-_, _^_, _%_, _≤_, _<_}
+use Prim.Native.Nat.{ℕ, suc, _+_, _-_, _≤_, _<_}
 use native.Mathlib.Numerals.{add-one}
 use native.Mathlib.Omega.{arith}
 use mathlib.Core.Path.{_≡_, refl, sym, ap, _∙_}
@@ -16,7 +16,7 @@ use Rattle.cell.specs.Binomial.{binomial}
 use Rattle.spacing.specs.SpacingOrder.{firstVector, first-length, first-total}
 use Rattle.rank.specs.Rank.{rankAfter, rankOf, nextOf}
 use Rattle.rank.specs.RankLaws.{rank-injective, next-rank, next-length, next-total, first-rank}
-use Rattle.step.specs.Step.{childrenOf, stepOf}
+use Rattle.step.specs.Step.{childrenOf, capped, stepOf}
 use Rattle.step.specs.Task.{Outside, Steady, UpTo, Filled}
 
 -- The cases of a step
@@ -35,7 +35,7 @@ module _ (T : List ℕ) (B : List (List ℕ)) (w alone : ℕ) (links g : List �
   unfolding stepOf
   step-alone e n t = rw (e, eq-eqb w 0 n, eq-eqb (total g) 0 t) refl
 
-  pub step-sums : free B g ≡ true → w ≡ 0 → (total g ≡ 0 → ⊥) → childrenOf T links g % 2 ^ 64 ≡ stepOf T B w alone links g
+  pub step-sums : free B g ≡ true → w ≡ 0 → (total g ≡ 0 → ⊥) → capped (childrenOf T links g) ≡ stepOf T B w alone links g
   unfolding stepOf
   step-sums e n t = rw (e, eq-eqb w 0 n, ne-eqb (total g) 0 t) refl
 

@@ -1,7 +1,7 @@
 -- The sums of a step, term by term.
 -- Assumes nothing.
-use Prim.Native.Nat.{ℕ, suc, _+_, _*_, _-_, _%_, _≤_, _<_}
-use native.Mathlib.Nat.{mod-add-mod, add-mod-mod, mod-lt, mod-eq-of-lt, add-zero, add-assoc}
+use Prim.Native.Nat.{ℕ, suc, _+_, _*_, _-_, min, _≤_, _<_}
+use native.Mathlib.Nat.{zero-add}
 use native.Mathlib.Numerals.{add-one}
 use native.Mathlib.Omega.{arith}
 use mathlib.Core.Path.{_≡_, refl, sym, ap, ap₂, _∙_}
@@ -15,37 +15,36 @@ use Rattle.rank.specs.RankLaws.{after-head, merge-none}
 use Rattle.rank.specs.PascalLaws.{binomial-small}
 use Rattle.step.specs.Step.{partSum, childSum, childrenOf}
 
+-- Sums with a cap M, term by term
+
 module _ (M : ℕ) where
-  -- one term more of a sum that wraps
-  pub wrap-more : (s x r n : ℕ) → n ≡ (s + x) % M → (n + r) % M ≡ (s + (x + r)) % M
-  wrap-more s x r n e = ap (λ m. (m + r) % M) e ∙ mod-add-mod (s + x) M r ∙ ap (λ m. m % M) (add-assoc s x r)
+  -- one term more
+  pub cap-more : (s x r n : ℕ) → n ≡ min (s + x) M → min (n + r) M ≡ min (s + (x + r)) M
+  cap-more s x r n e = omega arith
 
   -- a sum that is at its end
-  pub wrap-end : (s t : ℕ) → s < M → (s + 0) % M ≡ t % M → s ≡ t % M
-  wrap-end s t h e = sym (mod-eq-of-lt h) ∙ ap (λ m. m % M) (sym (add-zero s)) ∙ e
+  pub cap-end : (s t : ℕ) → s ≤ M → min (s + 0) M ≡ min t M → s ≡ min t M
+  cap-end s t h e = omega arith
 
-  -- a last part
-  pub wrap-last : (s x n t : ℕ) → n ≡ (s + x % M) % M → (s + x) % M ≡ t % M → n ≡ t % M
-  wrap-last s x n t e f = e ∙ add-mod-mod s x M ∙ f
+  -- a part that is itself a sum with the cap
+  pub cap-part : (s x : ℕ) → min (s + min x M) M ≡ min (s + x) M
+  cap-part s x = omega arith
 
   -- The sum over a component: what is summed, and what is still to come.
   pub record Part (T : List ℕ) (at col first n end sum z : ℕ) : Type 0 where
-    pub whole : (sum + partSum T at col z (end - z)) % M ≡ partSum T at col first n % M
+    pub whole : min (sum + partSum T at col z (end - z)) M ≡ min (partSum T at col first n) M
     pub high : z ≤ end
-    pub wrapped : sum < M
+    pub low : sum ≤ M
 
   module _ (T : List ℕ) (at col first n : ℕ) where
-    pub part-start : 0 < M → Part T at col first n (first + n) 0 first
-    part-start h =
+    pub part-start : Part T at col first n (first + n) 0 first
+    part-start =
         let e : first + n - first ≡ n = omega arith in
         record {
-          whole = rw e (ap (λ m. m % M) (zero-add (partSum T at col first n)));
+          whole = rw e (ap (λ m. min m M) (zero-add (partSum T at col first n)));
           high = omega arith;
-          wrapped = h;
+          low = omega arith;
         }
-      where
-        zero-add : (m : ℕ) → 0 + m ≡ m
-        zero-add m = omega arith
 
     module _ (end sum z : ℕ) (p : Part T at col first n end sum z) where
       part-next : z < end → partSum T at col z (end - z) ≡ getD T (at + binomial z col) 0 + partSum T at col (z + 1) (end - (z + 1))
@@ -54,20 +53,20 @@ module _ (M : ℕ) where
           let e : end - z ≡ suc (end - (z + 1)) = omega arith in
           rw (e, add-one z) refl
 
-      pub part-more : (x y : ℕ) → 0 < M → z < end → x ≡ getD T (at + binomial z col) 0 → y ≡ (sum + x) % M → Part T at col first n end y (z + 1)
-      part-more x y m h e f =
+      pub part-more : (x y : ℕ) → z < end → x ≡ getD T (at + binomial z col) 0 → y ≡ min (sum + x) M → Part T at col first n end y (z + 1)
+      part-more x y h e f =
           record {
-            whole = wrap-more sum x (partSum T at col (z + 1) (end - (z + 1))) y f ∙
-                ap (λ r. (sum + r) % M) (ap (λ u. u + partSum T at col (z + 1) (end - (z + 1))) e ∙ sym (part-next h)) ∙ p .whole;
+            whole = cap-more sum x (partSum T at col (z + 1) (end - (z + 1))) y f ∙
+                ap (λ r. min (sum + r) M) (ap (λ u. u + partSum T at col (z + 1) (end - (z + 1))) e ∙ sym (part-next h)) ∙ p .whole;
             high = omega arith;
-            wrapped = rw f (mod-lt (sum + x) m);
+            low = omega arith;
           }
 
-      pub part-end : end ≤ z → sum ≡ partSum T at col first n % M
+      pub part-end : end ≤ z → sum ≡ min (partSum T at col first n) M
       unfolding partSum
       part-end h =
           let e : end - z ≡ 0 = omega arith in
-          wrap-end sum (partSum T at col first n) (p .wrapped) (ap (λ r. (sum + partSum T at col z r) % M) (sym e) ∙ p .whole)
+          cap-end sum (partSum T at col first n) (p .low) (ap (λ r. min (sum + partSum T at col z r) M) (sym e) ∙ p .whole)
 
 -- How large ranks are
 
@@ -83,7 +82,7 @@ after-small i a (x ∷ g) h = omega (arith, from-small i (a + x) g (omega arith)
 
 -- The sum over every next entry: what is summed, and what is still to come. G is the spacing, z the first value of component i.
 pub record Sums (M : ℕ) (T links G : List ℕ) (k above below z sum i : ℕ) : Type 0 where
-  pub whole : (sum + childSum T links i below z (drop i G)) % M ≡ childrenOf T links G % M
+  pub whole : min (sum + childSum T links i below z (drop i G)) M ≡ min (childrenOf T links G) M
   pub high : above ≡ rankAfter (i + 1) z (drop i G)
   pub fits : z + total (drop i G) + (k - i) ≤ 20
   pub low : below ≤ i * 1048576
@@ -94,15 +93,12 @@ module _ (M : ℕ) (T links G : List ℕ) (k : ℕ) (size : length G ≡ k + 1) 
   unfolding childrenOf
   sums-start a e h =
       record {
-        whole = ap (λ m. m % M) (zero-add (childSum T links 0 0 0 G));
+        whole = ap (λ m. min m M) (zero-add (childSum T links 0 0 0 G));
         high = e ∙ ap (rankAfter 1 0) (merge-none G);
         fits = omega arith;
         low = omega arith;
         reach = omega arith;
       }
-    where
-      zero-add : (m : ℕ) → 0 + m ≡ m
-      zero-add m = omega arith
 
   module _ (above below z sum i : ℕ) (s : Sums M T links G k above below z sum i) where
     cut : drop i G ≡ getD G i 0 ∷ drop (suc i) G
@@ -140,7 +136,7 @@ module _ (M : ℕ) (T links G : List ℕ) (k : ℕ) (size : length G ≡ k + 1) 
             let o : i + 2 ≡ suc (suc i) = omega arith in
             omega (arith, f ∙ ap (binomial (z + x)) o, above-head)
 
-        pub sums-more : (p n y w : ℕ) → p ≡ partSum T (getD links i 0 + (below + above)) (i + 1) z x % M → n ≡ (sum + p) % M →
+        pub sums-more : (p n y w : ℕ) → p ≡ min (partSum T (getD links i 0 + (below + above)) (i + 1) z x) M → n ≡ min (sum + p) M →
             y ≡ binomial (z + x) (i + 1) → w ≡ binomial (z + x) (i + 2) → Sums M T links G k (above - w) (below + y) (z + x + 1) n (i + 1)
         unfolding childSum
         sums-more p n y w pe ne ye we =
@@ -154,18 +150,18 @@ module _ (M : ℕ) (T links G : List ℕ) (k : ℕ) (size : length G ≡ k + 1) 
             ap₂ _+_ (ap₂ (λ a c. partSum T (getD links i 0 + (below + a)) c z x) (sym above-from) i1)
             (ap (λ c. childSum T links c (below + binomial (z + x) c) (suc (z + x)) (drop c G)) i1 ∙
             ap₂ (λ u c. childSum T links (i + 1) (below + u) c (drop (i + 1) G)) (sym ye) z1) in
-            let sum-is : n ≡ (sum + X) % M = ne ∙ ap (λ m. (sum + m) % M) pe ∙ add-mod-mod sum X M in
+            let sum-is : n ≡ min (sum + X) M = ne ∙ ap (λ m. min (sum + m) M) pe ∙ cap-part M sum X in
             let tail-is : rankAfter (suc (suc i)) (suc (z + x)) (drop (suc i) G) ≡ rankAfter (i + 1 + 1) (z + x + 1) (drop (i + 1) G) =
             rw (add-one i, add-one (suc i), ← z1) refl in
             record {
-              whole = wrap-more M sum X R n sum-is ∙ ap (λ m. (sum + m) % M) (sym step) ∙ s .whole;
+              whole = cap-more M sum X R n sum-is ∙ ap (λ m. min (sum + m) M) (sym step) ∙ s .whole;
               high = omega (arith, we ∙ ap (binomial (z + x)) o, above-head, tail-is);
               fits = rw (add-one i) (omega (arith, s .fits, rest));
               low = omega (arith, s .low, ye, binomial-small (z + x) (i + 1) (component-small x e));
               reach = omega arith;
             }
 
-      pub sums-end : (p n : ℕ) → k ≤ i → p ≡ partSum T (getD links k 0 + below) (k + 1) z x % M → n ≡ (sum + p) % M → n ≡ childrenOf T links G % M
+      pub sums-end : (p n : ℕ) → k ≤ i → p ≡ min (partSum T (getD links k 0 + below) (k + 1) z x) M → n ≡ min (sum + p) M → n ≡ min (childrenOf T links G) M
       unfolding childSum rankFrom
       sums-end p n h pe ne =
           let q : i ≡ k = omega (arith, s .reach) in
@@ -176,4 +172,4 @@ module _ (M : ℕ) (T links G : List ℕ) (k : ℕ) (size : length G ≡ k + 1) 
           let step : childSum T links i below z (drop i G) ≡ X + 0 =
           ap (childSum T links i below z) (shape ∙ ap (λ (l : List ℕ). x ∷ l) none) ∙ rw (b0, q, add-one k) refl in
           let x0 : X + 0 ≡ X = omega arith in
-          wrap-last M sum X n (childrenOf T links G) (ne ∙ ap (λ m. (sum + m) % M) pe) (ap (λ m. (sum + m) % M) (sym (step ∙ x0)) ∙ s .whole)
+          ne ∙ ap (λ m. min (sum + m) M) pe ∙ cap-part M sum X ∙ ap (λ m. min (sum + m) M) (sym (step ∙ x0)) ∙ s .whole

@@ -1,5 +1,5 @@
 -- What one step of the count reads from the table and stores. Definitions only.
-use Prim.Native.Nat.{ℕ, zero, suc, _+_, _^_, _%_}
+use Prim.Native.Nat.{ℕ, zero, suc, _+_, min}
 use mathlib.Core.Bool.{cond}
 use mathlib.Core.List.{List, [], _∷_}
 use lib.ListN.{getD}
@@ -26,11 +26,20 @@ unfoldable pub childrenOf : List ℕ → List ℕ → List ℕ → ℕ
 unfolding childSum
 childrenOf T links g = childSum T links 0 0 0 g
 
--- What a step stores at the spacing g of an entry with the gap vectors B. w is the value that the entry deletes, or 0 where it expands; `alone` is the
--- value at total 0 of an expanding entry. Sums are taken as 64-bit numbers; that none passes 2 ^ 64 is a theorem on accepted schemes.
+-- the largest number of 64 bits, 2 ^ 64 - 1
+abbrev pub LARGEST : ℕ
+LARGEST = 18446744073709551615
+
+-- A sum of values as the table holds it: the sum itself, or the largest number where the sum is
+-- larger. In an accepted scheme no sum is: count/specs/SumLaws.antt.
+abbrev pub capped : ℕ → ℕ
+capped n = min n LARGEST
+
+-- What a step stores at the spacing g of an entry with the gap vectors B. w is the value that the
+-- entry deletes, or 0 where it expands; `alone` is the value at total 0 of an expanding entry.
 unfoldable pub stepOf : List ℕ → List (List ℕ) → ℕ → ℕ → List ℕ → List ℕ → ℕ
 unfolding free total mergeValues childrenOf rankOf
 stepOf T B w alone links g =
     cond (free B g)
-    (cond (eqb w 0) (cond (eqb (total g) 0) alone (childrenOf T links g % 2 ^ 64)) (getD T (getD links 0 0 + rankOf (mergeValues (w ∷ []) g)) 0))
+    (cond (eqb w 0) (cond (eqb (total g) 0) alone (capped (childrenOf T links g))) (getD T (getD links 0 0 + rankOf (mergeValues (w ∷ []) g)) 0))
     0

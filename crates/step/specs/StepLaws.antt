@@ -13,8 +13,12 @@ use Rattle.cell.specs.Binomial.{binomial}
 use Rattle.rank.specs.Rank.{rankFrom, rankAfter, rankOf}
 use Rattle.rank.specs.TotalLaws.{total-append, row-cut, total-shift}
 use Rattle.rank.specs.RankLaws.{after-head}
-use Rattle.step.specs.Step.{partSum, childSum, childrenOf}
+use Rattle.step.specs.Step.{LARGEST, capped, partSum, childSum, childrenOf}
 use borrow.Author.Tests.{le-leb, lt-leb}
+
+-- a sum that is no larger than the cap is itself
+pub below-cap : (n : ℕ) → n ≤ LARGEST → capped n ≡ n
+below-cap n h = omega arith
 
 module _ (T links : List ℕ) where
   -- the cell of the next entry q

@@ -1,14 +1,15 @@
 // The value of one cell, from the cells that are filled already.
+use crate::sums::capped_sum;
 use rank::binomials::choose;
 use rank::walk::rank_without;
 use rank::walk::wide;
 use spacing::is_free;
 ghost use mathlib.Core.Path.{_≡_};
-ghost use Prim.Native.Nat.{_+_, _^_, _%_, _≤_, _<_};
+ghost use Prim.Native.Nat.{_+_, _≤_, _<_};
 ghost use lib.ListN.{getD, set, take};
 ghost use Rattle.cell.specs.Cell.{total};
 ghost use Rattle.rank.specs.Pascal.{Pascal};
-ghost use Rattle.step.specs.Step.{partSum, childrenOf};
+ghost use Rattle.step.specs.Step.{partSum, childrenOf, capped};
 ghost use Rattle.step.specs.Task.{Near, TaskFits, spacingIn, taskStep};
 
 // What the cells of one entry at one length share: the entry's length and the total of its spacings; the value that the entry deletes, or 0; what an
@@ -45,14 +46,14 @@ pub fn store(table: &mut [u64], i: usize, x: u64)
 // The sum of the cells at `at` + C(z, col) for the n values z from `first` on.
 fn part_sum(table: &[u64], at: usize, col: usize, first: usize, n: usize, b: &[usize]) -> u64
     requires { ⌜ (at ≤ 2199023255552) × (col < 8) × (first + n ≤ 21) × Pascal (now b) ⌝ }
-    ensures { λ r. ⌜ r ≡ partSum (now (table .entry)) at col first n % 2 ^ 64 ⌝ }
+    ensures { λ r. ⌜ r ≡ capped (partSum (now (table .entry)) at col first n) ⌝ }
 {
     let end = first + n;
     let mut sum: u64 = 0;
     let mut z = first;
     while z < end {
         let x = read(table, at + choose(b, z, col));
-        sum = std::num::wrapping_add_u64(sum, x);
+        sum = capped_sum(sum, x);
         z += 1;
     }
     sum
@@ -62,7 +63,7 @@ fn part_sum(table: &[u64], at: usize, col: usize, first: usize, n: usize, b: &[u
 // whose binomials stay (`below`), and those behind it, which are now counted as one more (`above`).
 fn child_sum(table: &[u64], links: [usize; 8], g: [u8; 7], k: usize, b: &[usize]) -> u64
     requires { ⌜ (k ≤ 6) × (k + total (take (k + 1) g) ≤ 20) × Near links × Pascal (now b) ⌝ }
-    ensures { λ r. ⌜ r ≡ childrenOf (now (table .entry)) links (take (k + 1) g) % 2 ^ 64 ⌝ }
+    ensures { λ r. ⌜ r ≡ capped (childrenOf (now (table .entry)) links (take (k + 1) g)) ⌝ }
 {
     let mut above = rank_without(g, k, 0, 1, b);
     let mut below: usize = 0;
@@ -72,7 +73,7 @@ fn child_sum(table: &[u64], links: [usize; 8], g: [u8; 7], k: usize, b: &[usize]
     while i < k {
         let x = wide(g[i]);
         let part = part_sum(table, links[i] + (below + above), i + 1, z, x, b);
-        sum = std::num::wrapping_add_u64(sum, part);
+        sum = capped_sum(sum, part);
         z += x;
         below += choose(b, z, i + 1);
         above -= choose(b, z, i + 2);
@@ -81,7 +82,7 @@ fn child_sum(table: &[u64], links: [usize; 8], g: [u8; 7], k: usize, b: &[usize]
     }
     let last = wide(g[k]);
     let end = part_sum(table, links[k] + below, k + 1, z, last, b);
-    std::num::wrapping_add_u64(sum, end)
+    capped_sum(sum, end)
 }
 
 // The value at the spacing g: 0 where a gap vector covers it; else, for a deleting entry, the value at its target, and for an expanding entry the sum

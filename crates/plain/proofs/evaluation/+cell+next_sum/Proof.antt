@@ -4,11 +4,12 @@ use denote.Ref.{now}
 use borrow.Author.Needs.{needs}
 use borrow.Author.Tests.{not-true, not-false}
 use native.Mathlib.Omega.{arith}
-use Prim.Native.Nat.{ℕ, _+_, _-_, _^_, _%_, _<_, _≤_}
+use Prim.Native.Nat.{ℕ, _+_, _-_, _<_, _≤_}
 use mathlib.Core.Path.{_≡_, sym, _∙_, subst}
 use mathlib.Core.Bool.{true, false}
 use lib.ListN.{length, take}
 use Rattle.cell.specs.Cell.{free}
+use Rattle.step.specs.Step.{LARGEST, capped}
 use Rattle.plain.specs.Reading.{fieldOf, gapsAt, CellAt, Evaluates}
 use Rattle.plain.proofs.CellLaws.{measureOf, index-small, few, length-small, total-is, deleted-low, deleted-high, target-at, target-falls}
 use Rattle.plain.proofs.CellLaws.{target-evaluates, covered-value, alone-value, sum-value, length-less, child-at, child-falls, child-evaluates, SumTo}
@@ -29,11 +30,11 @@ use Rattle.plain.proofs.reading.is_free_at.Reads as is-free-at-reads
 use Rattle.plain.proofs.spacings.held.Reads as held-reads
 use Rattle.plain.proofs.spacings.merged_spacing.Reads as merged-spacing-reads
 use Rattle.plain.proofs.spacings.split_spacing.Reads as split-spacing-reads
-use Rattle.std.proofs.num.wrapping_add_u64.Reads as wrapping-add-u64-reads
+use Rattle.step.proofs.sums.capped_sum.Reads as capped-sum-reads
 
--- a sum that wraps stays below 2 ^ 64
-wrapped : (y x : ℕ) → y ≡ x % 2 ^ 64 → y < 2 ^ 64
-wrapped y x e = omega arith
+-- a sum with the cap is a number of 64 bits
+cap-high : (y x : ℕ) → y ≡ capped x → y ≤ LARGEST
+cap-high y x e = omega arith
 
 abbrev μ-cell : Measures 1 cell-kinds.ps ℕ
 μ-cell κs a = measureOf (now (a .0)) (a .1 .0) (a .1 .1 .1 .0)
@@ -318,7 +319,7 @@ cell-returns-4 t c =
 
 abbrev next-sum-Inv-loop : next-sum-lts.InvT-loop
 next-sum-Inv-loop sheet e k g t sum₀ q₀ sum q =
-    (1 ≤ q) × (q ≤ t + 1) × (sum < 2 ^ 64) × SumTo sheet e g t (2 ^ 64) q sum
+    (1 ≤ q) × (q ≤ t + 1) × (sum ≤ LARGEST) × SumTo sheet e g t q sum
 
 abbrev next-sum-μ-loop : next-sum-lts.MeasureT-loop
 next-sum-μ-loop sheet e k g t sum₀ q₀ sum q = t + 1 - q
@@ -332,14 +333,14 @@ next-sum-loop-holds : (t : ℕ) → next-sum-lts.Need-loop-holds (
   field-reads.Learnt,
   cell-below t,
   cell.Post,
-  wrapping-add-u64-reads.Asked,
-  wrapping-add-u64-reads.Learnt,
+  capped-sum-reads.Asked,
+  capped-sum-reads.Learnt,
 ) (next-sum-at t) next-sum.Post next-sum-Inv-loop next-sum-μ-loop
 next-sum-loop-holds t c =
     let a = c .before .args in
     let q = c .before .pre .1 .0 in
     let p = c .before .pre .1 in
-    (omega arith, omega arith, omega arith, sum-start (now (a .sheet)) (a .e) (a .g) (a .t) (2 ^ 64))
+    (omega arith, omega arith, omega arith, sum-start (now (a .sheet)) (a .e) (a .g) (a .t))
 
 next-sum-held-requires : (t : ℕ) → next-sum-lts.Need-held-requires (
   held-reads.Asked,
@@ -350,8 +351,8 @@ next-sum-held-requires : (t : ℕ) → next-sum-lts.Need-held-requires (
   field-reads.Learnt,
   cell-below t,
   cell.Post,
-  wrapping-add-u64-reads.Asked,
-  wrapping-add-u64-reads.Learnt,
+  capped-sum-reads.Asked,
+  capped-sum-reads.Learnt,
 ) (next-sum-at t) next-sum.Post next-sum-Inv-loop next-sum-μ-loop
 next-sum-held-requires t c κs =
     let a = c .before .before .before .args in
@@ -369,8 +370,8 @@ next-sum-split-spacing-requires : (t : ℕ) → next-sum-lts.Need-split-spacing-
   field-reads.Learnt,
   cell-below t,
   cell.Post,
-  wrapping-add-u64-reads.Asked,
-  wrapping-add-u64-reads.Learnt,
+  capped-sum-reads.Asked,
+  capped-sum-reads.Learnt,
 ) (next-sum-at t) next-sum.Post next-sum-Inv-loop next-sum-μ-loop
 next-sum-split-spacing-requires t c κs =
     let a = c .before .before .before .before .args in
@@ -392,8 +393,8 @@ next-sum-add-field : (t : ℕ) → next-sum-lts.Need-add-field (
   field-reads.Learnt,
   cell-below t,
   cell.Post,
-  wrapping-add-u64-reads.Asked,
-  wrapping-add-u64-reads.Learnt,
+  capped-sum-reads.Asked,
+  capped-sum-reads.Learnt,
 ) (next-sum-at t) next-sum.Post next-sum-Inv-loop next-sum-μ-loop
 next-sum-add-field t c =
     let a = c .before .before .before .before .before .before .args in
@@ -410,8 +411,8 @@ next-sum-field-requires : (t : ℕ) → next-sum-lts.Need-field-requires (
   field-reads.Learnt,
   cell-below t,
   cell.Post,
-  wrapping-add-u64-reads.Asked,
-  wrapping-add-u64-reads.Learnt,
+  capped-sum-reads.Asked,
+  capped-sum-reads.Learnt,
 ) (next-sum-at t) next-sum.Post next-sum-Inv-loop next-sum-μ-loop
 next-sum-field-requires t c κs =
     let a = c .before .before .before .before .before .before .args in
@@ -428,8 +429,8 @@ next-sum-sub-cell : (t : ℕ) → next-sum-lts.Need-sub-cell (
   field-reads.Learnt,
   cell-below t,
   cell.Post,
-  wrapping-add-u64-reads.Asked,
-  wrapping-add-u64-reads.Learnt,
+  capped-sum-reads.Asked,
+  capped-sum-reads.Learnt,
 ) (next-sum-at t) next-sum.Post next-sum-Inv-loop next-sum-μ-loop
 next-sum-sub-cell t c = search needs
 
@@ -442,8 +443,8 @@ next-sum-cell-requires : (t : ℕ) → next-sum-lts.Need-cell-requires (
   field-reads.Learnt,
   cell-below t,
   cell.Post,
-  wrapping-add-u64-reads.Asked,
-  wrapping-add-u64-reads.Learnt,
+  capped-sum-reads.Asked,
+  capped-sum-reads.Learnt,
 ) (next-sum-at t) next-sum.Post next-sum-Inv-loop next-sum-μ-loop
 next-sum-cell-requires t c κs =
     let a = c .before .before .before .before .before .before .before .args in
@@ -455,7 +456,7 @@ next-sum-cell-requires t c κs =
     subst (λ (d : ℕ). (measureOf (now (a .sheet)) d (a .t - 1) < t) × CellAt (now (a .sheet)) d (c .before .before .split-spacing .result) (a .t - 1)) (sym (c .field .ensures))
     (subst (λ (m : ℕ). measureOf (now (a .sheet)) (fieldOf (now (a .sheet)) (a .e) (8 + c .before .before .before .held .result .index)) (a .t - 1) < m) (c .before .before .before .before .before .before .before .pre .0) fall, at)
 
-next-sum-wrapping-add-u64-requires : (t : ℕ) → next-sum-lts.Need-wrapping-add-u64-requires (
+next-sum-capped-sum-requires : (t : ℕ) → next-sum-lts.Need-capped-sum-requires (
   held-reads.Asked,
   held-reads.Learnt,
   split-spacing-reads.Asked,
@@ -464,10 +465,10 @@ next-sum-wrapping-add-u64-requires : (t : ℕ) → next-sum-lts.Need-wrapping-ad
   field-reads.Learnt,
   cell-below t,
   cell.Post,
-  wrapping-add-u64-reads.Asked,
-  wrapping-add-u64-reads.Learnt,
+  capped-sum-reads.Asked,
+  capped-sum-reads.Learnt,
 ) (next-sum-at t) next-sum.Post next-sum-Inv-loop next-sum-μ-loop
-next-sum-wrapping-add-u64-requires t c κs = search needs
+next-sum-capped-sum-requires t c κs = search needs
 
 next-sum-add-q : (t : ℕ) → next-sum-lts.Need-add-q (
   held-reads.Asked,
@@ -478,8 +479,8 @@ next-sum-add-q : (t : ℕ) → next-sum-lts.Need-add-q (
   field-reads.Learnt,
   cell-below t,
   cell.Post,
-  wrapping-add-u64-reads.Asked,
-  wrapping-add-u64-reads.Learnt,
+  capped-sum-reads.Asked,
+  capped-sum-reads.Learnt,
 ) (next-sum-at t) next-sum.Post next-sum-Inv-loop next-sum-μ-loop
 next-sum-add-q t c = search needs
 
@@ -492,8 +493,8 @@ next-sum-loop-less : (t : ℕ) → next-sum-lts.Need-loop-less (
   field-reads.Learnt,
   cell-below t,
   cell.Post,
-  wrapping-add-u64-reads.Asked,
-  wrapping-add-u64-reads.Learnt,
+  capped-sum-reads.Asked,
+  capped-sum-reads.Learnt,
 ) (next-sum-at t) next-sum.Post next-sum-Inv-loop next-sum-μ-loop
 next-sum-loop-less t c = search needs
 
@@ -506,8 +507,8 @@ next-sum-loop-again : (t : ℕ) → next-sum-lts.Need-loop-again (
   field-reads.Learnt,
   cell-below t,
   cell.Post,
-  wrapping-add-u64-reads.Asked,
-  wrapping-add-u64-reads.Learnt,
+  capped-sum-reads.Asked,
+  capped-sum-reads.Learnt,
 ) (next-sum-at t) next-sum.Post next-sum-Inv-loop next-sum-μ-loop
 next-sum-loop-again t c =
     let a = c .before .before .before .before .before .before .before .before .before .args in
@@ -520,8 +521,8 @@ next-sum-loop-again t c =
     let low : l .q ≤ a .t = omega arith in (
       omega arith,
       omega arith,
-      wrapped (c .«wrapping-add-u64» .result) (l .sum + c .before .cell .result) (c .«wrapping-add-u64» .ensures),
-      sum-more (now (a .sheet)) (a .e) (a .g) (a .t) (2 ^ 64) (l .q) (l .sum) (c .«wrapping-add-u64» .result) (c .before .cell .result) low (l .inv .3) (c .«wrapping-add-u64» .ensures)
+      cap-high (c .capped-sum .result) (l .sum + c .before .cell .result) (c .capped-sum .ensures),
+      sum-more (now (a .sheet)) (a .e) (a .g) (a .t) (l .q) (l .sum) (c .capped-sum .result) (c .before .cell .result) low (l .inv .3) (c .capped-sum .ensures)
           (λ o v solved z. child-evaluates (now (a .sheet)) (a .e) (a .g) (a .t) o (a .k) (p .1) z (l .q) (c .before .before .before .before .before .held .result .index) (c .before .before .before .before .before .held .result .left) (l .inv .0) low (c .before .before .before .before .before .held .ensures)
           (c .before .before .before .before .split-spacing .result) seven (c .before .before .before .before .split-spacing .ensures) v solved (c .before .cell .result) ev),
     )
@@ -535,15 +536,15 @@ next-sum-returns : (t : ℕ) → next-sum-lts.Need-returns (
   field-reads.Learnt,
   cell-below t,
   cell.Post,
-  wrapping-add-u64-reads.Asked,
-  wrapping-add-u64-reads.Learnt,
+  capped-sum-reads.Asked,
+  capped-sum-reads.Learnt,
 ) (next-sum-at t) next-sum.Post next-sum-Inv-loop next-sum-μ-loop
 next-sum-returns t c =
     let a = c .before .before .before .args in
     let q = c .before .before .before .pre .1 .0 in
     let p = c .before .before .before .pre .1 in
     let l = c .before .loop in
-    sum-end (now (a .sheet)) (a .e) (a .g) (a .t) (2 ^ 64) (l .q) (l .sum) (omega arith) (l .inv .2) (l .inv .3)
+    sum-end (now (a .sheet)) (a .e) (a .g) (a .t) (l .q) (l .sum) (omega arith) (l .inv .2) (l .inv .3)
 
 pub +cell+next-sum-spec : {M : Type 1} → statement M
 +cell+next-sum-spec = close μ-cell μ-next-sum (λ t. cell-lts.spec (
@@ -584,8 +585,8 @@ pub +cell+next-sum-spec : {M : Type 1} → statement M
       field-reads.Learnt,
       cell-below t,
       cell.Post,
-      wrapping-add-u64-reads.Asked,
-      wrapping-add-u64-reads.Learnt,
+      capped-sum-reads.Asked,
+      capped-sum-reads.Learnt,
     )
     (next-sum-at t)
     next-sum.Post
@@ -598,7 +599,7 @@ pub +cell+next-sum-spec : {M : Type 1} → statement M
     (next-sum-field-requires t)
     (next-sum-sub-cell t)
     (next-sum-cell-requires t)
-    (next-sum-wrapping-add-u64-requires t)
+    (next-sum-capped-sum-requires t)
     (next-sum-add-q t)
     (next-sum-loop-less t)
     (next-sum-loop-again t)

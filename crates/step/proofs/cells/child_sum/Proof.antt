@@ -3,17 +3,18 @@
 use borrow.Author.Needs.{needs}
 use native.Mathlib.Omega.{arith}
 use denote.Ref.{now}
-use Prim.Native.Nat.{_+_, _-_, _^_}
+use Prim.Native.Nat.{_+_, _-_}
 use mathlib.Core.Path.{_≡_, sym, ap, _∙_}
 use lib.ListN.{length, getD, take}
 use lib.Seq.{length-take-le, getD-take}
 use Rattle.step.proofs.SumLaws.{Sums, sums-start, above-small, component-small, above-enough, sums-more, sums-end}
+use Rattle.step.specs.Step.{LARGEST}
 use Rattle.rank.specs.PascalLaws.{binomial-small}
 use Rattle.step.proofs.cells.child_sum.Statement.{statement}
 use Rattle.step.proofs.cells.child_sum.Tie as tie
 
 abbrev Inv-loop : tie.InvT-loop
-Inv-loop table k b links g above₀ below₀ z₀ sum₀ i₀ above below z sum i = Sums (2 ^ 64) table links (take (k + 1) g) k above below z sum i
+Inv-loop table k b links g above₀ below₀ z₀ sum₀ i₀ above below z sum i = Sums LARGEST table links (take (k + 1) g) k above below z sum i
 
 abbrev μ-loop : tie.MeasureT-loop
 μ-loop table k b links g above₀ below₀ z₀ sum₀ i₀ above below z sum i = k - i
@@ -26,7 +27,7 @@ loop-holds c =
     let a = c .before .before .before .args in
     let seven : length (a .t3) ≡ 7 = (let o = c .before .before .before in search needs) in
     let s = length-take-le (a .k + 1) (a .t3) (omega arith) in
-    sums-start (2 ^ 64) (now (a .table)) (a .t2) (take (a .k + 1) (a .t3)) (a .k) s (c .rank-without .result) (c .rank-without .ensures .0) (c .before .before .before .pre .1)
+    sums-start LARGEST (now (a .table)) (a .t2) (take (a .k + 1) (a .t3)) (a .k) s (c .rank-without .result) (c .rank-without .ensures .0) (c .before .before .before .pre .1)
 
 array-read-wide : tie.Need-array-read-wide Inv-loop μ-loop
 array-read-wide c = search needs
@@ -47,7 +48,7 @@ add-part-sum c =
     let seven : length (a .t3) ≡ 7 = (let o = c .before .before .before .before .before .before in search needs) in
     let s = length-take-le (a .k + 1) (a .t3) (omega arith) in
     let G = take (a .k + 1) (a .t3) in
-    omega (arith, above-small (2 ^ 64) (now (a .table)) (a .t2) G (a .k) s (l .above) (l .below) (l .z) (l .sum) (l .i) (l .inv), l .inv .low, l .inv .reach)
+    omega (arith, above-small LARGEST (now (a .table)) (a .t2) G (a .k) s (l .above) (l .below) (l .z) (l .sum) (l .i) (l .inv), l .inv .low, l .inv .reach)
 
 add-part-sum-2 : tie.Need-add-part-sum-2 Inv-loop μ-loop
 add-part-sum-2 c =
@@ -56,7 +57,7 @@ add-part-sum-2 c =
     let seven : length (a .t3) ≡ 7 = (let o = c .before .before .before .before .before .before in search needs) in
     let s = length-take-le (a .k + 1) (a .t3) (omega arith) in
     let G = take (a .k + 1) (a .t3) in
-    omega (arith, above-small (2 ^ 64) (now (a .table)) (a .t2) G (a .k) s (l .above) (l .below) (l .z) (l .sum) (l .i) (l .inv), l .inv .low, l .inv .reach, c .before .before .before .before .before .before .pre .2 (l .i))
+    omega (arith, above-small LARGEST (now (a .table)) (a .t2) G (a .k) s (l .above) (l .below) (l .z) (l .sum) (l .i) (l .inv), l .inv .low, l .inv .reach, c .before .before .before .before .before .before .pre .2 (l .i))
 
 add-part-sum-3 : tie.Need-add-part-sum-3 Inv-loop μ-loop
 add-part-sum-3 c = search needs
@@ -68,14 +69,14 @@ part-sum-requires c κs =
     let seven : length (a .t3) ≡ 7 = (let o = c .before .before .before .before .before .before in search needs) in
     let s = length-take-le (a .k + 1) (a .t3) (omega arith) in
     let G = take (a .k + 1) (a .t3) in (
-      omega (arith, above-small (2 ^ 64) (now (a .table)) (a .t2) G (a .k) s (l .above) (l .below) (l .z) (l .sum) (l .i) (l .inv), l .inv .low, l .inv .reach, c .before .before .before .before .before .before .pre .2 (l .i)),
+      omega (arith, above-small LARGEST (now (a .table)) (a .t2) G (a .k) s (l .above) (l .below) (l .z) (l .sum) (l .i) (l .inv), l .inv .low, l .inv .reach, c .before .before .before .before .before .before .pre .2 (l .i)),
       omega arith,
-      omega (arith, component-small (2 ^ 64) (now (a .table)) (a .t2) G (a .k) s (l .above) (l .below) (l .z) (l .sum) (l .i) (l .inv) (c .wide .result) (c .wide .ensures ∙ sym (getD-take (a .k + 1) (a .t3) (l .i) 0 (omega (arith, l .inv .reach))))),
+      omega (arith, component-small LARGEST (now (a .table)) (a .t2) G (a .k) s (l .above) (l .below) (l .z) (l .sum) (l .i) (l .inv) (c .wide .result) (c .wide .ensures ∙ sym (getD-take (a .k + 1) (a .t3) (l .i) 0 (omega (arith, l .inv .reach))))),
       c .before .before .before .before .before .before .pre .3,
     )
 
-wrapping-add-u64-requires : tie.Need-wrapping-add-u64-requires Inv-loop μ-loop
-wrapping-add-u64-requires c κs = search needs
+capped-sum-requires : tie.Need-capped-sum-requires Inv-loop μ-loop
+capped-sum-requires c κs = search needs
 
 add-z : tie.Need-add-z Inv-loop μ-loop
 add-z c =
@@ -84,7 +85,7 @@ add-z c =
     let seven : length (a .t3) ≡ 7 = (let o = c .before .before .before .before .before .before .before .before in search needs) in
     let s = length-take-le (a .k + 1) (a .t3) (omega arith) in
     let G = take (a .k + 1) (a .t3) in
-    omega (arith, component-small (2 ^ 64) (now (a .table)) (a .t2) G (a .k) s (l .above) (l .below) (l .z) (l .sum) (l .i) (l .inv) (c .before .before .wide .result) (c .before .before .wide .ensures ∙ sym (getD-take (a .k + 1) (a .t3) (l .i) 0 (omega (arith, l .inv .reach)))))
+    omega (arith, component-small LARGEST (now (a .table)) (a .t2) G (a .k) s (l .above) (l .below) (l .z) (l .sum) (l .i) (l .inv) (c .before .before .wide .result) (c .before .before .wide .ensures ∙ sym (getD-take (a .k + 1) (a .t3) (l .i) 0 (omega (arith, l .inv .reach)))))
 
 add-choose : tie.Need-add-choose Inv-loop μ-loop
 add-choose c = search needs
@@ -96,7 +97,7 @@ choose-requires c κs =
     let seven : length (a .t3) ≡ 7 = (let o = c .before .before .before .before .before .before .before .before in search needs) in
     let s = length-take-le (a .k + 1) (a .t3) (omega arith) in
     let G = take (a .k + 1) (a .t3) in
-    (omega (arith, component-small (2 ^ 64) (now (a .table)) (a .t2) G (a .k) s (l .above) (l .below) (l .z) (l .sum) (l .i) (l .inv) (c .before .before .wide .result) (c .before .before .wide .ensures ∙ sym (getD-take (a .k + 1) (a .t3) (l .i) 0 (omega (arith, l .inv .reach))))), omega arith, c .before .before .before .before .before .before .before .before .pre .3)
+    (omega (arith, component-small LARGEST (now (a .table)) (a .t2) G (a .k) s (l .above) (l .below) (l .z) (l .sum) (l .i) (l .inv) (c .before .before .wide .result) (c .before .before .wide .ensures ∙ sym (getD-take (a .k + 1) (a .t3) (l .i) 0 (omega (arith, l .inv .reach))))), omega arith, c .before .before .before .before .before .before .before .before .pre .3)
 
 add-below : tie.Need-add-below Inv-loop μ-loop
 add-below c =
@@ -105,7 +106,7 @@ add-below c =
     let seven : length (a .t3) ≡ 7 = (let o = c .before .before .before .before .before .before .before .before .before in search needs) in
     let s = length-take-le (a .k + 1) (a .t3) (omega arith) in
     let G = take (a .k + 1) (a .t3) in
-    let cs = component-small (2 ^ 64) (now (a .table)) (a .t2) G (a .k) s (l .above) (l .below) (l .z) (l .sum) (l .i) (l .inv) (c .before .before .before .wide .result) (c .before .before .before .wide .ensures ∙ sym (getD-take (a .k + 1) (a .t3) (l .i) 0 (omega (arith, l .inv .reach)))) in
+    let cs = component-small LARGEST (now (a .table)) (a .t2) G (a .k) s (l .above) (l .below) (l .z) (l .sum) (l .i) (l .inv) (c .before .before .before .wide .result) (c .before .before .before .wide .ensures ∙ sym (getD-take (a .k + 1) (a .t3) (l .i) 0 (omega (arith, l .inv .reach)))) in
     omega (arith, l .inv .low, c .choose .ensures, binomial-small (l .z + c .before .before .before .wide .result) (l .i + 1) cs)
 
 add-choose-2 : tie.Need-add-choose-2 Inv-loop μ-loop
@@ -118,7 +119,7 @@ choose-requires-2 c κs =
     let seven : length (a .t3) ≡ 7 = (let o = c .before .before .before .before .before .before .before .before .before in search needs) in
     let s = length-take-le (a .k + 1) (a .t3) (omega arith) in
     let G = take (a .k + 1) (a .t3) in
-    (omega (arith, component-small (2 ^ 64) (now (a .table)) (a .t2) G (a .k) s (l .above) (l .below) (l .z) (l .sum) (l .i) (l .inv) (c .before .before .before .wide .result) (c .before .before .before .wide .ensures ∙ sym (getD-take (a .k + 1) (a .t3) (l .i) 0 (omega (arith, l .inv .reach))))), omega arith, c .before .before .before .before .before .before .before .before .before .pre .3)
+    (omega (arith, component-small LARGEST (now (a .table)) (a .t2) G (a .k) s (l .above) (l .below) (l .z) (l .sum) (l .i) (l .inv) (c .before .before .before .wide .result) (c .before .before .before .wide .ensures ∙ sym (getD-take (a .k + 1) (a .t3) (l .i) 0 (omega (arith, l .inv .reach))))), omega arith, c .before .before .before .before .before .before .before .before .before .pre .3)
 
 sub-above : tie.Need-sub-above Inv-loop μ-loop
 sub-above c =
@@ -127,7 +128,7 @@ sub-above c =
     let seven : length (a .t3) ≡ 7 = (let o = c .before .before .before .before .before .before .before .before .before .before in search needs) in
     let s = length-take-le (a .k + 1) (a .t3) (omega arith) in
     let G = take (a .k + 1) (a .t3) in
-    above-enough (2 ^ 64) (now (a .table)) (a .t2) G (a .k) s (l .above) (l .below) (l .z) (l .sum) (l .i) (l .inv) (c .before .before .before .before .wide .result) (c .before .before .before .before .wide .ensures ∙ sym (getD-take (a .k + 1) (a .t3) (l .i) 0 (omega (arith, l .inv .reach)))) (omega arith) (c .choose2 .result) (c .choose2 .ensures)
+    above-enough LARGEST (now (a .table)) (a .t2) G (a .k) s (l .above) (l .below) (l .z) (l .sum) (l .i) (l .inv) (c .before .before .before .before .wide .result) (c .before .before .before .before .wide .ensures ∙ sym (getD-take (a .k + 1) (a .t3) (l .i) 0 (omega (arith, l .inv .reach)))) (omega arith) (c .choose2 .result) (c .choose2 .ensures)
 
 add-z-2 : tie.Need-add-z-2 Inv-loop μ-loop
 add-z-2 c =
@@ -136,7 +137,7 @@ add-z-2 c =
     let seven : length (a .t3) ≡ 7 = (let o = c .before .before .before .before .before .before .before .before .before .before in search needs) in
     let s = length-take-le (a .k + 1) (a .t3) (omega arith) in
     let G = take (a .k + 1) (a .t3) in
-    omega (arith, component-small (2 ^ 64) (now (a .table)) (a .t2) G (a .k) s (l .above) (l .below) (l .z) (l .sum) (l .i) (l .inv) (c .before .before .before .before .wide .result) (c .before .before .before .before .wide .ensures ∙ sym (getD-take (a .k + 1) (a .t3) (l .i) 0 (omega (arith, l .inv .reach)))))
+    omega (arith, component-small LARGEST (now (a .table)) (a .t2) G (a .k) s (l .above) (l .below) (l .z) (l .sum) (l .i) (l .inv) (c .before .before .before .before .wide .result) (c .before .before .before .before .wide .ensures ∙ sym (getD-take (a .k + 1) (a .t3) (l .i) 0 (omega (arith, l .inv .reach)))))
 
 add-i : tie.Need-add-i Inv-loop μ-loop
 add-i c = search needs
@@ -151,9 +152,9 @@ loop-again c =
     let seven : length (a .t3) ≡ 7 = (let o = c .before .before .before .before .before .before .before .before .before .before in search needs) in
     let s = length-take-le (a .k + 1) (a .t3) (omega arith) in
     let G = take (a .k + 1) (a .t3) in
-    sums-more (2 ^ 64) (now (a .table)) (a .t2) G (a .k) s (l .above) (l .below) (l .z) (l .sum) (l .i) (l .inv) (c .before .before .before .before .wide .result) (c .before .before .before .before .wide .ensures ∙ sym (getD-take (a .k + 1) (a .t3) (l .i) 0 (omega (arith, l .inv .reach)))) (omega arith)
-    (c .before .before .before .part-sum .result) (c .before .before .«wrapping-add-u64» .result) (c .before .choose .result) (c .choose2 .result)
-    (c .before .before .before .part-sum .ensures) (c .before .before .«wrapping-add-u64» .ensures) (c .before .choose .ensures) (c .choose2 .ensures)
+    sums-more LARGEST (now (a .table)) (a .t2) G (a .k) s (l .above) (l .below) (l .z) (l .sum) (l .i) (l .inv) (c .before .before .before .before .wide .result) (c .before .before .before .before .wide .ensures ∙ sym (getD-take (a .k + 1) (a .t3) (l .i) 0 (omega (arith, l .inv .reach)))) (omega arith)
+    (c .before .before .before .part-sum .result) (c .before .before .capped-sum .result) (c .before .choose .result) (c .choose2 .result)
+    (c .before .before .before .part-sum .ensures) (c .before .before .capped-sum .ensures) (c .before .choose .ensures) (c .choose2 .ensures)
 
 array-read-wide-2 : tie.Need-array-read-wide-2 Inv-loop μ-loop
 array-read-wide-2 c = search needs
@@ -189,12 +190,12 @@ part-sum-requires-2 c κs =
     let q : a .k ≡ l .i = omega (arith, l .inv .reach) in (
       omega (arith, l .inv .low, l .inv .reach, c .before .before .before .before .before .before .pre .2 (a .k)),
       omega arith,
-      omega (arith, component-small (2 ^ 64) (now (a .table)) (a .t2) G (a .k) s (l .above) (l .below) (l .z) (l .sum) (l .i) (l .inv) (c .wide2 .result) (c .wide2 .ensures ∙ sym (getD-take (a .k + 1) (a .t3) (a .k) 0 (omega arith)) ∙ ap (λ j. getD G j 0) q)),
+      omega (arith, component-small LARGEST (now (a .table)) (a .t2) G (a .k) s (l .above) (l .below) (l .z) (l .sum) (l .i) (l .inv) (c .wide2 .result) (c .wide2 .ensures ∙ sym (getD-take (a .k + 1) (a .t3) (a .k) 0 (omega arith)) ∙ ap (λ j. getD G j 0) q)),
       c .before .before .before .before .before .before .pre .3,
     )
 
-wrapping-add-u64-requires-2 : tie.Need-wrapping-add-u64-requires-2 Inv-loop μ-loop
-wrapping-add-u64-requires-2 c κs = search needs
+capped-sum-requires-2 : tie.Need-capped-sum-requires-2 Inv-loop μ-loop
+capped-sum-requires-2 c κs = search needs
 
 returns : tie.Need-returns Inv-loop μ-loop
 returns c =
@@ -204,8 +205,8 @@ returns c =
     let s = length-take-le (a .k + 1) (a .t3) (omega arith) in
     let G = take (a .k + 1) (a .t3) in
     let q : a .k ≡ l .i = omega (arith, l .inv .reach) in
-    sums-end (2 ^ 64) (now (a .table)) (a .t2) G (a .k) s (l .above) (l .below) (l .z) (l .sum) (l .i) (l .inv) (c .before .before .wide2 .result) (c .before .before .wide2 .ensures ∙ sym (getD-take (a .k + 1) (a .t3) (a .k) 0 (omega arith)) ∙ ap (λ j. getD G j 0) q) (c .before .part-sum2 .result) (c .«wrapping-add-u642» .result) (omega arith)
-    (c .before .part-sum2 .ensures) (c .«wrapping-add-u642» .ensures)
+    sums-end LARGEST (now (a .table)) (a .t2) G (a .k) s (l .above) (l .below) (l .z) (l .sum) (l .i) (l .inv) (c .before .before .wide2 .result) (c .before .before .wide2 .ensures ∙ sym (getD-take (a .k + 1) (a .t3) (a .k) 0 (omega arith)) ∙ ap (λ j. getD G j 0) q) (c .before .part-sum2 .result) (c .capped-sum2 .result) (omega arith)
+    (c .before .part-sum2 .ensures) (c .capped-sum2 .ensures)
 
 pub child-sum-spec : {M : Type 1} → statement M
 child-sum-spec =
@@ -223,7 +224,7 @@ child-sum-spec =
     add-part-sum-2
     add-part-sum-3
     part-sum-requires
-    wrapping-add-u64-requires
+    capped-sum-requires
     add-z
     add-choose
     choose-requires
@@ -242,5 +243,5 @@ child-sum-spec =
     add-part-sum-4
     add-part-sum-5
     part-sum-requires-2
-    wrapping-add-u64-requires-2
+    capped-sum-requires-2
     returns)

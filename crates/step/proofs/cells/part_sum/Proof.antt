@@ -4,15 +4,16 @@ use denote.Ref.{now}
 use lib.ListN.{getD}
 use borrow.Author.Needs.{needs}
 use native.Mathlib.Omega.{arith}
-use Prim.Native.Nat.{_+_, _-_, _^_, _≤_}
+use Prim.Native.Nat.{_+_, _-_, _≤_}
 use mathlib.Core.Path.{ap, _∙_}
 use Rattle.step.proofs.SumLaws.{Part, part-start, part-more, part-end}
+use Rattle.step.specs.Step.{LARGEST}
 use Rattle.rank.specs.PascalLaws.{binomial-small}
 use Rattle.step.proofs.cells.part_sum.Statement.{statement}
 use Rattle.step.proofs.cells.part_sum.Tie as tie
 
 abbrev Inv-loop : tie.InvT-loop
-Inv-loop table at col first n b end sum₀ z₀ sum z = (end ≤ 21) × Part (2 ^ 64) table at col first n end sum z
+Inv-loop table at col first n b end sum₀ z₀ sum z = (end ≤ 21) × Part LARGEST table at col first n end sum z
 
 abbrev μ-loop : tie.MeasureT-loop
 μ-loop table at col first n b end sum₀ z₀ sum z = end - z
@@ -23,7 +24,7 @@ add-end c = search needs
 loop-holds : tie.Need-loop-holds Inv-loop μ-loop
 loop-holds c =
     let a = c .before .before .args in
-    (omega arith, part-start (2 ^ 64) (now (a .table)) (a .at) (a .col) (a .first) (a .n) (omega arith))
+    (omega arith, part-start LARGEST (now (a .table)) (a .at) (a .col) (a .first) (a .n))
 
 choose-requires : tie.Need-choose-requires Inv-loop μ-loop
 choose-requires c κs = search needs
@@ -36,8 +37,8 @@ add-read c =
 read-requires : tie.Need-read-requires Inv-loop μ-loop
 read-requires c κs = search needs
 
-wrapping-add-u64-requires : tie.Need-wrapping-add-u64-requires Inv-loop μ-loop
-wrapping-add-u64-requires c κs = search needs
+capped-sum-requires : tie.Need-capped-sum-requires Inv-loop μ-loop
+capped-sum-requires c κs = search needs
 
 add-z : tie.Need-add-z Inv-loop μ-loop
 add-z c = search needs
@@ -50,16 +51,16 @@ loop-again c =
     let a = c .before .before .before .before .before .before .before .args in
     let l = c .before .before .before .before .loop in (
       l .inv .0,
-      part-more (2 ^ 64) (now (a .table)) (a .at) (a .col) (a .first) (a .n) (a .first + a .n) (l .sum) (l .z) (l .inv .1)
-          (c .before .read .result) (c .«wrapping-add-u64» .result) (omega arith) (omega arith)
-          (c .before .read .ensures ∙ ap (λ i. getD (now (a .table)) (a .at + i) 0) (c .before .before .choose .ensures)) (c .«wrapping-add-u64» .ensures),
+      part-more LARGEST (now (a .table)) (a .at) (a .col) (a .first) (a .n) (a .first + a .n) (l .sum) (l .z) (l .inv .1)
+          (c .before .read .result) (c .capped-sum .result) (omega arith)
+          (c .before .read .ensures ∙ ap (λ i. getD (now (a .table)) (a .at + i) 0) (c .before .before .choose .ensures)) (c .capped-sum .ensures),
     )
 
 returns : tie.Need-returns Inv-loop μ-loop
 returns c =
     let a = c .before .before .before .before .args in
     let l = c .before .loop in
-    part-end (2 ^ 64) (now (a .table)) (a .at) (a .col) (a .first) (a .n) (a .first + a .n) (l .sum) (l .z) (l .inv .1) (omega arith)
+    part-end LARGEST (now (a .table)) (a .at) (a .col) (a .first) (a .n) (a .first + a .n) (l .sum) (l .z) (l .inv .1) (omega arith)
 
 pub part-sum-spec : {M : Type 1} → statement M
 part-sum-spec =
@@ -72,7 +73,7 @@ part-sum-spec =
     choose-requires
     add-read
     read-requires
-    wrapping-add-u64-requires
+    capped-sum-requires
     add-z
     loop-less
     loop-again
