@@ -9,7 +9,7 @@ use mathlib.Core.List.{List, [], _∷_, map}
 use lib.ListN.{length, getD}
 use lib.Dec.{eqb}
 use borrow.Author.Tests.{eq-eqb, ne-eqb}
-use Rattle.word.specs.Lists.{oneTo}
+use Rattle.word.specs.Lists.{row, oneTo}
 use Rattle.word.specs.Word.{avoids, entry}
 use Rattle.word.specs.ListLaws.{true-not-false, below-or-not, same-or-not}
 use Rattle.cell.specs.Cell.{total, free, deleted, merged, mergeValues}
@@ -28,12 +28,12 @@ use Rattle.verdict.specs.ProperLaws.{position-inside}
 use Rattle.value.specs.Value.{ruleValue, entryValue}
 use Rattle.value.specs.ValueLaws.{position-high}
 use Rattle.step.specs.Step.{childrenOf, capped, stepOf}
-use Rattle.step.specs.StepLaws.{children-sum, below-cap}
+use Rattle.step.specs.StepLaws.{nextCell, cells-sum, children-sum, below-cap}
 use Rattle.plan.specs.Layout.{entryAt, prefixAt, lengthAt, placeAt, widthOf, blockOf, cellAt}
 use Rattle.plan.specs.LayoutLaws.{prefix-length, entry-proper, entry-short, place-apart}
 use Rattle.plan.specs.Plan.{Proper, LeadsTo, RulePlan, Planned}
 use Rattle.plan.specs.declared.items.Item.{Item}
-use Rattle.count.specs.Rows.{readsFrom, itemStep, Solves, Holds, RowDone}
+use Rattle.count.specs.Rows.{readsFrom, itemStep, Solves, sumFrom, Holds, RowDone}
 
 -- Blocks: those of two rows in turn are the first and the second.
 
@@ -110,7 +110,7 @@ module _ (n : ℕ) (s : Scheme) where
 module _ (v : List ℕ → List ℕ → ℕ) (P : List (List ℕ)) (s : Scheme) (n : ℕ) (solved : Solves v P s) (proper : Proper s) (e : ℕ) (inside : e < s .count)
     (t : Item) (planned : Planned n P s e t) (j here before : ℕ) (high : j ≤ 20) (here-is : here ≡ blockOf n s j)
     (before-is : (i : ℕ) → suc i ≡ j → before ≡ blockOf n s i) (T : List ℕ)
-    (longer : (d : ℕ) → d < s .count → lengthAt s e < lengthAt s d → Holds v n s T j d) (row : (i : ℕ) → suc i ≡ j → RowDone v n s T i)
+    (longer : (d : ℕ) → d < s .count → lengthAt s e < lengthAt s d → Holds v n s T j d) (done : (i : ℕ) → suc i ≡ j → RowDone v n s T i)
     (g : List ℕ) (wide : length g ≡ suc (lengthAt s e)) (whole : lengthAt s e + total g ≡ j) where
   size : length (prefixAt s e) ≡ lengthAt s e
   size = prefix-length s e
@@ -159,9 +159,20 @@ module _ (v : List ℕ → List ℕ → ℕ) (P : List (List ℕ)) (s : Scheme) 
       omega (arith, link 0 (omega arith), l .placed, reads-before (λ (z : t .deleted ≡ 0). omega arith), before-is (j - 1) j1, ap rankOf m) in
       let wide-is = merged-length (suc r ∷ []) (prefixAt s e) g perm (omega (arith, size)) (position-inside (length (prefixAt s e)) (suc r) o) in
       ap (λ k. getD T k 0) at ∙
-      row (j - 1) j1 (l .index) (l .inside) (merged (suc r ∷ []) (prefixAt s e) g) (omega (arith, wide-is, cut, size))
+      done (j - 1) j1 (l .index) (l .inside) (merged (suc r ∷ []) (prefixAt s e) g) (omega (arith, wide-is, cut, size))
       (omega (arith, merged-total (suc r ∷ []) (prefixAt s e) g, size)) ∙
       ap (λ (w : List ℕ). v w (merged (suc r ∷ []) (prefixAt s e) g)) (l .named)
+
+  -- the cells of n next entries from the q-th on have their values
+  pub cells-are : (entryAt s e) .rule ≡ expands → (q m : ℕ) → 1 ≤ q → q + m ≤ suc (total g) →
+      total (map (nextCell T (map (λ x. readsFrom t here before + x) (t .links)) 0 0 0 g) (row q m)) ≡ sumFrom v (prefixAt s e) g q m
+  cells-are r q m = of-rule ((entryAt s e) .rule) r (planned .rule)
+    where
+      of-rule : (rule : Does) → rule ≡ expands → RulePlan n P s (prefixAt s e) rule t → 1 ≤ q → q + m ≤ suc (total g) →
+          total (map (nextCell T (map (λ x. readsFrom t here before + x) (t .links)) 0 0 0 g) (row q m)) ≡ sumFrom v (prefixAt s e) g q m
+      of-rule expands r (zero-is, alone-is, leads) =
+          cells-sum T (map (λ x. readsFrom t here before + x) (t .links)) (λ a h. v (childAt (prefixAt s e) a) h) g (child-cell zero-is leads) q m
+      of-rule (deletes i) r plan = let z : _≡_ {A = ℕ} 0 1 = cc in absurd (omega arith)
 
   -- where no gap vector covers the spacing
   rule-step : (rule : Does) → (entryAt s e) .rule ≡ rule → RulePlan n P s (prefixAt s e) rule t → v (prefixAt s e) g ≡ ruleValue v P (prefixAt s e) g rule →

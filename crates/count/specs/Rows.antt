@@ -7,7 +7,9 @@ use mathlib.Core.List.{List, [], map}
 use mathlib.Core.Option.{some}
 use lib.ListN.{length, getD}
 use lib.Dec.{eqb}
+use Rattle.word.specs.Lists.{row}
 use Rattle.cell.specs.Cell.{total}
+use Rattle.cell.specs.Child.{childAt, slot, split}
 use Rattle.cell.specs.Binomial.{binomial}
 use Rattle.scheme.specs.SchemeList.{EntryList}
 use Rattle.scheme.specs.SchemeMemory.{noGap, entryIn}
@@ -48,6 +50,10 @@ pub record Solves (v : List ℕ → List ℕ → ℕ) (P : List (List ℕ)) (s :
   pub solves : (i : ℕ) → i < s .count → (g : List ℕ) → length g ≡ suc (length (prefixAt s i)) →
       v (prefixAt s i) g ≡ entryValue v P (some (entryAt s i)) g
   pub fits : (p g : List ℕ) → total g ≤ 20 → v p g ≤ LARGEST
+
+-- the sum over n next entries from the q-th on
+abbrev pub sumFrom : (List ℕ → List ℕ → ℕ) → List ℕ → List ℕ → ℕ → ℕ → ℕ
+sumFrom v p g q n = total (map (λ s. v (childAt p (slot g s)) (split g s)) (row q n))
 
 -- the cells of the entry with index d in row j have their values
 abbrev pub Holds : (List ℕ → List ℕ → ℕ) → ℕ → Scheme → List ℕ → ℕ → ℕ → Type 0

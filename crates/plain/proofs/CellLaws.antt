@@ -28,9 +28,9 @@ use Rattle.plan.proofs.ItemLaws.{position}
 use Rattle.step.specs.Step.{LARGEST, capped}
 use Rattle.step.specs.StepLaws.{below-cap}
 use Rattle.step.proofs.SumLaws.{cap-more, cap-end}
-use Rattle.count.specs.Rows.{Solves}
+use Rattle.count.specs.Rows.{Solves, sumFrom}
 use Rattle.plain.specs.Pieces.{splitAt, HeldAt}
-use Rattle.plain.specs.Reading.{fieldOf, vectorOf, gapsAt, Names, RuleRow, Row, CellAt, Evaluates, sumFrom, Sums}
+use Rattle.plain.specs.Reading.{fieldOf, vectorOf, gapsAt, Names, RuleRow, Row, CellAt, Evaluates, Sums}
 
 -- The gap vectors from v on
 

@@ -15,7 +15,7 @@ use Rattle.scheme.specs.declared.links.Found.the-variants.{At, Nothing}
 use Rattle.plan.specs.Layout.{entryAt, prefixAt, lengthAt}
 use Rattle.plan.specs.Plan.{Proper}
 use Rattle.step.specs.Step.{capped}
-use Rattle.count.specs.Rows.{Solves}
+use Rattle.count.specs.Rows.{Solves, sumFrom}
 
 -- byte f of the entry with index e
 abbrev pub fieldOf : List ℕ → ℕ → ℕ → ℕ
@@ -77,10 +77,6 @@ abbrev pub Evaluates : List ℕ → ℕ → List ℕ → ℕ → ℕ → Type 0
 Evaluates sheet e g t r =
     (c : CellAt sheet e g t) (v : List ℕ → List ℕ → ℕ) → Solves v (c .of .P) (c .of .s) →
     r ≡ v (prefixAt (c .of .s) e) (take (lengthAt (c .of .s) e + 1) g)
-
--- the sum over the next entries from q on
-abbrev pub sumFrom : (List ℕ → List ℕ → ℕ) → List ℕ → List ℕ → ℕ → ℕ → ℕ
-sumFrom v p g q n = total (map (λ s. v (childAt p (slot g s)) (split g s)) (row q n))
 
 -- the sum over every next entry, for every function that solves the recursion
 abbrev pub Sums : List ℕ → ℕ → List ℕ → ℕ → ℕ → Type 0

@@ -77,16 +77,24 @@ module _ (T links : List ℕ) where
           nextCell (suc i) (s + binomial (a + x) (suc i)) (suc (a + x)) g q ≡ nextCell i s a (x ∷ g) (x + q)
       later q m = let (low, high) = row-out 1 (total g) m in later-cell i s a x g q low (omega arith)
 
+-- the cells of n next entries from the q-th on, if the table has the terms in the cells of the children
+pub cells-sum : (T links : List ℕ) (u : ℕ → List ℕ → ℕ) (g : List ℕ) →
+    ((q : ℕ) → 1 ≤ q → q ≤ total g → getD T (getD links (slot g q - 1) 0 + rankOf (split g q)) 0 ≡ u (slot g q) (split g q)) →
+    (q n : ℕ) → 1 ≤ q → q + n ≤ suc (total g) →
+    total (map (nextCell T links 0 0 0 g) (row q n)) ≡ total (map (λ s. u (slot g s) (split g s)) (row q n))
+unfolding rankOf
+cells-sum T links u g h q n low high = ap total (map-same (nextCell T links 0 0 0 g) (λ s. u (slot g s) (split g s)) (row q n) term)
+  where
+    term : (s : ℕ) → List·Memᴰ s (row q n) → nextCell T links 0 0 0 g s ≡ u (slot g s) (split g s)
+    term s m =
+        let (a, b) = row-out q n m in
+        let e : 0 + (slot g s - 1) ≡ slot g s - 1 = omega arith in
+        let f : 0 + rankAfter 0 0 (split g s) ≡ rankAfter 0 0 (split g s) = omega arith in
+        rw (e, f) (h s (omega arith) (omega arith))
+
 -- The sum of a step is a sum over every next entry, if the table has the terms in the cells of the children.
 pub children-sum : (T links : List ℕ) (u : ℕ → List ℕ → ℕ) (g : List ℕ) →
     ((q : ℕ) → 1 ≤ q → q ≤ total g → getD T (getD links (slot g q - 1) 0 + rankOf (split g q)) 0 ≡ u (slot g q) (split g q)) →
     childrenOf T links g ≡ total (map (λ q. u (slot g q) (split g q)) (oneTo (total g)))
-unfolding childrenOf rankOf
-children-sum T links u g h = child-sum T links 0 0 0 g ∙ ap total (map-same (nextCell T links 0 0 0 g) (λ q. u (slot g q) (split g q)) (oneTo (total g)) term)
-  where
-    term : (q : ℕ) → List·Memᴰ q (oneTo (total g)) → nextCell T links 0 0 0 g q ≡ u (slot g q) (split g q)
-    term q m =
-        let (low, high) = row-out 1 (total g) m in
-        let e : 0 + (slot g q - 1) ≡ slot g q - 1 = omega arith in
-        let f : 0 + rankAfter 0 0 (split g q) ≡ rankAfter 0 0 (split g q) = omega arith in
-        rw (e, f) (h q low (omega arith))
+unfolding childrenOf
+children-sum T links u g h = child-sum T links 0 0 0 g ∙ cells-sum T links u g h 1 (total g) (omega arith) (omega arith)
