@@ -4,4 +4,4 @@ pub mod Run
 pub mod RowLaws
 pub mod StateLaws
 pub mod RunLaws
-pub mod SumLaws
+pub mod OverflowLaws

@@ -31,7 +31,7 @@ abbrev pub LARGEST : ℕ
 LARGEST = 18446744073709551615
 
 -- A sum of values as the table holds it: the sum itself, or the largest number where the sum is
--- larger. In an accepted scheme no sum is: count/specs/SumLaws.antt.
+-- larger. In an accepted scheme no sum is: count/specs/OverflowLaws.antt.
 abbrev pub capped : ℕ → ℕ
 capped n = min n LARGEST
 
