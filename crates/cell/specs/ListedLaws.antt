@@ -9,8 +9,8 @@ use mathlib.Core.List.{List, [], _∷_, _++_, map, List·Memᴰ, List·Memᴰ·h
 use mathlib.Core.List.{List·Memᴰ·eq-of-singleton, Memᴰ·append-left}
 use lib.ListN.{length, getD, take, drop, length-map, take-append-drop}
 use lib.Seq.{length-take-le}
-use Rattle.word.specs.Lists.{keep, each, row}
-use Rattle.word.specs.Word.{reduce, distinct, isPerm, bump, perms, before}
+use Rattle.word.specs.Lists.{each, row}
+use Rattle.word.specs.Word.{reduce, isPerm, bump, perms, before}
 use Rattle.word.specs.ListLaws.{below-or-not, map-same, each-out, row-out}
 use Rattle.word.specs.CopyLaws.{before-cons}
 use Rattle.word.specs.BumpLaws.{Bumped, stays, moves, bumped}

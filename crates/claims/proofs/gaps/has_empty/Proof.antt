@@ -8,7 +8,8 @@ use borrow.Author.Tests.{not-false}
 use lib.ListN.{length, take}
 use Rattle.word.specs.ListLaws.{true-not-false}
 use Rattle.cell.specs.Cell.{total}
-use Rattle.spacing.specs.SpacingOrder.{later, first-total}
+use Rattle.spacing.specs.Following.{later}
+use Rattle.spacing.specs.SpacingOrder.{first-total}
 use Rattle.spacing.proofs.SpacingCount.{less-later}
 use Rattle.claims.proofs.gaps.has_empty.Statement.{statement}
 use Rattle.claims.proofs.gaps.has_empty.Tie as tie
