@@ -1,6 +1,6 @@
 -- The first entries of a cell at a gap vector, as the code makes them, and the gap vectors of an entry from a place on.
 -- Assumes nothing.
-use Prim.Native.Nat.{ℕ, zero, suc, _+_, _%_, _≤_, _<_}
+use Prim.Native.Nat.{ℕ, zero, suc, _+_, _≤_, _<_, min}
 use native.Mathlib.Numerals.{add-one}
 use native.Mathlib.Omega.{arith}
 use mathlib.Core.Path.{_≡_, refl, sym, ap, ap₂, _∙_}
@@ -46,11 +46,11 @@ kept-all : (p g levels : List ℕ) (k : ℕ) → ((a : ℕ) → List·Memᴰ a p
     keptValues levels (replicate 9 0) p ≡ map (val g) p
 unfolding keptValues val
 kept-all p g levels k low says small =
-    ap (map (λ a. (a + entryOf levels a) % 256)) (keep-all (λ a. not (flagged (replicate 9 0) a)) p
+    ap (map (λ a. min (a + entryOf levels a) 255)) (keep-all (λ a. not (flagged (replicate 9 0) a)) p
     (λ a m. ap not (or-left (flagged (replicate 9 0) a) false (flag-none 9 a false)))) ∙
-    map-same (λ a. (a + entryOf levels a) % 256) (val g) p at
+    map-same (λ a. min (a + entryOf levels a) 255) (val g) p at
   where
-    at : (a : ℕ) → List·Memᴰ a p → (a + entryOf levels a) % 256 ≡ a + level g a
+    at : (a : ℕ) → List·Memᴰ a p → min (a + entryOf levels a) 255 ≡ a + level g a
     at a m =
         let e : entryOf levels a ≡ level g a = says a (omega (arith, low a m)) in
         let h : a + level g a < 256 = omega (arith, low a m, level-at-most g a) in
