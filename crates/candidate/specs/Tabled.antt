@@ -1,4 +1,5 @@
--- What the tables of the candidate search have to say of a prefix, a spacing and a pattern, and the word that is made from them. Definitions only.
+-- The tables of the candidate search, and the word that is made from them. Definitions only.
+-- A table has something to say of a prefix, a spacing and a pattern.
 use Prim.Native.Nat.{ℕ, suc, _+_, _-_, _≤_, _<_, min}
 use mathlib.Core.Path.{_≡_}
 use mathlib.Core.Bool.{not, true}
@@ -10,7 +11,7 @@ use Rattle.cell.specs.Cell.{total, without}
 use Rattle.cell.specs.Built.{level, lift, built}
 use Rattle.candidate.specs.Lookup.{entryOf, flagged, Says, Flags}
 
--- the prefix values that are not flagged, each with its level added, and 255 for what does not fit a byte
+-- the prefix values that are not flagged, each with its level added, and 255 where that is larger
 unfoldable pub keptValues : List ℕ → List ℕ → List ℕ → List ℕ
 keptValues levels gone p = map (λ a. min (a + entryOf levels a) 255) (keep (λ a. not (flagged gone a)) p)
 

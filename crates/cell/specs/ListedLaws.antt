@@ -1,5 +1,5 @@
--- What document 01 says of spacings, children and compared spacings beside their definitions: the total of a spacing, the number of children, and
--- that children and compared spacings are listed once each.
+-- What document 01 says of spacings, children and compared spacings beside their definitions: the
+-- total of a spacing, the number of children, and that each compared spacing is listed once.
 use Prim.Native.Nat.{ℕ, zero, suc, _+_, _-_, _≤_, _<_}
 use native.Mathlib.Omega.{arith}
 use mathlib.Core.Path.{_≡_, refl, sym, ap, ap₂, _∙_, fun-ext}
@@ -48,7 +48,7 @@ module _ (k : ℕ) (w : List ℕ) (perm : isPerm w ≡ true) (h : k ≤ length w
       let u = take k w in
       let up = sort-up 0 u (perm-parts k w perm .0) (λ (x : ℕ) (m : List·Memᴰ x u). perm-bounds w perm (first-in m) .0) in
       let inside : (x : ℕ) → List·Memᴰ x (sort u) → x < suc (length w) = λ (x : ℕ) (m : List·Memᴰ x (sort u)).
-          let b = perm-bounds w perm (first-in (sort-out u m)) in omega arith in
+      let b = perm-bounds w perm (first-in (sort-out u m)) in omega arith in
       omega (arith, total-between 0 (sort u) (suc (length w)) up inside (omega arith), length-sort u, length-take-le k w h)
 
 -- "p has k + 1 children" (01), each listed once
@@ -78,7 +78,8 @@ down-in (suc n) a h k = go (below-or-not a (suc n)) (λ (l : a ≤ n). down-in n
     go (inl l) ih = List·Memᴰ·tail (ih (omega arith))
     go (inr l) ih = let e : a ≡ suc n = omega arith in List·Memᴰ·head e
 
--- of two children the one with the larger last entry comes first: the entry b of p is b in it, and b + 1 in the other
+-- of two children the one with the larger last entry comes first: where p has b, it has b too, and
+-- the other has b + 1
 bumps-before : (a b : ℕ) (u s t : List ℕ) → b < a → List·Memᴰ b u → before (map (bump a) u ++ s) (map (bump b) u ++ t) ≡ true
 bumps-before a b [] s t h m = absurd (List·Memᴰ·not-nil m)
 bumps-before a b (x ∷ u) s t h m =
@@ -137,8 +138,8 @@ module _ (p : List ℕ) (perm : isPerm p ≡ true) where
   pub children-once : (i j : ℕ) → i < j → j < length (children p) → getD (children p) i [] ≡ getD (children p) j [] → ⊥
   children-once i j h k q = ascends-once (children p) i j children-ascend h k q
 
--- "An acceptance reports the number of compared cells: pairs of a deleting entry and such a spacing" (01): each spacing is listed once, by rising
--- total and lexicographic within a total.
+-- "An acceptance reports the number of compared cells: pairs of a deleting entry and such a
+-- spacing" (01): each spacing is listed once, by rising total, lexicographic within a total.
 
 each-ascend : (f : ℕ → List (List ℕ)) (a n : ℕ) → ((x : ℕ) → ascends (f x) ≡ true) →
     ((x y : ℕ) (u v : List ℕ) → x < y → List·Memᴰ u (f x) → List·Memᴰ v (f y) → before u v ≡ true) → ascends (each f (row a n)) ≡ true

@@ -1,4 +1,5 @@
--- Smaller vectors with empty cells: by the gap law one of them shows that the cell at a vector is empty. Definitions only.
+-- Smaller vectors with empty cells. Definitions only.
+-- By the gap law one of them shows that the cell at a vector is empty.
 use Prim.Native.Nat.{ℕ, suc}
 use mathlib.Core.Bool.{Bool, _&&_}
 use mathlib.Core.List.{List}

@@ -1,4 +1,5 @@
--- Laws of the nearest earlier place at which a test passes: the search downwards, that the test passes there, and when there is one.
+-- Laws of the nearest earlier place at which a test passes: the search downwards, that the test
+-- passes there, and when there is one.
 -- Assumes nothing.
 use Prim.Native.Nat.{ℕ, zero, suc, _-_, _≤_, _<_}
 use native.Mathlib.Omega.{arith}

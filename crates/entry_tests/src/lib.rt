@@ -146,7 +146,7 @@ pub fn twin_fault(s: Scheme) -> Fault
     Fault::Clean
 }
 
-// The index of the nearest entry before the index i that has the prefix of e, or i where there is none.
+// The index of the nearest entry before the index i with the prefix of e, or i where there is none.
 fn earlier_twin(s: Scheme, i: usize, e: Entry) -> usize
     requires { ⌜ Sized s × SizedEntry e × (i ≤ s .count) ⌝ }
     ensures { λ r. ⌜ r ≡ nearestTwin (λ j. same (padded (e .length) (e .prefix)) ((entryIn (getD (s .entries) j noEntry)) .prefix)) i ⌝ }

@@ -1,4 +1,5 @@
--- Laws of the spacings of one total: all of them from the first on, what comes after the last and after any other, and how many there are.
+-- Laws of the spacings of one total: all of them from the first on, what comes after the last and
+-- after any other, and how many there are.
 use Prim.Native.Nat.{ℕ, zero, suc, _+_, _-_, _*_, _^_, _≤_, _<_}
 use mathlib.Core.Path.{_≡_, refl, sym, ap, ap₂, _∙_}
 use mathlib.Core.Bool.{Bool, true, false, cond}
@@ -7,9 +8,8 @@ use native.Mathlib.Nat.{mul-le-mul, pow-le-pow-right, pow-succ', suc-mul, zero-m
 use native.Mathlib.Omega.{arith}
 use lib.ListN.{length, replicate, length-append, length-replicate, length-map}
 use Rattle.word.specs.Lists.{keep, each, row}
-use Rattle.word.specs.ListLaws.{true-not-false}
 use Rattle.cell.specs.Cell.{total, free, mOf, vectors, compared}
-use Rattle.spacing.specs.Following.{above, later, Follows}
+use Rattle.spacing.specs.Following.{above, later}
 unfoldable pub use Rattle.spacing.specs.Following.{firstVector}
 
 -- `vectors` by the first component
@@ -139,8 +139,3 @@ spacings-bound k m h l =
 pub compared-by : (P : List (List ℕ)) (k : ℕ) (B : List (List ℕ)) (m : ℕ) → mOf P ≡ m → keep (free B) (each (vectors (suc k)) (row 0 m)) ≡ compared P k B
 unfolding compared
 compared-by P k B m e = ap (λ (n : ℕ). keep (free B) (each (vectors (suc k)) (row 0 n))) (sym e)
-
--- none is found exactly if none comes after v
-pub none-exactly : (v n : List ℕ) (found : Bool) → Follows v found n → (found ≡ false → later v ≡ []) × (later v ≡ [] → found ≡ false)
-none-exactly v n true f = (λ (e : true ≡ false). absurd (true-not-false e), λ (e : later v ≡ []). let z : _≡_ {A = ℕ} 0 1 = cc (f .rest) in absurd (omega arith))
-none-exactly v n false f = (λ (e : false ≡ false). f .rest, λ (e : later v ≡ []). refl)

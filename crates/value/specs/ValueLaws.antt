@@ -231,7 +231,8 @@ module _ (P : List (List ℕ)) (E : List EntryList) (formed : WellFormed P E) (t
   pub value-at-most : (f : ℕ) (p g : List ℕ) → Listed E p → length g ≡ suc (length p) → measure p g < f → value f P E p g ≤ factorial (total g)
   value-at-most f p g l wide h = omega (arith, value-size f p g l wide h, cell-at-most P p g)
 
-  -- "No value exceeds 20! = 2432902008176640000" (01): at every listed prefix, for every spacing of a length that is counted
+  -- "No value exceeds 20! = 2432902008176640000" (01): at every listed prefix, for every spacing of
+  -- a length that is counted
   pub value-at-most-twenty-factorial : (f : ℕ) (p g : List ℕ) → Listed E p → length g ≡ suc (length p) → measure p g < f → length p + total g ≤ 20 →
       value f P E p g ≤ 2432902008176640000
   value-at-most-twenty-factorial f p g l wide h few = omega (arith, value-at-most f p g l wide h, factorial-at-most (total g) (omega arith))

@@ -1,4 +1,5 @@
--- `wellformed::pattern_tests::earlier_twin` meets its contract: the nearest place before i is the nearest below the index.
+-- `wellformed::pattern_tests::earlier_twin` meets its contract: the nearest before i is the nearest
+-- below the index.
 -- Assumes nothing.
 use Prim.Native.Nat.{ℕ, _≤_}
 use mathlib.Core.Path.{_≡_, sym, _∙_}
