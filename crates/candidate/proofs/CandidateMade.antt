@@ -1,6 +1,6 @@
 -- Laws for the making of a candidate's word: one entry more, the values that are kept, the rest behind them, and that the whole is the built word.
 -- Assumes nothing.
-use Prim.Native.Nat.{ℕ, suc, _+_, _-_, _%_, _≤_, _<_}
+use Prim.Native.Nat.{ℕ, suc, _+_, _-_, _≤_, _<_, min}
 use native.Mathlib.Nat.{zero-add, add-zero, suc-add, add-suc}
 use native.Mathlib.Numerals.{add-one}
 use native.Mathlib.Omega.{arith}
@@ -35,7 +35,7 @@ pushed e n u w q k = sym (append-nil (take n e)) ∙ rw q at k
 module _ (levels gone prefix : List ℕ) (k i : ℕ) where
   pub kept-here : i < k → k ≤ length prefix → entryOf gone (getD prefix i 0) ≡ 0 →
       keptValues levels gone (drop i (take k prefix))
-      ≡ ((getD prefix i 0 + entryOf levels (getD prefix i 0)) % 256) ∷ keptValues levels gone (drop (i + 1) (take k prefix))
+      ≡ min (getD prefix i 0 + entryOf levels (getD prefix i 0)) 255 ∷ keptValues levels gone (drop (i + 1) (take k prefix))
   unfolding keptValues
   kept-here h room e = rw (part-cons prefix k i h room, eq-eqb (entryOf gone (getD prefix i 0)) 0 e) refl
 
@@ -97,10 +97,10 @@ pub kept-are : (levels gone p R g : List ℕ) → isPerm p ≡ true → length p
 unfolding keptValues val
 kept-are levels gone p R g perm six inside small says flags =
     let left : List ℕ = keep (λ a. not (has a (map (entry p) R))) p in
-    ap (map (λ a. (a + entryOf levels a) % 256))
+    ap (map (λ a. min (a + entryOf levels a) 255))
     (keep-same (λ a. not (flagged gone a)) (λ a. not (has a (map (entry p) R))) p
     (λ (x : ℕ) (m : List·Memᴰ x p). let b = perm-bounds p perm m in ap not (flags x (omega arith)))) ∙
-    map-same (λ a. (a + entryOf levels a) % 256) (val g) left
+    map-same (λ a. min (a + entryOf levels a) 255) (val g) left
     (λ (x : ℕ) (m : List·Memᴰ x left).
     let b = perm-bounds p perm (keep-out (λ a. not (has a (map (entry p) R))) p m .0) in
     omega (arith, says x (omega arith), level-at-most g x)) ∙

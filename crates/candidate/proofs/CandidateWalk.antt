@@ -25,7 +25,8 @@ use Rattle.cell.specs.Candidate.{headLength, hit, violates, violated, irreversi
 use Rattle.candidate.specs.Lookup.{Says, Flags}
 use Rattle.candidate.specs.Ready.{Ready, patternAt, Needs, Given, FlaggedFor, FreeAnswer, TotalAnswer, EntryAnswer}
 use Rattle.candidate.specs.BasisMemory.{pattern-member}
-use Rattle.spacing.specs.SpacingOrder.{firstVector, later, Follows, vectors-first, first-length, first-total}
+use Rattle.spacing.specs.Following.{firstVector, later, Follows}
+use Rattle.spacing.specs.SpacingOrder.{vectors-first, first-length, first-total}
 use Rattle.candidate.proofs.HitLaws.{hit-short}
 use Rattle.candidate.proofs.BasisWalk.{from, from-start, from-counted, from-end, from-cons}
 

@@ -1,5 +1,6 @@
--- What the tables of the candidate search have to say of a prefix, a spacing and a pattern, and the word that is made from them.
-use Prim.Native.Nat.{ℕ, suc, _+_, _-_, _%_, _≤_, _<_}
+-- The tables of the candidate search, and the word that is made from them. Definitions only.
+-- A table has something to say of a prefix, a spacing and a pattern.
+use Prim.Native.Nat.{ℕ, suc, _+_, _-_, _≤_, _<_, min}
 use mathlib.Core.Path.{_≡_}
 use mathlib.Core.Bool.{not, true}
 use mathlib.Core.List.{List, _++_, map, List·Memᴰ}
@@ -10,9 +11,9 @@ use Rattle.cell.specs.Cell.{total, without}
 use Rattle.cell.specs.Built.{level, lift, built}
 use Rattle.candidate.specs.Lookup.{entryOf, flagged, Says, Flags}
 
--- the prefix values that are not flagged, each with its level added, as bytes
+-- the prefix values that are not flagged, each with its level added, and 255 where that is larger
 unfoldable pub keptValues : List ℕ → List ℕ → List ℕ → List ℕ
-keptValues levels gone p = map (λ a. (a + entryOf levels a) % 256) (keep (λ a. not (flagged gone a)) p)
+keptValues levels gone p = map (λ a. min (a + entryOf levels a) 255) (keep (λ a. not (flagged gone a)) p)
 
 -- the table `levels` says the levels of g, and the pattern entries from index `from` up to `to` need levels that g reaches
 pub record Reached (row : List ℕ) (from to : ℕ) (need levels : List ℕ) (k : ℕ) (g : List ℕ) : Type 0 where

@@ -1,5 +1,4 @@
 // The numbers that the candidate search looks up by value: levels, needed levels, deleted values; and the candidate's word.
-use std::num::wrapping_add_u8;
 ghost use mathlib.Core.Path.{_≡_};
 ghost use mathlib.Core.Bool.{true};
 ghost use mathlib.Core.List.{List, map};
@@ -111,6 +110,13 @@ fn capped(s: u8) -> u8
     if s <= 100 { s } else { 100 }
 }
 
+// A value with its level added, or 255 where the sum is larger.
+fn added(a: u8, x: u8) -> u8
+    ensures { λ r. ⌜ r ≡ min (a + x) 255 ⌝ }
+{
+    if x <= 255 - a { a + x } else { 255 }
+}
+
 // The actual values of the prefix values that are not flagged, in their order.
 pub fn kept(prefix: [u8; 6], k: usize, levels: [u8; 9], gone: [u8; 9]) -> Word
     requires { ⌜ k ≤ 6 ⌝ }
@@ -122,7 +128,7 @@ pub fn kept(prefix: [u8; 6], k: usize, levels: [u8; 9], gone: [u8; 9]) -> Word
     while i < k {
         let a = prefix[i];
         if told(gone, a) == 0 {
-            entries[n] = wrapping_add_u8(a, told(levels, a));
+            entries[n] = added(a, told(levels, a));
             n += 1;
             i += 1;
         } else {

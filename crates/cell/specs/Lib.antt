@@ -25,3 +25,4 @@ pub mod Child
 pub mod ChildLaws
 pub mod BinomialLaws
 pub mod BasisLaws
+pub mod ListedLaws

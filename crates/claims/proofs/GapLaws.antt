@@ -1,19 +1,19 @@
 -- The first entries of a cell at a gap vector, as the code makes them, and the gap vectors of an entry from a place on.
 -- Assumes nothing.
-use Prim.Native.Nat.{ℕ, zero, suc, _+_, _%_, _≤_, _<_}
+use Prim.Native.Nat.{ℕ, suc, _+_, _≤_, _<_, min}
 use native.Mathlib.Numerals.{add-one}
 use native.Mathlib.Omega.{arith}
 use mathlib.Core.Path.{_≡_, refl, sym, ap, ap₂, _∙_}
-use mathlib.Core.Bool.{Bool, true, false, not, cond, _||_}
+use mathlib.Core.Bool.{Bool, true, false, not}
 use mathlib.Core.List.{List, [], _∷_, map, List·Memᴰ, List·Memᴰ·head, List·Memᴰ·tail}
 use lib.ListN.{length, getD, take, replicate, length-map}
 use lib.Seq.{length-take-le}
-use Rattle.word.specs.Lists.{any, keep, row}
+use Rattle.word.specs.Lists.{any, keep, each, row}
 use Rattle.word.specs.Word.{isPerm}
-use Rattle.word.specs.ListLaws.{map-same}
+use Rattle.word.specs.ListLaws.{and-left, and-right, any-out, map-same}
 use Rattle.word.specs.PermLaws.{perm-bounds}
 use Rattle.word.specs.Containment.{patternsOf}
-use Rattle.cell.specs.Cell.{total, cell, atLeast}
+use Rattle.cell.specs.Cell.{total, cell, atLeast, vectors}
 use Rattle.cell.specs.Built.{level, val}
 use Rattle.cell.specs.BuiltWords.{level-at-most}
 use Rattle.cell.specs.Theorems.{gap-law}
@@ -28,6 +28,7 @@ use Rattle.scheme.specs.declared.memory.Gap.{Gap}
 use Rattle.scheme.specs.declared.memory.Entry.{Entry}
 use Rattle.verdict.specs.Verdict.{isEmpty, liveGap}
 use Rattle.verdict.specs.VerdictLaws.{empty-out}
+use Rattle.claims.specs.EmptyBelow.{showsEmpty, emptyBelow}
 use Rattle.claims.specs.LiveLaws.{completable-live}
 
 -- all elements pass
@@ -46,11 +47,11 @@ kept-all : (p g levels : List ℕ) (k : ℕ) → ((a : ℕ) → List·Memᴰ a p
     keptValues levels (replicate 9 0) p ≡ map (val g) p
 unfolding keptValues val
 kept-all p g levels k low says small =
-    ap (map (λ a. (a + entryOf levels a) % 256)) (keep-all (λ a. not (flagged (replicate 9 0) a)) p
+    ap (map (λ a. min (a + entryOf levels a) 255)) (keep-all (λ a. not (flagged (replicate 9 0) a)) p
     (λ a m. ap not (or-left (flagged (replicate 9 0) a) false (flag-none 9 a false)))) ∙
-    map-same (λ a. (a + entryOf levels a) % 256) (val g) p at
+    map-same (λ a. min (a + entryOf levels a) 255) (val g) p at
   where
-    at : (a : ℕ) → List·Memᴰ a p → (a + entryOf levels a) % 256 ≡ a + level g a
+    at : (a : ℕ) → List·Memᴰ a p → min (a + entryOf levels a) 255 ≡ a + level g a
     at a m =
         let e : entryOf levels a ≡ level g a = says a (omega (arith, low a m)) in
         let h : a + level g a < 256 = omega (arith, low a m, level-at-most g a) in
@@ -87,9 +88,35 @@ module _ (k : ℕ) (parts : List ℕ) (seven : length parts ≡ 7) (short : k �
       ap₂ (completable P) (whole ∙ ap₂ _+_ (sym size) cell-length) (ap (λ i. take i entries) (sym is) ∙ values) ∙
       completable-live P p g perm (spacing-size ∙ add-one k ∙ ap suc (sym size))
 
--- a smaller vector with an empty cell shows that the cell is empty
-pub empty-below : (P : List (List ℕ)) (p b g : List ℕ) → isPerm p ≡ true → atLeast b g ≡ true → not (isEmpty (cell P p g)) ≡ false → cell P p b ≡ []
-empty-below P p b g perm above e = gap-law P p g perm .0 (empty-out (cell P p g) e) b above
+-- a vector with an empty cell that is at most b
+module _ (P : List (List ℕ)) (p b : List ℕ) where
+  pub shows-not : (g : List ℕ) → atLeast b g ≡ false → showsEmpty P p b g ≡ false
+  unfolding showsEmpty
+  shows-not g e = rw e refl
+
+  pub shows-if-empty : (g : List ℕ) (live : Bool) → atLeast b g ≡ true → live ≡ not (isEmpty (cell P p g)) → not live ≡ showsEmpty P p b g
+  unfolding showsEmpty
+  shows-if-empty g live above e = ap not e ∙ twice (isEmpty (cell P p g)) ∙ rw above refl
+    where
+      twice : (a : Bool) → not (not a) ≡ a
+      twice true = refl
+      twice false = refl
+
+  -- it shows that the cell at b is empty: the gap law
+  shown-empty : (g : List ℕ) → isPerm p ≡ true → showsEmpty P p b g ≡ true → cell P p b ≡ []
+  unfolding showsEmpty
+  shown-empty g perm e =
+      gap-law P p g perm .0 (empty-out (cell P p g) (ap not (and-right (atLeast b g) (isEmpty (cell P p g)) e))) b
+      (and-left (atLeast b g) (isEmpty (cell P p g)) e)
+
+  pub below-empty : (k : ℕ) → isPerm p ≡ true → emptyBelow P p b k ≡ true → cell P p b ≡ []
+  below-empty k perm e =
+      let (g, m, q) = any-out (showsEmpty P p b) (each (vectors (suc k)) (row 0 (total b))) e in
+      shown-empty g perm q
+
+-- the test of a vector against the first k + 1 components of an array
+abbrev pub shows : List (List ℕ) → List ℕ → ℕ → List ℕ → ℕ → List ℕ → List ℕ → Bool
+shows set lengths count prefix k parts = showsEmpty (patternsOf set lengths count) (take k prefix) (take (k + 1) parts)
 
 -- the gap vector at a place of an entry
 abbrev pub vectorAt : Entry → ℕ → List ℕ

@@ -1,12 +1,12 @@
 -- What the code that judges an entry has in hand. Definitions only.
 use Prim.Native.Nat.{ℕ, _≤_, _<_}
 use mathlib.Core.Path.{_≡_}
-use mathlib.Core.Bool.{Bool, true}
+use mathlib.Core.Bool.{true}
 use mathlib.Core.List.{List, [], List·Memᴰ}
 use lib.ListN.{length, getD}
 use Rattle.word.specs.Word.{isPerm}
 use Rattle.word.specs.Containment.{patternsOf}
-use Rattle.cell.specs.Cell.{mOf, cell}
+use Rattle.cell.specs.Cell.{mOf}
 use Rattle.scheme.specs.SchemeList.{EntryList}
 use Rattle.scheme.specs.SchemeMemory.{noGap}
 use Rattle.scheme.specs.declared.memory.Gap.{Gap}
@@ -31,7 +31,3 @@ DeletesAt e r = e .rule ≡ Delete r
 pub record ComparedAnswer (m : ℕ) (e : EntryList) (r : ℕ) : Type 0 where
   pub compares : (P : List (List ℕ)) → mOf P ≡ m → r ≡ comparedWith P (e .prefix) (e .gaps) (e .rule)
   pub small : r ≤ 3432
-
--- a yes shows that the cell is empty
-abbrev pub ShowsEmpty : List (List ℕ) → List ℕ → List ℕ → Bool → Type 0
-ShowsEmpty P p b r = r ≡ true → cell P p b ≡ []

@@ -22,7 +22,8 @@ ghost use Rattle.word.specs.Containment.{patternsOf};
 ghost use Rattle.cell.specs.Cell.{total, cell};
 ghost use Rattle.scheme.specs.SchemeMemory.{gapIn};
 ghost use Rattle.verdict.specs.Verdict.{isEmpty};
-ghost use Rattle.claims.specs.EntryMemory.{HasRows, ShowsEmpty};
+ghost use Rattle.claims.specs.EntryMemory.{HasRows};
+ghost use Rattle.claims.specs.EmptyBelow.{showsEmpty, emptyAt, emptyBelow};
 
 // The components of a gap vector.
 fn parts_of(b: Gap) -> [u8; COMPONENTS]
@@ -91,7 +92,7 @@ fn is_live_at(
     completable(set, lengths, count, entries, k, n)
 }
 
-// Whether a vector of a smaller total, by rising total, shows that the cell is empty.
+// Whether a vector of a smaller total that is at most this one has an empty cell: by rising total.
 fn has_empty_below(
     set: [[u8; DIGITS]; PATTERNS],
     lengths: [u8; PATTERNS],
@@ -100,8 +101,8 @@ fn has_empty_below(
     k: usize,
     parts: [u8; COMPONENTS],
 ) -> bool
-    requires { ⌜ (k ≤ 6) × (isPerm (take k prefix) ≡ true) ⌝ }
-    ensures { λ r. ⌜ ShowsEmpty (patternsOf set lengths count) (take k prefix) (take (k + 1) parts) r ⌝ }
+    requires { ⌜ (k ≤ 6) × (isPerm (take k prefix) ≡ true) × (total (take (k + 1) parts) ≤ 8) ⌝ }
+    ensures { λ r. ⌜ r ≡ emptyBelow (patternsOf set lengths count) (take k prefix) (take (k + 1) parts) k ⌝ }
 {
     let mut t: usize = 0;
     while t < TOTAL {
@@ -141,7 +142,7 @@ fn has_empty(
     t: usize,
 ) -> bool
     requires { ⌜ (k ≤ 6) × (isPerm (take k prefix) ≡ true) × (t ≤ 8) ⌝ }
-    ensures { λ r. ⌜ ShowsEmpty (patternsOf set lengths count) (take k prefix) (take (k + 1) parts) r ⌝ }
+    ensures { λ r. ⌜ r ≡ emptyAt (patternsOf set lengths count) (take k prefix) (take (k + 1) parts) k t ⌝ }
 {
     let mut g = first_spacing(k, t as u8);
     loop {
@@ -167,7 +168,7 @@ fn is_empty_below(
     g: [u8; COMPONENTS],
 ) -> bool
     requires { ⌜ (k ≤ 6) × (isPerm (take k prefix) ≡ true) × (total (take (k + 1) g) ≤ 8) ⌝ }
-    ensures { λ r. ⌜ ShowsEmpty (patternsOf set lengths count) (take k prefix) (take (k + 1) parts) r ⌝ }
+    ensures { λ r. ⌜ r ≡ showsEmpty (patternsOf set lengths count) (take k prefix) (take (k + 1) parts) (take (k + 1) g) ⌝ }
 {
     if !at_least(parts, g, k) {
         return false;

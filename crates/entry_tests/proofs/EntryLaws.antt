@@ -1,6 +1,6 @@
 -- The tests of an entry in memory: what its fields say of the lists that they stand for, and what test 2 leaves of a scheme.
 -- Assumes nothing.
-use Prim.Native.Nat.{ℕ, zero, suc, _+_, _-_, _≤_, _<_}
+use Prim.Native.Nat.{ℕ, suc, _+_, _≤_, _<_}
 use mathlib.Core.Path.{_≡_, refl, sym, ap, _∙_}
 use mathlib.Core.Bool.{Bool, true, false, not, _||_}
 use mathlib.Core.List.{List, [], _∷_, map}
@@ -29,6 +29,8 @@ use Rattle.scheme.specs.declared.memory.Scheme.{Scheme}
 use Rattle.scheme.specs.declared.memory.Fault.the-variants.{Clean}
 use Rattle.scheme.specs.TestLaws.{from, first-clean, any-clean, or-left, or-right, length-items, first-start, any-start, single, clean-of}
 use Rattle.scheme.specs.MemoryLaws.{padded-within, length-padded}
+use Rattle.entry_tests.specs.Twin.{nearestTwin}
+use Rattle.entry_tests.specs.TwinLaws.{nearest-seen}
 
 -- the total of what is left of a vector
 module _ (p : List ℕ) (n : ℕ) (h : n ≤ length p) where
@@ -127,23 +129,10 @@ same-none n l h = go (padded n l) (length-padded n l)
 abbrev pub before : (ℕ → EntryList) → ℕ → List (List ℕ)
 before g i = map (λ (d : EntryList). d .prefix) (seen g i)
 
--- whether an earlier entry has the prefix p
-module _ (p : List ℕ) (g : ℕ → EntryList) (i : ℕ) (h : 0 < i) where
-  earlier : listed (before g i) p ≡ same p ((g (i - 1)) .prefix) || listed (before g (i - 1)) p
-  earlier = go i (i - 1) (omega arith)
-    where
-      go : (a b : ℕ) → a ≡ suc b → listed (before g a) p ≡ same p ((g b) .prefix) || listed (before g b) p
-      go a b e = rw e refl
-
-  pub earlier-here : same p ((g (i - 1)) .prefix) ≡ true → listed (before g i) p ≡ true
-  earlier-here e = earlier ∙ rw e refl
-
-  pub earlier-there : same p ((g (i - 1)) .prefix) ≡ false → listed (before g i) p ≡ listed (before g (i - 1)) p
-  earlier-there e = earlier ∙ rw e refl
-
-pub earlier-none : (p : List ℕ) (g : ℕ → EntryList) (i : ℕ) → i ≤ 0 → listed (before g i) p ≡ false
-earlier-none p g zero h = refl
-earlier-none p g (suc i) h = absurd (omega arith)
+-- whether an earlier entry has the prefix p, from the place of the nearest one
+pub nearest-listed : (p : List ℕ) (g : ℕ → EntryList) (i r : ℕ) → r ≡ nearestTwin (λ j. same p ((g j) .prefix)) i → ltb r i ≡ listed (before g i) p
+nearest-listed p g i r e =
+    ap (λ (n : ℕ). ltb n i) e ∙ nearest-seen (λ (d : EntryList). same p (d .prefix)) g i ∙ sym (any-map (same p) (λ (d : EntryList). d .prefix) (seen g i))
 
 -- a twin by its prefix, and else by its vectors
 module _ (seen : List EntryList) (e : EntryList) where

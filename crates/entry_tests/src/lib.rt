@@ -25,7 +25,7 @@ ghost use Rattle.cell.specs.Cell.{same};
 ghost use Rattle.scheme.specs.WellFormed.{firstAt, firstTwin, listed, repeats, largeGap, largeEntry, twinEntry, wrongWidth, outside};
 ghost use Rattle.scheme.specs.SchemeMemory.{padded, noGap, noEntry, gapIn, doesOf, entryIn, schemeIn, faultOf};
 ghost use Rattle.scheme.specs.Sized.{SizedEntry, Sized};
-ghost use Rattle.scheme.specs.TestOrder.{seen};
+ghost use Rattle.entry_tests.specs.Twin.{nearestTwin};
 
 // Test 2: more than 128 entries, and then the first entry that passes a ceiling.
 pub fn large_fault(s: Scheme) -> Fault
@@ -146,10 +146,10 @@ pub fn twin_fault(s: Scheme) -> Fault
     Fault::Clean
 }
 
-// The index of an entry before the index i that has the prefix of e, or i where there is none.
+// The index of the nearest entry before the index i with the prefix of e, or i where there is none.
 fn earlier_twin(s: Scheme, i: usize, e: Entry) -> usize
     requires { ⌜ Sized s × SizedEntry e × (i ≤ s .count) ⌝ }
-    ensures { λ r. ⌜ ltb r i ≡ listed (map (λ d. d .prefix) (seen (λ j. entryIn (getD (s .entries) j noEntry)) i)) (padded (e .length) (e .prefix)) ⌝ }
+    ensures { λ r. ⌜ r ≡ nearestTwin (λ j. same (padded (e .length) (e .prefix)) ((entryIn (getD (s .entries) j noEntry)) .prefix)) i ⌝ }
 {
     let mut j = i;
     while 0 < j {

@@ -14,7 +14,8 @@ use Rattle.word.specs.Word.{has}
 use Rattle.cell.specs.Cell.{total, mergeFrom, mergeValues}
 use Rattle.cell.specs.Binomial.{binomial}
 use Rattle.cell.specs.BinomialLaws.{binomial-above}
-use Rattle.spacing.specs.SpacingOrder.{firstVector, first-length}
+use Rattle.spacing.specs.Following.{firstVector}
+use Rattle.spacing.specs.SpacingOrder.{first-length}
 use Rattle.rank.specs.Rank.{rankFrom, rankAfter, rankOf, carry, nextOf}
 
 -- Binomials

@@ -10,7 +10,8 @@ use native.Mathlib.Omega.{arith}
 use lib.ListN.{length}
 use Rattle.word.specs.Lists.{keep, each, row}
 use Rattle.cell.specs.Cell.{total, vectors}
-use Rattle.spacing.specs.SpacingOrder.{firstVector, later, Follows, vectors-first, first-total, keep-bound, vectors-bound, spacings-bound}
+use Rattle.spacing.specs.Following.{firstVector, later, Follows}
+use Rattle.spacing.specs.SpacingOrder.{vectors-first, first-total, keep-bound, vectors-bound, spacings-bound}
 
 -- the number of vectors of the list at which the test passes
 abbrev pub passing : (List ℕ → Bool) → List (List ℕ) → ℕ

@@ -9,11 +9,13 @@ use native.Mathlib.Numerals.{add-one}
 use native.Mathlib.Omega.{arith}
 use lib.ListN.{length, getD, take, drop, set, replicate, drop-of-length-le}
 use lib.Dec.{leb}
-use lib.Seq.{drop-cons, split-at, take-set-lt, getD-take, length-take-le}
+use lib.Seq.{drop-cons, split-at, take-set-lt, drop-set-lt, getD-take, length-take-le}
 use borrow.Author.Tests.{le-leb, lt-leb}
+use Rattle.word.specs.ListLaws.{true-not-false}
 use Rattle.cell.specs.Cell.{total, atLeast, free}
 use Rattle.spacing.specs.GapRows.{gapsOf}
-use Rattle.spacing.specs.SpacingOrder.{firstVector, later, Follows, stepFrom, stepTo, later-none, later-next, next-total}
+use Rattle.spacing.specs.Following.{firstVector, later, Follows, Steps}
+use Rattle.spacing.specs.SpacingOrder.{stepFrom, stepTo, later-none, later-next, next-total}
 
 -- the first spacing
 
@@ -97,10 +99,14 @@ seen-down g k j l p s e =
     let len = taken-length g k l in
     (omega arith, cleared-down (take (k + 1) g) j p (omega arith) (s .1) (getD-take (k + 1) g j 0 (omega arith) ∙ e))
 
-pub seen-last : (g : List ℕ) (k j : ℕ) → k < length g → Seen g k j → j ≡ 0 → Follows (take (k + 1) g) false (take (k + 1) g)
+pub seen-last : (g : List ℕ) (k j : ℕ) → k < length g → Seen g k j → j ≡ 0 → Steps g k false g
 seen-last g k j l s e =
     let len = taken-length g k l in
-    record { rest = cleared-last (take (k + 1) g) (omega arith) (rw e at (s .1)); same-total = refl }
+    record {
+      follows = record { rest = cleared-last (take (k + 1) g) (omega arith) (rw e at (s .1)); same-total = refl };
+      behind = refl;
+      stays = λ (q : false ≡ false). refl;
+    }
 
 module _ (g : List ℕ) (k j : ℕ) (l : k < length g) (p : 0 < j) (s : Seen g k j) (e : getD g j 0 ≡ 0 → ⊥) where
   parts : take (k + 1) g ≡ stepFrom (take (j - 1) (take (k + 1) g)) (getD g (j - 1) 0) (getD g j 0 - 1) (k - j)
@@ -116,8 +122,8 @@ module _ (g : List ℕ) (k j : ℕ) (l : k < length g) (p : 0 < j) (s : Seen g k
   next-fits small =
       omega (arith, ap total parts, step-total (take (j - 1) (take (k + 1) g)) (getD g (j - 1) 0) (getD g j 0 - 1) (k - j))
 
-  pub next-memory : Follows (take (k + 1) g) true (take (k + 1) (set (set (set g j 0) (j - 1) (getD g (j - 1) 0 + 1)) k (getD g j 0 - 1)))
-  next-memory =
+  next-follows : Follows (take (k + 1) g) true (take (k + 1) (set (set (set g j 0) (j - 1) (getD g (j - 1) 0 + 1)) k (getD g j 0 - 1)))
+  next-follows =
       let y = getD g (j - 1) 0 in
       let r = getD g j 0 - 1 in
       let pre = take (j - 1) (take (k + 1) g) in
@@ -132,6 +138,16 @@ module _ (g : List ℕ) (k j : ℕ) (l : k < length g) (p : 0 < j) (s : Seen g k
       let moved : take (k + 1) (set (set (set g j 0) (j - 1) (y + 1)) k r) ≡ stepTo pre y r (k - j) =
       inside ∙ ap (λ (v : List ℕ). set (set (set v j 0) (j - 1) (y + 1)) k r) parts ∙ (rw (at2, at1, ← add-one y) at done) in
       record { rest = rw moved (ap later parts ∙ later-next pre y r (k - j)); same-total = rw moved (next-total pre y r (k - j) ∙ ap total (sym parts)) }
+
+  pub next-memory : Steps g k true (set (set (set g j 0) (j - 1) (getD g (j - 1) 0 + 1)) k (getD g j 0 - 1))
+  next-memory =
+      let y = getD g (j - 1) 0 + 1 in
+      record {
+        follows = next-follows;
+        behind = drop-set-lt (k + 1) (set (set g j 0) (j - 1) y) k (getD g j 0 - 1) (omega arith) ∙
+            drop-set-lt (k + 1) (set g j 0) (j - 1) y (omega arith) ∙ drop-set-lt (k + 1) g j 0 (omega arith);
+        stays = λ (q : true ≡ false). absurd (true-not-false q);
+      }
 
 -- the comparison of two vectors from component i on
 

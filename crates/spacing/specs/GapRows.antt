@@ -1,4 +1,4 @@
--- The memory form of the gap vectors of an entry.
+-- The memory form of the gap vectors of an entry. Definitions only.
 use Prim.Native.Nat.{ℕ}
 use mathlib.Core.List.{List, map}
 use lib.ListN.{take}

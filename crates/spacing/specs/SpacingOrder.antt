@@ -1,4 +1,5 @@
--- The spacings of one total in lexicographic order: the first, those that come after a spacing, and the next.
+-- Laws of the spacings of one total: all of them from the first on, what comes after the last and
+-- after any other, and how many there are.
 use Prim.Native.Nat.{ℕ, zero, suc, _+_, _-_, _*_, _^_, _≤_, _<_}
 use mathlib.Core.Path.{_≡_, refl, sym, ap, ap₂, _∙_}
 use mathlib.Core.Bool.{Bool, true, false, cond}
@@ -8,28 +9,8 @@ use native.Mathlib.Omega.{arith}
 use lib.ListN.{length, replicate, length-append, length-replicate, length-map}
 use Rattle.word.specs.Lists.{keep, each, row}
 use Rattle.cell.specs.Cell.{total, free, mOf, vectors, compared}
-
--- the lexicographically first vector with k + 1 components and total t: k zeros, and then t
-unfoldable pub firstVector : ℕ → ℕ → List ℕ
-firstVector zero t = t ∷ []
-firstVector (suc k) t = 0 ∷ firstVector k t
-
--- the vectors whose first component is above x, with k more components; t is what the others hold where the first is x
-unfoldable pub above : ℕ → ℕ → ℕ → List (List ℕ)
-unfolding vectors
-above k x zero = []
-above k x (suc t) = map (λ g. suc x ∷ g) (vectors k t) ++ above k (suc x) t
-
--- the vectors that come after g, in lexicographic order, among those with as many components and the same total
-unfoldable pub later : List ℕ → List (List ℕ)
-unfolding above total
-later [] = []
-later (x ∷ g) = map (λ h. x ∷ h) (later g) ++ above (length g) x (total g)
-
--- n comes next after v, if one was found, and else none comes after v; n has the total of v
-pub record Follows (v : List ℕ) (found : Bool) (n : List ℕ) : Type 0 where
-  pub rest : later v ≡ cond found (n ∷ later n) []
-  pub same-total : total n ≡ total v
+use Rattle.spacing.specs.Following.{above, later}
+unfoldable pub use Rattle.spacing.specs.Following.{firstVector}
 
 -- `vectors` by the first component
 

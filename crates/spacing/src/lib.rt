@@ -5,7 +5,7 @@ ghost use lib.ListN.{length, take};
 ghost use Rattle.word.specs.Lists.{keep, each, row};
 ghost use Rattle.cell.specs.Cell.{total, atLeast, free, vectors};
 ghost use Rattle.spacing.specs.GapRows.{gapsOf};
-ghost use Rattle.spacing.specs.SpacingOrder.{firstVector, Follows};
+ghost use Rattle.spacing.specs.Following.{firstVector, Steps};
 
 // The first spacing with k + 1 components and total t: all of the total in the last component.
 pub fn first_spacing(k: usize, t: u8) -> [u8; 7]
@@ -26,7 +26,7 @@ pub struct Next {
 // The spacing that comes next: the last component that is not 0 gives one to the component before it, and the rest of it goes to the end.
 pub fn next_spacing(g: [u8; 7], k: usize) -> Next
     requires { ⌜ (k < 7) × (total (take (k + 1) g) < 256) ⌝ }
-    ensures { λ r. ⌜ Follows (take (k + 1) g) (r .found) (take (k + 1) (r .g)) ⌝ }
+    ensures { λ r. ⌜ Steps g k (r .found) (r .g) ⌝ }
 {
     let mut j = k;
     while 0 < j {

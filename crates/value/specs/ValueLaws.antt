@@ -134,15 +134,18 @@ pub factorial-grows : (n d : ℕ) → factorial n ≤ factorial (n + d)
 factorial-grows n zero = rw (add-zero n) (omega arith)
 factorial-grows n (suc d) = let e : n + suc d ≡ suc (n + d) = omega arith in rw e (omega (arith, factorial-grows n d, factorial-step (n + d)))
 
-pub factorial-fits : (n : ℕ) → n ≤ 20 → factorial n < 18446744073709551616
+pub factorial-at-most : (n : ℕ) → n ≤ 20 → factorial n ≤ 2432902008176640000
 unfolding factorial
-factorial-fits n h =
+factorial-at-most n h =
     let e : n + (20 - n) ≡ 20 = omega arith in
     let l : factorial (n + (20 - n)) ≡ factorial 20 = ap factorial e in
     let t : factorial 20 ≡ 2432902008176640000 = refl in
     omega (arith, factorial-grows n (20 - n))
 
--- "No value exceeds 20! = 2432902008176640000" (01)
+pub factorial-fits : (n : ℕ) → n ≤ 20 → factorial n < 18446744073709551616
+factorial-fits n h = omega (arith, factorial-at-most n h)
+
+-- the size of a cell of at most 20 further entries fits 64 bits
 pub size-fits : (P : List (List ℕ)) (p g : List ℕ) → total g ≤ 20 → size P p g < 18446744073709551616
 unfolding size
 size-fits P p g h = omega (arith, cell-at-most P p g, factorial-fits (total g) h)
@@ -227,6 +230,12 @@ module _ (P : List (List ℕ)) (E : List EntryList) (formed : WellFormed P E) (t
   -- no value exceeds the factorial of the total
   pub value-at-most : (f : ℕ) (p g : List ℕ) → Listed E p → length g ≡ suc (length p) → measure p g < f → value f P E p g ≤ factorial (total g)
   value-at-most f p g l wide h = omega (arith, value-size f p g l wide h, cell-at-most P p g)
+
+  -- "No value exceeds 20! = 2432902008176640000" (01): at every listed prefix, for every spacing of
+  -- a length that is counted
+  pub value-at-most-twenty-factorial : (f : ℕ) (p g : List ℕ) → Listed E p → length g ≡ suc (length p) → measure p g < f → length p + total g ≤ 20 →
+      value f P E p g ≤ 2432902008176640000
+  value-at-most-twenty-factorial f p g l wide h few = omega (arith, value-at-most f p g l wide h, factorial-at-most (total g) (omega arith))
 
   -- The count for n is the size of the cell of ε with spacing (n).
   pub count-size : (n : ℕ) → countOf P E n ≡ size P [] (n ∷ [])

@@ -19,7 +19,8 @@ ghost use Rattle.word.specs.declared.refusal.Refusal.the-variants.{Oversize, No
 ghost use Rattle.cell.specs.Cell.{same};
 ghost use Rattle.scheme.specs.WellFormed.{firstAt, firstTwin, listed, patternTests};
 ghost use Rattle.scheme.specs.SchemeMemory.{patternIn, patternsIn, faultOf};
-ghost use Rattle.scheme.specs.TestOrder.{seen, placeIn};
+ghost use Rattle.scheme.specs.TestOrder.{placeIn};
+ghost use Rattle.entry_tests.specs.Twin.{nearestTwin};
 
 // What the tests 2 to 4 find in a pattern list: the first fault in their order.
 pub fn patterns_fault(s: Patterns) -> Fault
@@ -107,10 +108,10 @@ fn first_twin(s: Patterns) -> Fault
     Fault::Clean
 }
 
-// The place of an earlier item that equals the one at i, or i where there is none.
+// The place of the nearest earlier item that equals the one at i, or i where there is none.
 fn earlier_twin(s: Patterns, i: usize) -> usize
     requires { ⌜ i < 24 ⌝ }
-    ensures { λ r. ⌜ ltb r i ≡ listed (seen (placeIn s) i) (placeIn s i) ⌝ }
+    ensures { λ r. ⌜ r ≡ nearestTwin (λ j. same (placeIn s i) (placeIn s j)) i ⌝ }
 {
     let p = s.items[i];
     let mut j = i;

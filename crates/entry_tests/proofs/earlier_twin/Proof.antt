@@ -1,26 +1,31 @@
--- `entry_tests::earlier_twin` meets its contract: the prefix stands before i if it stands before the index.
+-- `entry_tests::earlier_twin` meets its contract: the nearest before i is the nearest below the index.
 -- Assumes nothing.
-use Prim.Native.Nat.{_-_, _≤_}
+use Prim.Native.Nat.{ℕ, _-_, _≤_}
 use mathlib.Core.Path.{_≡_, sym, _∙_}
+use mathlib.Core.Bool.{Bool}
 use borrow.Author.Needs.{needs}
 use native.Mathlib.Omega.{arith}
-use lib.ListN.{length}
-use borrow.Author.Tests.{lt-ltb, le-ltb}
-use Rattle.scheme.specs.WellFormed.{listed}
-use Rattle.scheme.specs.SchemeMemory.{padded}
-use Rattle.scheme.specs.SchemeMemory.{entryAt}
-use Rattle.entry_tests.proofs.EntryLaws.{before, earlier-here, earlier-there, earlier-none}
+use Rattle.cell.specs.Cell.{same}
+use Rattle.scheme.specs.SchemeMemory.{padded, entryAt}
+use Rattle.scheme.specs.declared.memory.Entry.{Entry}
+use Rattle.scheme.specs.declared.memory.Scheme.{Scheme}
+use Rattle.entry_tests.specs.Twin.{nearestBelow, nearestTwin}
+use Rattle.entry_tests.specs.TwinLaws.{nearest-here, nearest-later, nearest-none, nearest-start}
 use Rattle.entry_tests.proofs.earlier_twin.Statement.{statement}
 use Rattle.entry_tests.proofs.earlier_twin.Tie as tie
 
+-- whether the entry at a place has the prefix of e
+abbrev twin : Scheme → Entry → ℕ → Bool
+twin s e j = same (padded (e .length) (e .prefix)) ((entryAt s j) .prefix)
+
 abbrev Inv-loop : tie.InvT-loop
-Inv-loop i e s j₀ j = (j ≤ i) × (listed (before (entryAt s) i) (padded (e .length) (e .prefix)) ≡ listed (before (entryAt s) j) (padded (e .length) (e .prefix)))
+Inv-loop i e s j₀ j = (j ≤ i) × (nearestTwin (twin s e) i ≡ nearestBelow (twin s e) i j)
 
 abbrev μ-loop : tie.MeasureT-loop
 μ-loop i e s j₀ j = j
 
 loop-holds : tie.Need-loop-holds Inv-loop μ-loop
-loop-holds c = search needs
+loop-holds c = (omega arith, nearest-start (twin (c .args .t1) (c .args .e)) (c .args .i))
 
 sub-j : tie.Need-sub-j Inv-loop μ-loop
 sub-j c = search needs
@@ -40,8 +45,7 @@ returns : tie.Need-returns Inv-loop μ-loop
 returns c =
     let a = c .before .before .before .before .before .args in
     let l = c .before .before .before .before .loop in
-    let here = earlier-here (padded (a .e .length) (a .e .prefix)) (entryAt (a .t1)) (l .j) (omega arith) (sym (c .before .same-prefix .ensures) ∙ c .if1 .taken) in
-    lt-ltb (l .j - 1) (a .i) (omega arith) ∙ sym (l .inv .1 ∙ here)
+    sym (l .inv .1 ∙ nearest-here (twin (a .t1) (a .e)) (a .i) (l .j) (omega arith) (sym (c .before .same-prefix .ensures) ∙ c .if1 .taken))
 
 loop-less : tie.Need-loop-less Inv-loop μ-loop
 loop-less c = search needs
@@ -50,14 +54,13 @@ loop-again : tie.Need-loop-again Inv-loop μ-loop
 loop-again c =
     let a = c .before .before .before .before .before .args in
     let l = c .before .before .before .before .loop in
-    let there = earlier-there (padded (a .e .length) (a .e .prefix)) (entryAt (a .t1)) (l .j) (omega arith) (sym (c .before .same-prefix .ensures) ∙ c .if1 .left) in
-    (omega arith, l .inv .1 ∙ there)
+    (omega arith, l .inv .1 ∙ nearest-later (twin (a .t1) (a .e)) (a .i) (l .j) (omega arith) (sym (c .before .same-prefix .ensures) ∙ c .if1 .left))
 
 returns-2 : tie.Need-returns-2 Inv-loop μ-loop
 returns-2 c =
     let a = c .before .before .args in
     let l = c .before .loop in
-    le-ltb (a .i) (a .i) (omega arith) ∙ sym (l .inv .1 ∙ earlier-none (padded (a .e .length) (a .e .prefix)) (entryAt (a .t1)) (l .j) (omega arith))
+    sym (l .inv .1 ∙ nearest-none (twin (a .t1) (a .e)) (a .i) (l .j) (omega arith))
 
 pub earlier-twin-spec : {M : Type 1} → statement M
 earlier-twin-spec =

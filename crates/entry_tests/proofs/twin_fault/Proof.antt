@@ -11,7 +11,7 @@ use Rattle.scheme.specs.SchemeMemory.{faultOf, schemeIn}
 use Rattle.scheme.specs.TestOrder.{seen}
 use Rattle.scheme.specs.TestLaws.{twin-start, twin-here, twin-later, twin-end, from}
 use Rattle.scheme.specs.SchemeMemory.{entryAt}
-use Rattle.entry_tests.proofs.EntryLaws.{twin-prefix, twin-gaps}
+use Rattle.entry_tests.proofs.EntryLaws.{nearest-listed, twin-prefix, twin-gaps}
 use Rattle.entry_tests.proofs.twin_fault.Statement.{statement}
 use Rattle.entry_tests.proofs.twin_fault.Tie as tie
 
@@ -40,7 +40,7 @@ returns c =
     let s = c .before .before .before .before .before .args .t1 in
     let l = c .before .before .before .before .loop in
     let twin = c .before .earlier-twin in
-    let stands = twin-prefix (seen (entryAt s) (l .i)) (entryAt s (l .i)) (sym (twin .ensures) ∙ lt-ltb (twin .result) (l .i) (c .if1 .taken)) in
+    let stands = twin-prefix (seen (entryAt s) (l .i)) (entryAt s (l .i)) (sym (nearest-listed ((entryAt s (l .i)) .prefix) (entryAt s) (l .i) (twin .result) (twin .ensures)) ∙ lt-ltb (twin .result) (l .i) (c .if1 .taken)) in
     sym (ap faultOf (l .inv .1 ∙ twin-here twinEntry (entryAt s) (s .count) (l .i) (omega arith) stands))
 
 has-twin-gaps-requires : tie.Need-has-twin-gaps-requires Inv-loop μ-loop
@@ -53,7 +53,7 @@ returns-2 c =
     let s = c .before .before .before .before .before .before .before .args .t1 in
     let l = c .before .before .before .before .before .before .loop in
     let twin = c .before .before .before .earlier-twin in
-    let gaps = twin-gaps (seen (entryAt s) (l .i)) (entryAt s (l .i)) (sym (twin .ensures) ∙ le-ltb (twin .result) (l .i) (c .before .before .if1 .left)) in
+    let gaps = twin-gaps (seen (entryAt s) (l .i)) (entryAt s (l .i)) (sym (nearest-listed ((entryAt s (l .i)) .prefix) (entryAt s) (l .i) (twin .result) (twin .ensures)) ∙ le-ltb (twin .result) (l .i) (c .before .before .if1 .left)) in
     sym (ap faultOf (l .inv .1 ∙ twin-here twinEntry (entryAt s) (s .count) (l .i) (omega arith) (gaps ∙ sym (c .before .has-twin-gaps .ensures) ∙ c .if2 .taken)))
 
 add-i : tie.Need-add-i Inv-loop μ-loop
@@ -67,7 +67,7 @@ loop-again c =
     let s = c .before .before .before .before .before .before .before .args .t1 in
     let l = c .before .before .before .before .before .before .loop in
     let twin = c .before .before .before .earlier-twin in
-    let gaps = twin-gaps (seen (entryAt s) (l .i)) (entryAt s (l .i)) (sym (twin .ensures) ∙ le-ltb (twin .result) (l .i) (c .before .before .if1 .left)) in
+    let gaps = twin-gaps (seen (entryAt s) (l .i)) (entryAt s (l .i)) (sym (nearest-listed ((entryAt s (l .i)) .prefix) (entryAt s) (l .i) (twin .result) (twin .ensures)) ∙ le-ltb (twin .result) (l .i) (c .before .before .if1 .left)) in
     (omega arith, l .inv .1 ∙ twin-later twinEntry (entryAt s) (s .count) (l .i) (omega arith) (gaps ∙ sym (c .before .has-twin-gaps .ensures) ∙ c .if2 .left))
 
 returns-3 : tie.Need-returns-3 Inv-loop μ-loop

@@ -9,7 +9,7 @@ use borrow.Author.Tests.{not-true, not-false}
 use native.Mathlib.Omega.{arith}
 use Rattle.cell.specs.Cell.{free, vectors}
 use Rattle.spacing.specs.GapRows.{gapsOf}
-use Rattle.spacing.specs.SpacingOrder.{later}
+use Rattle.spacing.specs.Following.{later}
 use Rattle.spacing.proofs.SpacingCount.{passing, Walk, walk-start, walk-passes, walk-fails, walk-end, walk-on, walk-bound, less-later}
 use Rattle.spacing.proofs.free_count.Statement.{statement}
 use Rattle.spacing.proofs.free_count.Tie as tie
@@ -66,20 +66,20 @@ returns c =
     let a = c .before .before .before .before .before .before .before .args in
     let f = free (gapsOf (a .gaps) (a .k + 1) (a .n)) in
     let n = c .before .before .next-spacing in
-    walk-end f (a .k) (a .t) (take (a .k + 1) (c .before .before .before .before .before .loop .g)) (take (a .k + 1) (n .result .g)) (c .before .before .before .if1 .count) (n .result .found) (passed (c .before .before .before)) (n .ensures) (not-true _ (c .if2 .taken))
+    walk-end f (a .k) (a .t) (take (a .k + 1) (c .before .before .before .before .before .loop .g)) (take (a .k + 1) (n .result .g)) (c .before .before .before .if1 .count) (n .result .found) (passed (c .before .before .before)) (n .ensures .follows) (not-true _ (c .if2 .taken))
 
 loop-less : tie.Need-loop-less Inv-loop μ-loop
 loop-less c =
     let a = c .before .before .before .before .before .before .before .before .args in
     let n = c .before .before .before .next-spacing in
-    less-later (take (a .k + 1) (c .before .before .before .before .before .before .loop .g)) (take (a .k + 1) (n .result .g)) (n .result .found) (n .ensures) (not-false _ (c .before .if2 .left))
+    less-later (take (a .k + 1) (c .before .before .before .before .before .before .loop .g)) (take (a .k + 1) (n .result .g)) (n .result .found) (n .ensures .follows) (not-false _ (c .before .if2 .left))
 
 loop-again : tie.Need-loop-again Inv-loop μ-loop
 loop-again c =
     let a = c .before .before .before .before .before .before .before .before .args in
     let f = free (gapsOf (a .gaps) (a .k + 1) (a .n)) in
     let n = c .before .before .before .next-spacing in
-    walk-on f (a .k) (a .t) (take (a .k + 1) (c .before .before .before .before .before .before .loop .g)) (take (a .k + 1) (n .result .g)) (c .before .before .before .before .if1 .count) (n .result .found) (c .before .before .before .before .before .before .loop .inv .held) (passed (c .before .before .before .before)) (n .ensures) (not-false _ (c .before .if2 .left))
+    walk-on f (a .k) (a .t) (take (a .k + 1) (c .before .before .before .before .before .before .loop .g)) (take (a .k + 1) (n .result .g)) (c .before .before .before .before .if1 .count) (n .result .found) (c .before .before .before .before .before .before .loop .inv .held) (passed (c .before .before .before .before)) (n .ensures .follows) (not-false _ (c .before .if2 .left))
 
 pub free-count-spec : {M : Type 1} → statement M
 free-count-spec =

@@ -9,7 +9,7 @@ use native.Mathlib.Numerals.{add-one}
 use lib.ListN.{length, take}
 use lib.Seq.{length-take-le}
 use Rattle.spacing.specs.GapRows.{gapsOf}
-use Rattle.spacing.specs.SpacingOrder.{later}
+use Rattle.spacing.specs.Following.{later}
 use Rattle.spacing.proofs.SpacingCount.{less-later}
 use Rattle.candidate.proofs.CandidateWalk.{Walked, walked-start, walked-found, walked-none, walked-next}
 use Rattle.candidate.proofs.search.total_violated.Statement.{statement}
@@ -53,13 +53,13 @@ returns-2 c =
     let f = c .before .before .before .before .free-and-violated in
     let n = c .before .before .next-spacing in
     walked-none (a .set) (a .lengths) (a .count) (c .before .before .before .before .before .before .before .needs-of .result) (take (a .k) (a .prefix)) (a .gone) (gapsOf (a .gaps) (a .k + 1) (a .gap-count)) (a .k) (a .t) (take (a .k + 1) (c .before .before .before .before .before .loop .g)) (c .before .before .before .before .before .loop .inv) (c .before .before .before .before .before .before .before .needs-of .ensures) (f .result) (f .ensures) (c .before .before .before .if1 .left)
-    (take (a .k + 1) (n .result .g)) (n .result .found) (n .ensures) (not-true _ (c .if2 .taken))
+    (take (a .k + 1) (n .result .g)) (n .result .found) (n .ensures .follows) (not-true _ (c .if2 .taken))
 
 loop-less : tie.Need-loop-less Inv-loop μ-loop
 loop-less c =
     let a = c .before .before .before .before .before .before .before .before .before .args in
     let n = c .before .before .before .next-spacing in
-    less-later (take (a .k + 1) (c .before .before .before .before .before .before .loop .g)) (take (a .k + 1) (n .result .g)) (n .result .found) (n .ensures) (not-false _ (c .before .if2 .left))
+    less-later (take (a .k + 1) (c .before .before .before .before .before .before .loop .g)) (take (a .k + 1) (n .result .g)) (n .result .found) (n .ensures .follows) (not-false _ (c .before .if2 .left))
 
 loop-again : tie.Need-loop-again Inv-loop μ-loop
 loop-again c =
@@ -71,7 +71,7 @@ loop-again c =
     let wide : a .k ≡ length (take (a .k) (a .prefix)) = sym (length-take-le (a .k) (a .prefix) (omega (arith, c .before .before .before .before .before .before .before .before .before .pre .1))) in
     let size : length (take (a .k + 1) (n .result .g)) ≡ suc (a .k) = length-take-le (a .k + 1) (n .result .g) (omega (arith, c .before .before .before .before .before .before .before .before .before .pre .1)) ∙ add-one (a .k) in
     walked-next (a .set) (a .lengths) (a .count) (c .before .before .before .before .before .before .before .before .needs-of .result) (take (a .k) (a .prefix)) (a .gone) (gapsOf (a .gaps) (a .k + 1) (a .gap-count)) (a .k) (a .t) (take (a .k + 1) (c .before .before .before .before .before .before .loop .g)) (c .before .before .before .before .before .before .loop .inv) (c .before .before .before .before .before .before .before .before .needs-of .ensures) (f .result) (f .ensures) (c .before .before .before .before .if1 .left)
-    (take (a .k + 1) (n .result .g)) (n .result .found) (n .ensures) (not-false _ (c .before .if2 .left)) wide size
+    (take (a .k + 1) (n .result .g)) (n .result .found) (n .ensures .follows) (not-false _ (c .before .if2 .left)) wide size
 
 pub total-violated-spec : {M : Type 1} → statement M
 total-violated-spec =

@@ -1,6 +1,6 @@
 -- `candidate::tables::kept` meets its contract: the entries, and the values still to come, are the whole.
 -- Assumes nothing.
-use Prim.Native.Nat.{ℕ, _+_, _-_, _%_, _≤_}
+use Prim.Native.Nat.{ℕ, _+_, _-_, _≤_, min}
 use mathlib.Core.Path.{_≡_, sym, ap, _∙_}
 use mathlib.Core.List.{List, _++_}
 use native.Mathlib.Omega.{arith}
@@ -30,8 +30,8 @@ told-requires c κs = search needs
 told-requires-2 : tie.Need-told-requires-2 Inv-loop μ-loop
 told-requires-2 c κs = search needs
 
-wrapping-add-u8-requires : tie.Need-wrapping-add-u8-requires Inv-loop μ-loop
-wrapping-add-u8-requires c κs = search needs
+added-requires : tie.Need-added-requires Inv-loop μ-loop
+added-requires c κs = search needs
 
 array-write-entries : tie.Need-array-write-entries Inv-loop μ-loop
 array-write-entries c = search needs
@@ -51,12 +51,12 @@ loop-again c =
     let l = c .before .before .before .before .before .loop in
     let six : length (a .t1) ≡ 6 = search needs in
     let stays = sym (c .before .before .before .told .ensures) ∙ c .before .before .if1 .taken in
-    let value : c .wrapping-add-u8 .result ≡ (getD (a .t1) (l .i) 0 + getD (a .levels) (getD (a .t1) (l .i) 0) 0) % 256 =
-    c .wrapping-add-u8 .ensures ∙ ap (λ (x : ℕ). (getD (a .t1) (l .i) 0 + x) % 256) (c .before .told2 .ensures) in (
+    let value : c .added .result ≡ min (getD (a .t1) (l .i) 0 + getD (a .levels) (getD (a .t1) (l .i) 0) 0) 255 =
+    c .added .ensures ∙ ap (λ (x : ℕ). min (getD (a .t1) (l .i) 0 + x) 255) (c .before .told2 .ensures) in (
       search needs,
       search needs,
       search needs,
-      push (l .entries) (l .n) (c .wrapping-add-u8 .result) (keptValues (a .levels) (a .gone) (drop (l .i + 1) (take (a .k) (a .t1))))
+      push (l .entries) (l .n) (c .added .result) (keptValues (a .levels) (a .gone) (drop (l .i + 1) (take (a .k) (a .t1))))
           (keptValues (a .levels) (a .gone) (drop (l .i) (take (a .k) (a .t1)))) (keptValues (a .levels) (a .gone) (take (a .k) (a .t1))) (omega arith)
           (rw value (kept-here (a .levels) (a .gone) (a .t1) (a .k) (l .i) (omega arith) (omega arith) stays)) (l .inv .3),
     )
@@ -100,7 +100,7 @@ kept-spec =
     array-read-a
     told-requires
     told-requires-2
-    wrapping-add-u8-requires
+    added-requires
     array-write-entries
     add-n
     add-i

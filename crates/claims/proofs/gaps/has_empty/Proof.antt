@@ -1,20 +1,27 @@
 -- `claims::gaps::has_empty` meets its contract: each vector of the total in its turn.
 -- Assumes nothing.
 use borrow.Author.Needs.{needs}
-use Prim.Native.Nat.{_+_}
+use Prim.Native.Nat.{ℕ, suc, _+_}
 use mathlib.Core.Path.{_≡_, sym, ap, _∙_}
+use mathlib.Core.List.{List, _∷_}
 use native.Mathlib.Omega.{arith}
-use borrow.Author.Tests.{not-false}
+use borrow.Author.Tests.{not-true, not-false}
 use lib.ListN.{length, take}
-use Rattle.word.specs.ListLaws.{true-not-false}
-use Rattle.cell.specs.Cell.{total}
-use Rattle.spacing.specs.SpacingOrder.{later, first-total}
+use Rattle.word.specs.Lists.{any}
+use Rattle.cell.specs.Cell.{total, vectors}
+use Rattle.spacing.specs.Following.{later}
+use Rattle.spacing.specs.SpacingOrder.{first-total}
 use Rattle.spacing.proofs.SpacingCount.{less-later}
+use Rattle.candidate.proofs.CandidateWalk.{walk-start, walk-here, walk-last, walk-next}
+use Rattle.claims.proofs.GapLaws.{shows}
 use Rattle.claims.proofs.gaps.has_empty.Statement.{statement}
 use Rattle.claims.proofs.gaps.has_empty.Tie as tie
 
 abbrev Inv-loop : tie.InvT-loop
-Inv-loop set lengths count prefix k parts t g₀ g = total (take (k + 1) g) ≡ t
+Inv-loop set lengths count prefix k parts t g₀ g =
+    (total (take (k + 1) g) ≡ t) ×
+    (any (shows set lengths count prefix k parts) (vectors (suc k) t) ≡
+    any (shows set lengths count prefix k parts) (take (k + 1) g ∷ later (take (k + 1) g)))
 
 abbrev μ-loop : tie.MeasureT-loop
 μ-loop set lengths count prefix k parts t g₀ g = length (later (take (k + 1) g))
@@ -28,28 +35,52 @@ first-spacing-requires c κs = omega (arith, c .pre .0)
 loop-holds : tie.Need-loop-holds Inv-loop μ-loop
 loop-holds c =
     let a = c .before .args in
-    ap total (c .first-spacing .ensures) ∙ first-total (a .k) (a .t)
+    let f = shows (a .set) (a .lengths) (a .count) (a .prefix) (a .k) (a .parts) in (
+      ap total (c .first-spacing .ensures) ∙ first-total (a .k) (a .t),
+      walk-start f (a .k) (a .t) ∙ ap (λ (v : List ℕ). any f (v ∷ later v)) (sym (c .first-spacing .ensures)),
+    )
 
 is-empty-below-requires : tie.Need-is-empty-below-requires Inv-loop μ-loop
-is-empty-below-requires c κs = (c .before .before .pre .0, c .before .before .pre .1, omega (arith, c .loop .inv, c .before .before .pre .2))
+is-empty-below-requires c κs = (c .before .before .pre .0, c .before .before .pre .1, omega (arith, c .loop .inv .0, c .before .before .pre .2))
 
 returns : tie.Need-returns Inv-loop μ-loop
-returns c = λ e. c .before .is-empty-below .ensures (c .if1 .taken)
+returns c =
+    let a = c .before .before .before .before .args in
+    let l = c .before .before .loop in
+    let f = shows (a .set) (a .lengths) (a .count) (a .prefix) (a .k) (a .parts) in
+    sym (l .inv .1 ∙ walk-here f (take (a .k + 1) (l .g)) (sym (c .before .is-empty-below .ensures) ∙ c .if1 .taken))
 
 next-spacing-requires : tie.Need-next-spacing-requires Inv-loop μ-loop
-next-spacing-requires c κs = (omega (arith, c .before .before .before .before .pre .0), omega (arith, c .before .before .loop .inv, c .before .before .before .before .pre .2))
+next-spacing-requires c κs = (omega (arith, c .before .before .before .before .pre .0), omega (arith, c .before .before .loop .inv .0, c .before .before .before .before .pre .2))
 
 returns-2 : tie.Need-returns-2 Inv-loop μ-loop
-returns-2 c = λ e. absurd (true-not-false (sym e))
+returns-2 c =
+    let a = c .before .before .before .before .before .before .before .args in
+    let l = c .before .before .before .before .before .loop in
+    let n = c .before .before .next-spacing in
+    let f = shows (a .set) (a .lengths) (a .count) (a .prefix) (a .k) (a .parts) in
+    sym (l .inv .1 ∙
+    walk-last f (take (a .k + 1) (l .g)) (take (a .k + 1) (n .result .g)) (n .result .found) (n .ensures .follows)
+    (sym (c .before .before .before .before .is-empty-below .ensures) ∙ c .before .before .before .if1 .left) (not-true _ (c .if2 .taken)))
 
 loop-less : tie.Need-loop-less Inv-loop μ-loop
 loop-less c =
     let a = c .before .before .before .before .before .before .before .before .args in
     let n = c .before .before .before .next-spacing in
-    less-later (take (a .k + 1) (c .before .before .before .before .before .before .loop .g)) (take (a .k + 1) (n .result .g)) (n .result .found) (n .ensures) (not-false _ (c .before .if2 .left))
+    less-later (take (a .k + 1) (c .before .before .before .before .before .before .loop .g)) (take (a .k + 1) (n .result .g)) (n .result .found) (n .ensures .follows) (not-false _ (c .before .if2 .left))
 
 loop-again : tie.Need-loop-again Inv-loop μ-loop
-loop-again c = c .before .before .before .next-spacing .ensures .same-total ∙ c .before .before .before .before .before .before .loop .inv
+loop-again c =
+    let a = c .before .before .before .before .before .before .before .before .args in
+    let l = c .before .before .before .before .before .before .loop in
+    let n = c .before .before .before .next-spacing in
+    let f = shows (a .set) (a .lengths) (a .count) (a .prefix) (a .k) (a .parts) in (
+      n .ensures .follows .same-total ∙ l .inv .0,
+      l .inv .1 ∙
+          walk-next f (take (a .k + 1) (l .g)) (take (a .k + 1) (n .result .g)) (n .result .found) (n .ensures .follows)
+          (sym (c .before .before .before .before .before .is-empty-below .ensures) ∙ c .before .before .before .before .if1 .left)
+          (not-false _ (c .before .if2 .left)),
+    )
 
 pub has-empty-spec : {M : Type 1} → statement M
 has-empty-spec =

@@ -1,33 +1,57 @@
 -- `claims::gaps::has_empty_below` meets its contract: by rising total.
 -- Assumes nothing.
 use borrow.Author.Needs.{needs}
-use Prim.Native.Nat.{_-_, _≤_}
-use mathlib.Core.Path.{sym}
+use Prim.Native.Nat.{_+_, _-_, _≤_}
+use mathlib.Core.Path.{_≡_, sym, _∙_}
 use native.Mathlib.Omega.{arith}
-use Rattle.word.specs.ListLaws.{true-not-false}
+use lib.ListN.{take}
+use borrow.Author.Tests.{leb-true, leb-false}
+use Rattle.word.specs.Containment.{patternsOf}
+use Rattle.cell.specs.Cell.{total}
+use Rattle.candidate.proofs.CandidateWalk.{from-total, totals-start, totals-end, totals-here, totals-later}
+use Rattle.claims.specs.EmptyBelow.{emptyBelow}
+use Rattle.claims.proofs.GapLaws.{shows}
 use Rattle.claims.proofs.gaps.has_empty_below.Statement.{statement}
 use Rattle.claims.proofs.gaps.has_empty_below.Tie as tie
 
 abbrev Inv-loop : tie.InvT-loop
-Inv-loop set lengths count prefix k parts t₀ t = t ≤ 8
+Inv-loop set lengths count prefix k parts t₀ t =
+    (t ≤ 8) ×
+    (emptyBelow (patternsOf set lengths count) (take k prefix) (take (k + 1) parts) k ≡
+    from-total (shows set lengths count prefix k parts) k (total (take (k + 1) parts)) t)
 
 abbrev μ-loop : tie.MeasureT-loop
 μ-loop set lengths count prefix k parts t₀ t = 8 - t
 
 loop-holds : tie.Need-loop-holds Inv-loop μ-loop
-loop-holds c = omega arith
+loop-holds c =
+    let a = c .args in
+    (omega arith, totals-start (shows (a .set) (a .lengths) (a .count) (a .prefix) (a .k) (a .parts)) (a .k) (total (take (a .k + 1) (a .parts))))
 
 is-at-most-requires : tie.Need-is-at-most-requires Inv-loop μ-loop
 is-at-most-requires c κs = c .before .before .pre .0
 
 returns : tie.Need-returns Inv-loop μ-loop
-returns c = λ e. absurd (true-not-false (sym e))
+returns c =
+    let a = c .before .before .before .before .args in
+    let l = c .before .before .before .loop in
+    let m = total (take (a .k + 1) (a .parts)) in
+    sym (l .inv .1 ∙
+    totals-end (shows (a .set) (a .lengths) (a .count) (a .prefix) (a .k) (a .parts)) (a .k) m (l .t)
+    (leb-true m (l .t) (sym (c .before .is-at-most .ensures) ∙ c .if1 .taken)))
 
 has-empty-requires : tie.Need-has-empty-requires Inv-loop μ-loop
-has-empty-requires c κs = (c .before .before .before .before .pre .0, c .before .before .before .before .pre .1, omega (arith, c .before .before .before .loop .inv))
+has-empty-requires c κs = (c .before .before .before .before .pre .0, c .before .before .before .before .pre .1, omega (arith, c .before .before .before .loop .inv .0))
 
 returns-2 : tie.Need-returns-2 Inv-loop μ-loop
-returns-2 c = λ e. c .before .has-empty .ensures (c .if2 .taken)
+returns-2 c =
+    let a = c .before .before .before .before .before .before .args in
+    let l = c .before .before .before .before .before .loop in
+    let m = total (take (a .k + 1) (a .parts)) in
+    sym (l .inv .1 ∙
+    totals-here (shows (a .set) (a .lengths) (a .count) (a .prefix) (a .k) (a .parts)) (a .k) m (l .t)
+    (leb-false m (l .t) (sym (c .before .before .before .is-at-most .ensures) ∙ c .before .before .if1 .left))
+    (sym (c .before .has-empty .ensures) ∙ c .if2 .taken))
 
 add-t : tie.Need-add-t Inv-loop μ-loop
 add-t c = search needs
@@ -36,10 +60,25 @@ loop-less : tie.Need-loop-less Inv-loop μ-loop
 loop-less c = search needs
 
 loop-again : tie.Need-loop-again Inv-loop μ-loop
-loop-again c = omega arith
+loop-again c =
+    let a = c .before .before .before .before .before .before .args in
+    let l = c .before .before .before .before .before .loop in
+    let m = total (take (a .k + 1) (a .parts)) in (
+      omega arith,
+      l .inv .1 ∙
+          totals-later (shows (a .set) (a .lengths) (a .count) (a .prefix) (a .k) (a .parts)) (a .k) m (l .t)
+          (leb-false m (l .t) (sym (c .before .before .before .is-at-most .ensures) ∙ c .before .before .if1 .left))
+          (sym (c .before .has-empty .ensures) ∙ c .if2 .left),
+    )
 
 returns-3 : tie.Need-returns-3 Inv-loop μ-loop
-returns-3 c = λ e. absurd (true-not-false (sym e))
+returns-3 c =
+    let a = c .before .before .args in
+    let l = c .before .loop in
+    let m = total (take (a .k + 1) (a .parts)) in
+    sym (l .inv .1 ∙
+    totals-end (shows (a .set) (a .lengths) (a .count) (a .prefix) (a .k) (a .parts)) (a .k) m (l .t)
+    (omega (arith, c .before .before .pre .2)))
 
 pub has-empty-below-spec : {M : Type 1} → statement M
 has-empty-below-spec =

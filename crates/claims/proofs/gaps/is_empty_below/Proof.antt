@@ -1,13 +1,12 @@
--- `claims::gaps::is_empty_below` meets its contract: the gap law.
+-- `claims::gaps::is_empty_below` meets its contract: the two tests in turn.
 -- Assumes nothing.
 use Prim.Native.Nat.{_+_}
 use mathlib.Core.Path.{sym, _∙_}
 use native.Mathlib.Omega.{arith}
 use borrow.Author.Tests.{not-true, not-false}
 use lib.ListN.{take}
-use Rattle.word.specs.ListLaws.{true-not-false}
 use Rattle.word.specs.Containment.{patternsOf}
-use Rattle.claims.proofs.GapLaws.{empty-below}
+use Rattle.claims.proofs.GapLaws.{shows-not, shows-if-empty}
 use Rattle.claims.proofs.gaps.is_empty_below.Statement.{statement}
 use Rattle.claims.proofs.gaps.is_empty_below.Tie as tie
 
@@ -15,7 +14,10 @@ at-least-requires : tie.Need-at-least-requires
 at-least-requires c κs = omega (arith, c .pre .0)
 
 returns : tie.Need-returns
-returns c = λ e. absurd (true-not-false (sym e))
+returns c =
+    let a = c .before .before .args in
+    sym (shows-not (patternsOf (a .set) (a .lengths) (a .count)) (take (a .k) (a .prefix)) (take (a .k + 1) (a .parts)) (take (a .k + 1) (a .g))
+    (sym (c .before .at-least .ensures) ∙ not-true _ (c .if1 .taken)))
 
 is-live-at-requires : tie.Need-is-live-at-requires
 is-live-at-requires c κs = c .before .before .pre
@@ -24,8 +26,8 @@ returns-2 : tie.Need-returns-2
 returns-2 c =
     let a = c .before .before .before .args in
     let above = sym (c .before .before .at-least .ensures) ∙ not-false _ (c .before .if1 .left) in
-    λ e. empty-below (patternsOf (a .set) (a .lengths) (a .count)) (take (a .k) (a .prefix)) (take (a .k + 1) (a .parts)) (take (a .k + 1) (a .g)) (c .before .before .before .pre .1) above
-    (sym (c .is-live-at .ensures) ∙ not-true _ e)
+    shows-if-empty (patternsOf (a .set) (a .lengths) (a .count)) (take (a .k) (a .prefix)) (take (a .k + 1) (a .parts)) (take (a .k + 1) (a .g))
+    (c .is-live-at .result) above (c .is-live-at .ensures)
 
 pub is-empty-below-spec : {M : Type 1} → statement M
 is-empty-below-spec = tie.close (tie.spec at-least-requires returns is-live-at-requires returns-2)

@@ -1,20 +1,25 @@
--- `wellformed::pattern_tests::earlier_twin` meets its contract: the items before the place that are still to be compared are those before the index.
+-- `wellformed::pattern_tests::earlier_twin` meets its contract: the nearest before i is the nearest
+-- below the index.
 -- Assumes nothing.
-use Prim.Native.Nat.{_-_, _≤_}
-use mathlib.Core.Path.{_≡_, refl, sym, _∙_}
+use Prim.Native.Nat.{ℕ, _≤_}
+use mathlib.Core.Path.{_≡_, sym, _∙_}
+use mathlib.Core.Bool.{Bool}
 use borrow.Author.Needs.{needs}
 use native.Mathlib.Omega.{arith}
-use borrow.Author.Tests.{lt-ltb, le-ltb}
-use Rattle.word.specs.Lists.{any}
 use Rattle.cell.specs.Cell.{same}
-use Rattle.scheme.specs.WellFormed.{listed}
-use Rattle.scheme.specs.TestOrder.{placeIn, seen}
-use Rattle.scheme.specs.TestLaws.{seen-here, seen-later, seen-none}
+use Rattle.scheme.specs.TestOrder.{placeIn}
+use Rattle.scheme.specs.declared.memory.Patterns.{Patterns}
+use Rattle.entry_tests.specs.Twin.{nearestBelow, nearestTwin}
+use Rattle.entry_tests.specs.TwinLaws.{nearest-here, nearest-later, nearest-none, nearest-start}
 use Rattle.wellformed.proofs.pattern_tests.earlier_twin.Statement.{statement}
 use Rattle.wellformed.proofs.pattern_tests.earlier_twin.Tie as tie
 
+-- whether the items at two places are the same
+abbrev twin : Patterns → ℕ → ℕ → Bool
+twin s i j = same (placeIn s i) (placeIn s j)
+
 abbrev Inv-loop : tie.InvT-loop
-Inv-loop i s p j₀ j = (listed (seen (placeIn s) i) (placeIn s i) ≡ any (same (placeIn s i)) (seen (placeIn s) j)) × (j ≤ i)
+Inv-loop i s p j₀ j = (nearestTwin (twin s i) i ≡ nearestBelow (twin s i) i j) × (j ≤ i)
 
 abbrev μ-loop : tie.MeasureT-loop
 μ-loop i s p j₀ j = j
@@ -26,7 +31,7 @@ element-copy-out-p : tie.Need-element-copy-out-p Inv-loop μ-loop
 element-copy-out-p c = search needs
 
 loop-holds : tie.Need-loop-holds Inv-loop μ-loop
-loop-holds c = (refl, omega arith)
+loop-holds c = let a = c .before .args in (nearest-start (twin (a .t1) (a .i)) (a .i), omega arith)
 
 sub-j : tie.Need-sub-j Inv-loop μ-loop
 sub-j c = search needs
@@ -44,8 +49,7 @@ returns : tie.Need-returns Inv-loop μ-loop
 returns c =
     let a = c .before .before .before .before .before .before .args in
     let l = c .before .before .before .before .loop in
-    let g = placeIn (a .t1) in
-    lt-ltb (l .j - 1) (a .i) (omega arith) ∙ sym (l .inv .0 ∙ seen-here (same (g (a .i))) g (l .j) (l .j - 1) (omega arith) (sym (c .before .same-digits .ensures) ∙ c .if1 .taken))
+    sym (l .inv .0 ∙ nearest-here (twin (a .t1) (a .i)) (a .i) (l .j) (omega arith) (sym (c .before .same-digits .ensures) ∙ c .if1 .taken))
 
 loop-less : tie.Need-loop-less Inv-loop μ-loop
 loop-less c = omega arith
@@ -53,9 +57,8 @@ loop-less c = omega arith
 loop-again : tie.Need-loop-again Inv-loop μ-loop
 loop-again c =
     let a = c .before .before .before .before .before .before .args in
-    let l = c .before .before .before .before .loop in
-    let g = placeIn (a .t1) in (
-      l .inv .0 ∙ seen-later (same (g (a .i))) g (l .j) (l .j - 1) (omega arith) (sym (c .before .same-digits .ensures) ∙ c .if1 .left),
+    let l = c .before .before .before .before .loop in (
+      l .inv .0 ∙ nearest-later (twin (a .t1) (a .i)) (a .i) (l .j) (omega arith) (sym (c .before .same-digits .ensures) ∙ c .if1 .left),
       omega arith,
     )
 
@@ -63,8 +66,7 @@ returns-2 : tie.Need-returns-2 Inv-loop μ-loop
 returns-2 c =
     let a = c .before .before .before .args in
     let l = c .before .loop in
-    let g = placeIn (a .t1) in
-    le-ltb (a .i) (a .i) (omega arith) ∙ sym (l .inv .0 ∙ seen-none (same (g (a .i))) g (l .j) (omega arith))
+    sym (l .inv .0 ∙ nearest-none (twin (a .t1) (a .i)) (a .i) (l .j) (omega arith))
 
 pub earlier-twin-spec : {M : Type 1} → statement M
 earlier-twin-spec =

@@ -1,17 +1,26 @@
 -- `wellformed::pattern_tests::first_twin` meets its contract: the first item that an earlier one equals is the first from the index on.
 -- Assumes nothing.
-use Prim.Native.Nat.{_-_}
+use Prim.Native.Nat.{ℕ, _-_}
 use mathlib.Core.Path.{_≡_, sym, ap, _∙_}
 use mathlib.Core.List.{[]}
 use borrow.Author.Needs.{needs}
 use borrow.Author.Tests.{lt-ltb, le-ltb}
 use native.Mathlib.Omega.{arith}
+use lib.Dec.{ltb}
+use Rattle.cell.specs.Cell.{same}
 use Rattle.scheme.specs.WellFormed.{firstTwin, listed}
 use Rattle.scheme.specs.SchemeMemory.{patternsIn, faultOf}
-use Rattle.scheme.specs.TestOrder.{placeIn}
+use Rattle.scheme.specs.TestOrder.{placeIn, seen}
+use Rattle.scheme.specs.declared.memory.Patterns.{Patterns}
 use Rattle.scheme.specs.TestLaws.{twin-from, twin-start, twin-here, twin-later, twin-end}
+use Rattle.entry_tests.specs.Twin.{nearestTwin}
+use Rattle.entry_tests.specs.TwinLaws.{nearest-seen}
 use Rattle.wellformed.proofs.pattern_tests.first_twin.Statement.{statement}
 use Rattle.wellformed.proofs.pattern_tests.first_twin.Tie as tie
+
+-- whether an earlier item is the same, from the place of the nearest one
+nearest : (s : Patterns) (i r : ℕ) → r ≡ nearestTwin (λ j. same (placeIn s i) (placeIn s j)) i → ltb r i ≡ listed (seen (placeIn s) i) (placeIn s i)
+nearest s i r e = ap (λ (n : ℕ). ltb n i) e ∙ nearest-seen (same (placeIn s i)) (placeIn s) i
 
 abbrev Inv-loop : tie.InvT-loop
 Inv-loop s n i₀ i = firstTwin listed 0 [] (patternsIn s) ≡ twin-from listed (placeIn s) (s .count) i
@@ -29,7 +38,7 @@ returns : tie.Need-returns Inv-loop μ-loop
 returns c =
     let s = c .before .before .before .before .args .s in
     let l = c .before .before .before .loop in
-    let t = sym (c .before .earlier-twin .ensures) ∙ lt-ltb (c .before .earlier-twin .result) (l .i) (c .if1 .taken) in
+    let t = sym (nearest s (l .i) (c .before .earlier-twin .result) (c .before .earlier-twin .ensures)) ∙ lt-ltb (c .before .earlier-twin .result) (l .i) (c .if1 .taken) in
     ap faultOf (sym (l .inv ∙ twin-here listed (placeIn s) (s .count) (l .i) (omega arith) t))
 
 add-i : tie.Need-add-i Inv-loop μ-loop
@@ -42,7 +51,7 @@ loop-again : tie.Need-loop-again Inv-loop μ-loop
 loop-again c =
     let s = c .before .before .before .before .args .s in
     let l = c .before .before .before .loop in
-    let t = sym (c .before .earlier-twin .ensures) ∙ le-ltb (c .before .earlier-twin .result) (l .i) (c .if1 .left) in
+    let t = sym (nearest s (l .i) (c .before .earlier-twin .result) (c .before .earlier-twin .ensures)) ∙ le-ltb (c .before .earlier-twin .result) (l .i) (c .if1 .left) in
     l .inv ∙ twin-later listed (placeIn s) (s .count) (l .i) (omega arith) t
 
 returns-2 : tie.Need-returns-2 Inv-loop μ-loop

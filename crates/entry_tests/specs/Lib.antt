@@ -1,0 +1,3 @@
+-- The definitions of the crate entry_tests, and their laws.
+pub mod Twin
+pub mod TwinLaws
