@@ -58,6 +58,8 @@ tableAfter (At r i) need t = t
 -- the answer r to the patterns P, the scheme E, the length n and a table that holds `before`, and then `after`
 pub record Counts (P : List (List ℕ)) (E : List EntryList) (n : ℕ) (before after : List ℕ) (r : Counted) : Type 0 where
   pub answer : r ≡ countedOr (faultOf (firstFault (countTests P E n (length before)))) (countOf P E n)
+  -- the number and the value of document 01
+  pub numbers : toldCounted r ≡ toldBy (firstFault (countTests P E n (length before))) (countOf P E n ∷ [])
   pub table : after ≡ tableAfter (faultOf (firstFault (countTests P E n (length before)))) (needOf n E) before
   -- "If accepted, then for every n from 0 to 20 and every table long enough, whatever it held, the count .. is exactly the number of permutations of
   -- 1 to n that contain none of the patterns"
@@ -66,4 +68,5 @@ pub record Counts (P : List (List ℕ)) (E : List EntryList) (n : ℕ) (before a
 -- the answer of the plain evaluation
 pub record PlainCounts (P : List (List ℕ)) (E : List EntryList) (n : ℕ) (r : Counted) : Type 0 where
   pub answer : r ≡ countedOr (faultOf (firstFault (plainTests P E n))) (countOf P E n)
+  pub numbers : toldCounted r ≡ toldBy (firstFault (plainTests P E n)) (countOf P E n ∷ [])
   pub counts : accepted (verdictOf P E) ≡ true → n ≤ 9 → r ≡ Count (length (avoiders P n))

@@ -2,13 +2,15 @@
 use Prim.Native.Nat.{ℕ, _≤_}
 use mathlib.Core.Path.{_≡_}
 use mathlib.Core.Bool.{cond}
-use mathlib.Core.List.{List}
+use mathlib.Core.List.{List, []}
 use mathlib.Core.Option.{Option, none, some}
 use lib.ListN.{length, take}
 use lib.Dec.{ltb}
-use Rattle.word.specs.Finding.{Finding, clean, firstFault}
+use Rattle.word.specs.Finding.{Finding, clean, fault, firstFault}
+use Rattle.word.specs.Told.{toldBy}
 use Rattle.word.specs.declared.refusal.Refusal.{Refusal}
 use Rattle.word.specs.declared.refusal.Refusal.the-variants.{Misspelt, Oversize}
+use Rattle.scheme.specs.SchemeMemory.{toldOr}
 use Rattle.scheme.specs.declared.memory.Fault.{Fault}
 use Rattle.scheme.specs.declared.memory.Fault.the-variants.{Clean, At}
 use Rattle.grammar.specs.Spelling.{Token, spaceless}
@@ -27,10 +29,22 @@ module _ {L R : Type 0} (refused : Refusal → ℕ → R) (tested : L → R) whe
   abbrev pub answerTo : ℕ → (List Token → Option L) → List ℕ → R
   answerTo most read s = cond (ltb most (length s)) (refused Oversize 0) (answerFrom (read (tokens s)))
 
--- the answer r to the text s, in terms of what the text spells: `most` is the ceiling of its length, `faultIn` and `listIn` are the finding and the list in an
--- answer, `tested` is the answer to a text that spells a list
-pub record ReadsList {L R : Type 0} (most : ℕ) (Spells : List ℕ → L → Type 0) (tests : L → List Finding) (written : L → List ℕ) (faultIn : R → Fault)
-    (listIn : R → L) (tested : L → R) (s : List ℕ) (r : R) : Type 0 where
+-- what reading finds: the length of the text, then its spelling, then the tests of the list that it spells
+module _ {L : Type 0} (tests : L → List Finding) where
+  abbrev pub foundFrom : Option L → Finding
+  foundFrom none = fault Misspelt 0
+  foundFrom (some l) = firstFault (tests l)
+
+  abbrev pub foundIn : ℕ → (List Token → Option L) → List ℕ → Finding
+  foundIn most read s = cond (ltb most (length s)) (fault Oversize 0) (foundFrom (read (tokens s)))
+
+-- the answer r to the text s, in terms of what the text spells: `most` is the ceiling of its length,
+-- `read` the reader of the grammar, `faultIn` and `listIn` are the finding and the list in an answer,
+-- `tested` is the answer to a text that spells a list
+pub record ReadsList {L R : Type 0} (most : ℕ) (read : List Token → Option L) (Spells : List ℕ → L → Type 0) (tests : L → List Finding)
+    (written : L → List ℕ) (faultIn : R → Fault) (listIn : R → L) (tested : L → R) (s : List ℕ) (r : R) : Type 0 where
+  -- the number and the index of document 01; a list that is read has no values beside itself
+  pub numbers : toldOr (faultIn r) [] ≡ toldBy (foundIn tests most read s) []
   -- within the ceiling a text is refused with 1 exactly if it spells no list
   pub nothing : length s ≤ most → ((l : L) → Spells s l → ⊥) → faultIn r ≡ At Misspelt 0
   pub misspelt : (i : ℕ) → faultIn r ≡ At Misspelt i → (l : L) → Spells s l → ⊥

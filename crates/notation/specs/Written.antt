@@ -36,6 +36,8 @@ pageAfter (fault r i) xs page = page
 -- the answer r, and the page before and after, where a list has these tests and this text
 pub record Writing (tests : List Finding) (xs before after : List ℕ) (r : Written) : Type 0 where
   pub result : r ≡ writtenOr (faultOf (writing tests xs (length before))) (length xs)
+  -- the number and the value of document 01
+  pub numbers : toldWritten r ≡ toldBy (writing tests xs (length before)) (length xs ∷ [])
   pub page : after ≡ pageAfter (writing tests xs (length before)) xs before
   -- where it is written, the tests found nothing, the page begins with the text, and the bytes after it are untouched
   pub passed : (n : ℕ) → r ≡ Bytes n → firstFault tests ≡ clean

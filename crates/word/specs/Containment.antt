@@ -1,5 +1,6 @@
 -- The answer of the public operation `contains`, and the patterns that a set in memory holds.
 use Prim.Native.Nat.{ℕ, zero, suc}
+use mathlib.Core.Path.{_≡_}
 use mathlib.Core.Bool.{Bool, true, false, not, cond, _||_}
 use mathlib.Core.List.{List, [], _∷_}
 use lib.ListN.{length, take}
@@ -33,6 +34,12 @@ abbrev pub toldContained : Contained → Told
 toldContained Yes = toldBy clean (1 ∷ [])
 toldContained No = toldBy clean (0 ∷ [])
 toldContained (Refused r i) = toldBy (fault r i) []
+
+-- the answer r to whether the permutation w contains the pattern β
+pub record Decides (β w : List ℕ) (r : Contained) : Type 0 where
+  pub answer : r ≡ containment β w
+  -- the number and the value of document 01
+  pub numbers : toldContained r ≡ toldBy (firstFault (containmentTests β w)) (cond (contains β w) 1 0 ∷ [])
 
 -- the patterns of a set in memory: of each of the first `count` rows as many digits as its length says
 abbrev pub patternsOf : List (List ℕ) → List ℕ → ℕ → List (List ℕ)
