@@ -19,8 +19,8 @@ use Rattle.verdict.specs.Truth.{WellFormed, AllTrue}
 use Rattle.verdict.specs.declared.answer.Verdict.{Verdict}
 use Rattle.judge.specs.declared.texts.TextsJudged.{TextsJudged}
 
--- what is found in what was read: the faults of reading, of the set before the scheme, and then those
--- of the claims
+-- what is found in what was read: the faults of reading, of the set before the scheme, and then
+-- those of the claims
 abbrev pub faultRead : PatternsRead → SchemeRead → Fault
 faultRead p q = orElse (p .fault) (orElse (q .fault) (faultOf (firstFault (claimTests (patternsIn (p .patterns)) (schemeIn (q .scheme))))))
 
@@ -31,12 +31,13 @@ cellsRead p q = comparedCells (patternsIn (p .patterns)) (schemeIn (q .scheme))
 abbrev pub verdictRead : PatternsRead → SchemeRead → Verdict
 verdictRead p q = answered (faultRead p q) (cellsRead p q)
 
--- "Text length comes before spelling, then the numbers in order, each over the whole input. Here the input is one text or one list: patterns are
--- judged before the scheme" (01)
+-- "Text length comes before spelling, then the numbers in order, each over the whole input. Here
+-- the input is one text or one list: patterns are judged before the scheme" (01)
 abbrev pub verdictOfTexts : List ℕ → List ℕ → Verdict
 verdictOfTexts s t = verdictRead (patternsAnswer s) (schemeAnswer t)
 
--- the texts are within their ceilings, they spell a set and a scheme, this is well-formed, and its claims are true at every length
+-- the texts are within their ceilings, they spell a set and a scheme, this is well-formed, and its
+-- claims are true at every length
 pub record TextsTrue (s t : List ℕ) : Type 0 where
   pub patterns : List (List ℕ)
   pub scheme : List EntryList
@@ -56,7 +57,8 @@ pub record JudgesTexts (s t : List ℕ) (r : Verdict) : Type 0 where
   pub spelt : (P : List (List ℕ)) (E : List EntryList) → length s ≤ 1024 → length t ≤ 32768 → SpellsPatterns s P → SpellsScheme t E → r ≡ verdictOf P E
   pub exactly : (accepted r ≡ true) ↔ TextsTrue s t
 
--- the answer with the lists that were read: those of the definition; where it accepts, the texts spell them, they are well-formed, and the claims are true
+-- the answer with the lists that were read: those of the definition; where it accepts, the texts
+-- spell them, they are well-formed, and the claims are true
 pub record JudgesAndReads (s t : List ℕ) (r : TextsJudged) : Type 0 where
   pub judges : JudgesTexts s t (r .verdict)
   pub patterns : r .patterns ≡ (patternsAnswer s) .patterns

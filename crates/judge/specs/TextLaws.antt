@@ -1,4 +1,5 @@
--- Laws of judging texts: what reading found decides, and the verdict on spelt lists is that on the lists.
+-- Laws of judging texts: what reading found decides, and the verdict on spelt lists is that on the
+-- lists.
 use Prim.Native.Nat.{ℕ, _≤_, _<_}
 use native.Mathlib.Omega.{arith}
 use mathlib.Core.Path.{_≡_, refl, sym, ap, ap₂, _∙_}

@@ -6,7 +6,8 @@ ghost use mathlib.Core.Path.{_≡_};
 ghost use Rattle.verdict.specs.Verdict.{toldVerdict};
 ghost use Rattle.kernel.specs.Call.{Called};
 
-// Judges the scheme that one text spells for the patterns that another spells: 0 where it is accepted, else the number of the refusal.
+// Judges the scheme that one text spells for the patterns that another spells: 0 where it is
+// accepted, else the number of the refusal.
 #[no_mangle]
 pub extern "C" fn judge(patterns: &[u8], scheme: &[u8]) -> u32
     ensures { λ r. ⌜ Called (now (patterns .entry)) (now (scheme .entry)) r ⌝ }

@@ -1,4 +1,5 @@
--- `word::containment::contains` meets its contract: each test that led to a return decides one test of the definition.
+-- `word::containment::contains` meets its contract: each test that led to a return decides one test
+-- of the definition.
 -- Assumes nothing.
 use Prim.Native.Nat.{ℕ}
 use mathlib.Core.Path.{_≡_, sym, ap, _∙_}
