@@ -10,9 +10,11 @@ use borrow.Author.Tests.{lt-ltb, le-ltb}
 use Rattle.word.specs.Word.{avoiders}
 use Rattle.word.specs.ListLaws.{true-not-false}
 use Rattle.word.specs.Finding.{Finding, clean, fault, test, firstFault}
+use Rattle.word.specs.Told.{toldBy}
 use Rattle.word.specs.declared.refusal.Refusal.the-variants.{Oversize, ShortTable}
 use Rattle.scheme.specs.SchemeList.{EntryList}
-use Rattle.scheme.specs.SchemeMemory.{faultOf, orElse, faulty}
+use Rattle.scheme.specs.SchemeMemory.{faultOf, orElse, faulty, toldOr}
+use Rattle.scheme.specs.ToldLaws.{told-found}
 use Rattle.scheme.specs.declared.memory.Fault.{Fault}
 use Rattle.scheme.specs.declared.memory.Fault.the-variants.{Clean, At}
 use Rattle.wellformed.proofs.OrderLaws.{or-else-fault, or-else-clean, not-faulty, faults-append}
@@ -23,7 +25,7 @@ use Rattle.verdict.specs.declared.answer.Verdict.{Verdict}
 use Rattle.plan.specs.Layout.{needOf}
 use Rattle.value.specs.Value.{countOf}
 use Rattle.value.specs.ValueLaws.{count-avoiders}
-use Rattle.counting.specs.Counting.{tableTests, countTests, lengthTests, plainTests, faultIn, countedOr, tableAfter, Counts, PlainCounts}
+use Rattle.counting.specs.Counting.{tableTests, countTests, lengthTests, plainTests, faultIn, countedOr, toldCounted, tableAfter, Counts, PlainCounts}
 use Rattle.counting.specs.declared.answer.Counted.{Counted}
 use Rattle.counting.specs.declared.answer.Counted.the-variants.{Count}
 
@@ -82,6 +84,14 @@ pub refused-table : (f : Fault) (m : ℕ) (t : List ℕ) → faulty f ≡ true �
 refused-table Clean m t h = absurd (true-not-false (sym h))
 refused-table (At r i) m t h = refl
 
+-- an answer by what the tests find, in the numbers of document 01
+told-counted : (x : Finding) (n : ℕ) (r : Counted) → r ≡ countedOr (faultOf x) n → toldCounted r ≡ toldBy x (n ∷ [])
+told-counted x n r e = ap toldCounted e ∙ by-fault (faultOf x) ∙ told-found x (n ∷ [])
+  where
+    by-fault : (f : Fault) → toldCounted (countedOr f n) ≡ toldOr f (n ∷ [])
+    by-fault Clean = refl
+    by-fault (At r i) = refl
+
 module _ (P : List (List ℕ)) (E : List EntryList) where
   -- an accepted scheme has no fault in the tests of judging
   accepted-judged : accepted (verdictOf P E) ≡ true → faultOf (firstFault (judgeTests P E)) ≡ Clean
@@ -97,6 +107,7 @@ module _ (P : List (List ℕ)) (E : List EntryList) where
   counts-so n before after r e t =
       record {
         answer = e;
+        numbers = told-counted (firstFault (countTests P E n (length before))) (countOf P E n) r e;
         table = t;
         counts = λ a h k.
             e ∙
@@ -109,6 +120,7 @@ module _ (P : List (List ℕ)) (E : List EntryList) where
   plain-so n r e =
       record {
         answer = e;
+        numbers = told-counted (firstFault (plainTests P E n)) (countOf P E n) r e;
         counts = λ a h.
             e ∙
             ap (λ (f : Fault). countedOr f (countOf P E n))

@@ -21,7 +21,8 @@ use Rattle.value.specs.Value.{countOf}
 use Rattle.counting.specs.declared.answer.Counted.{Counted}
 use Rattle.counting.specs.declared.answer.Counted.the-variants.{Count, Refused as RefusedCount}
 
--- "the scheme before n, n before table" (01); a count is for n up to 20, and a table is short with fewer cells than needed
+-- "the scheme before n, n before table" (01); a count is for n up to 20, and a table is short with
+-- fewer cells than needed
 abbrev pub tableTests : List EntryList → ℕ → ℕ → List Finding
 tableTests E n cells = test Oversize (ltb 20 n) ∷ test ShortTable (ltb cells (needOf n E)) ∷ []
 
@@ -50,20 +51,25 @@ abbrev pub toldCounted : Counted → Told
 toldCounted (Count v) = toldBy clean (v ∷ [])
 toldCounted (RefusedCount r i) = toldBy (fault r i) []
 
--- "uses that many cells from the front .. After a count those cells hold 0, the rest being untouched"; "Lent memory keeps its content" (01)
+-- "uses that many cells from the front .. After a count those cells hold 0, the rest being
+-- untouched"; "Lent memory keeps its content" (01)
 abbrev pub tableAfter : Fault → ℕ → List ℕ → List ℕ
 tableAfter Clean need t = replicate need 0 ++ drop need t
 tableAfter (At r i) need t = t
 
--- the answer r to the patterns P, the scheme E, the length n and a table that holds `before`, and then `after`
+-- the answer r to the patterns P, the scheme E, the length n and a table that holds `before`, and
+-- then `after`
 pub record Counts (P : List (List ℕ)) (E : List EntryList) (n : ℕ) (before after : List ℕ) (r : Counted) : Type 0 where
   pub answer : r ≡ countedOr (faultOf (firstFault (countTests P E n (length before)))) (countOf P E n)
+  -- the number and the value of document 01
+  pub numbers : toldCounted r ≡ toldBy (firstFault (countTests P E n (length before))) (countOf P E n ∷ [])
   pub table : after ≡ tableAfter (faultOf (firstFault (countTests P E n (length before)))) (needOf n E) before
-  -- "If accepted, then for every n from 0 to 20 and every table long enough, whatever it held, the count .. is exactly the number of permutations of
-  -- 1 to n that contain none of the patterns"
+  -- "If accepted, then for every n from 0 to 20 and every table long enough, whatever it held, the
+  -- count .. is exactly the number of permutations of 1 to n that contain none of the patterns"
   pub counts : accepted (verdictOf P E) ≡ true → n ≤ 20 → needOf n E ≤ length before → r ≡ Count (length (avoiders P n))
 
 -- the answer of the plain evaluation
 pub record PlainCounts (P : List (List ℕ)) (E : List EntryList) (n : ℕ) (r : Counted) : Type 0 where
   pub answer : r ≡ countedOr (faultOf (firstFault (plainTests P E n))) (countOf P E n)
+  pub numbers : toldCounted r ≡ toldBy (firstFault (plainTests P E n)) (countOf P E n ∷ [])
   pub counts : accepted (verdictOf P E) ≡ true → n ≤ 9 → r ≡ Count (length (avoiders P n))

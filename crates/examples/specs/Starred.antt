@@ -1,5 +1,6 @@
 -- The starred examples of document 01: one table, and one theorem for all of it.
 use Prim.Native.Nat.{ℕ, suc}
+use Prim.Native.String.{String}
 use mathlib.Core.Path.{_≡_, refl}
 use mathlib.Core.Bool.{Bool, true}
 use mathlib.Core.List.{List, [], _∷_, map}
@@ -7,22 +8,28 @@ use lib.ListN.{length}
 use lib.Dec.{eqb}
 use Rattle.word.specs.Lists.{all, keep, each, row}
 use Rattle.word.specs.Word.{contains, reduce, isPerm}
+use Rattle.word.specs.Told.{Told}
 use Rattle.word.specs.Containment.{containment}
 use Rattle.word.specs.declared.containment.Contained.{Contained}
 use Rattle.word.specs.declared.containment.Contained.the-variants.{Yes, No}
 use Rattle.word.specs.declared.refusal.Refusal.the-variants.{Rootless, LiveGap, Irreversible}
 use Rattle.cell.specs.Cell.{spacing, cell, deleted, merged, vectors, free, same, total, children, compared}
 use Rattle.scheme.specs.SchemeList.{Does, expands, deletes, EntryList}
+use Rattle.scheme.specs.SchemeMemory.{patternsIn, schemeIn}
 use Rattle.scheme.specs.declared.memory.Fault.{Fault}
 use Rattle.scheme.specs.declared.memory.Fault.the-variants.{At}
 use Rattle.grammar.specs.Tokens.{tokens, tokensAfter, tokenAt}
-use Rattle.grammar.specs.Grammar.{itemsOf, readEntries}
+use Rattle.grammar.specs.Grammar.{itemsOf, readPatterns, readEntries}
+use Rattle.pattern_text.specs.PatternMemory.{loadedPatterns}
 use Rattle.scheme_text.specs.SchemeLoaded.{loadedScheme}
+use Rattle.notation.specs.PatternAnswers.{patternsAnswer}
 use Rattle.notation.specs.SchemeAnswers.{schemeAnswer}
-use Rattle.verdict.specs.Verdict.{verdictOf, comparedCells, liveGap, differs, sizesDiffer, comparedWith}
+use Rattle.verdict.specs.Verdict.{verdictOf, toldVerdict, comparedCells, liveGap, differs, sizesDiffer, comparedWith}
 use Rattle.verdict.specs.declared.answer.Verdict.{Verdict}
-use Rattle.value.specs.Value.{countOf}
 use Rattle.verdict.specs.declared.answer.Verdict.the-variants.{Accepted, Refused}
+use Rattle.judge.specs.TextJudgement.{verdictOfTexts}
+use Rattle.value.specs.Value.{countOf}
+use Rattle.examples.specs.Utf8.{bytes}
 
 -- what an example asks
 pub data Question : Type 0 where
@@ -42,6 +49,9 @@ pub data Question : Type 0 where
   judging : (patterns : List (List ℕ)) (scheme : List EntryList) → Question
   -- what is the count for n?
   counting : (patterns : List (List ℕ)) (scheme : List EntryList) (n : ℕ) → Question
+  -- the same two on the texts of the set and of the scheme
+  judgingTexts : (patterns scheme : String) → Question
+  countingTexts : (patterns scheme : String) (n : ℕ) → Question
 
 -- what it answers
 pub data Answer : Type 0 where
@@ -52,6 +62,8 @@ pub data Answer : Type 0 where
   refusedAs : Fault → Answer
   verdictIs : Verdict → Answer
   countIs : ℕ → Answer
+  -- the number of a refusal, 0 for none, and its index or the value
+  tells : (number : ℕ) (values : List ℕ) → Answer
 
 -- a row of the table: a question, and the answer of document 01
 pub record Example : Type 0 where
@@ -63,8 +75,12 @@ unfoldable pub shorterSize : List (List ℕ) → List ℕ → List ℕ → List 
 unfolding cell deleted merged
 shorterSize P p R g = length (cell P (deleted R p) (merged R p g))
 
+-- an answer in the numbers of document 01
+abbrev toldAs : Told → Answer
+toldAs t = tells (t .number) (t .values)
+
 unfoldable pub answer : Question → Answer
-unfolding countOf contains isPerm reduce spacing shorterSize vectors free total children deleted merged cell compared comparedCells liveGap differs sizesDiffer comparedWith tokens tokensAfter tokenAt readEntries itemsOf same loadedScheme
+unfolding countOf contains isPerm reduce spacing shorterSize vectors free total children deleted merged cell compared comparedCells liveGap differs sizesDiffer comparedWith tokens tokensAfter tokenAt readPatterns readEntries itemsOf same loadedPatterns loadedScheme bytes
 answer (containsPattern w β) = contained (containment β w)
 answer (firstEntries n u) = prefixAndSpacing (reduce u) (spacing n u)
 answer (deletion R p g) = prefixAndSpacing (deleted R p) (merged R p g)
@@ -74,6 +90,8 @@ answer (agreeTo P p B R t) =
 answer (reading s) = refusedAs ((schemeAnswer s) .fault)
 answer (judging P E) = verdictIs (verdictOf P E)
 answer (counting P E n) = countIs (countOf P E n)
+answer (judgingTexts s t) = toldAs (toldVerdict (verdictOfTexts (bytes s) (bytes t)))
+answer (countingTexts s t n) = countIs (countOf (patternsIn ((patternsAnswer (bytes s)) .patterns)) (schemeIn ((schemeAnswer (bytes t)) .scheme)) n)
 
 -- an entry of a scheme
 abbrev entry : List ℕ → List (List ℕ) → Does → EntryList
@@ -112,19 +130,30 @@ starred =
     record { asked = sizes ((1 ∷ 2 ∷ 3 ∷ []) ∷ []) (1 ∷ 2 ∷ []) (1 ∷ []) (0 ∷ 2 ∷ 0 ∷ []); told = sizesAre 1 2 } ∷
     -- {123}, `{(ε,∅,∅),(1,∅,∅),(12,{⟨0,0,1⟩},{2}),(21,∅,{1})}`: accepted, 16 compared cells
     record { asked = judging set123 (scheme123 2); told = verdictIs (Accepted 16) } ∷
+    record { asked = judgingTexts "{123}" "{(ε,∅,∅),(1,∅,∅),(12,{⟨0,0,1⟩},{2}),(21,∅,{1})}"; told = tells 0 (16 ∷ []) } ∷
     -- the same with 12 deleting 1: refused 11, index 2
     record { asked = judging set123 (scheme123 1); told = verdictIs (Refused Irreversible 2) } ∷
+    record { asked = judgingTexts "{123}" "{(ε,∅,∅),(1,∅,∅),(12,{⟨0,0,1⟩},{1}),(21,∅,{1})}"; told = tells 11 (2 ∷ []) } ∷
     -- ∅ with `{(ε,∅,∅),(1,∅,{1})}`: 0 compared cells
     record { asked = judging [] (scheme1 [] []); told = verdictIs (Accepted 0) } ∷
+    record { asked = judgingTexts "∅" "{(ε,∅,∅),(1,∅,{1})}"; told = tells 0 (0 ∷ []) } ∷
     -- n = 4 gives 24
     record { asked = counting [] (scheme1 [] []) 4; told = countIs 24 } ∷
-    -- {1} with `{(ε,∅,∅),(1,{⟨0,0⟩},{1})}`: n = 0 gives 1, n = 1 gives 0
+    record { asked = countingTexts "∅" "{(ε,∅,∅),(1,∅,{1})}" 4; told = countIs 24 } ∷
+    -- {1} with `{(ε,∅,∅),(1,{⟨0,0⟩},{1})}`: accepted, with no compared cell
+    record { asked = judging ((1 ∷ []) ∷ []) (scheme1 [] ((0 ∷ 0 ∷ []) ∷ [])); told = verdictIs (Accepted 0) } ∷
+    record { asked = judgingTexts "{1}" "{(ε,∅,∅),(1,{⟨0,0⟩},{1})}"; told = tells 0 (0 ∷ []) } ∷
+    -- n = 0 gives 1, n = 1 gives 0
     record { asked = counting ((1 ∷ []) ∷ []) (scheme1 [] ((0 ∷ 0 ∷ []) ∷ [])) 0; told = countIs 1 } ∷
     record { asked = counting ((1 ∷ []) ∷ []) (scheme1 [] ((0 ∷ 0 ∷ []) ∷ [])) 1; told = countIs 0 } ∷
+    record { asked = countingTexts "{1}" "{(ε,∅,∅),(1,{⟨0,0⟩},{1})}" 0; told = countIs 1 } ∷
+    record { asked = countingTexts "{1}" "{(ε,∅,∅),(1,{⟨0,0⟩},{1})}" 1; told = countIs 0 } ∷
     -- {1} with ⟨0⟩ on ε and entry 1 as before: 10, index 0
     record { asked = judging ((1 ∷ []) ∷ []) (scheme1 ((0 ∷ []) ∷ []) ((0 ∷ 0 ∷ []) ∷ [])); told = verdictIs (Refused LiveGap 0) } ∷
+    record { asked = judgingTexts "{1}" "{(ε,{⟨0⟩},∅),(1,{⟨0,0⟩},{1})}"; told = tells 10 (0 ∷ []) } ∷
     -- the scheme ∅: 5
     record { asked = reading (0xE2 ∷ 0x88 ∷ 0x85 ∷ []); told = refusedAs (At Rootless 0) } ∷
+    record { asked = judgingTexts "{1}" "∅"; told = tells 5 (0 ∷ []) } ∷
     []
 
 -- every row of the table holds

@@ -19,12 +19,13 @@ use Rattle.cell.specs.BasisLaws.{basis-in, basis-cell, basis-deletion}
 use Rattle.cell.specs.BinomialLaws.{keep-shorter}
 use Rattle.scheme.specs.SchemeList.{Does, expands, deletes, EntryList}
 use Rattle.scheme.specs.WellFormed.{firstAt, outside, patternTests, schemeTests}
-use Rattle.scheme.specs.SchemeMemory.{noEntry, entryIn, schemeIn, faultOf, orElse, faulty}
+use Rattle.scheme.specs.SchemeMemory.{noEntry, entryIn, schemeIn, faultOf, orElse, faulty, toldOr}
+use Rattle.scheme.specs.ToldLaws.{told-found}
 use Rattle.scheme.specs.declared.memory.Scheme.{Scheme}
 use Rattle.scheme.specs.declared.memory.Fault.{Fault}
 use Rattle.scheme.specs.declared.memory.Fault.the-variants.{Clean, At}
 use Rattle.wellformed.proofs.OrderLaws.{faults-append}
-use Rattle.verdict.specs.Verdict.{isEmpty, liveGap, differs, claimTests, comparedCells, judgeTests, answered, verdictOf, accepted}
+use Rattle.verdict.specs.Verdict.{isEmpty, liveGap, differs, claimTests, comparedCells, judgeTests, answered, verdictOf, toldVerdict, accepted}
 use Rattle.verdict.specs.Truth.{WellFormed, RuleClaim, AllTrue}
 use Rattle.verdict.specs.FindingLaws.{same-failure}
 use Rattle.verdict.specs.ProperLaws.{ProperEntry}
@@ -100,11 +101,19 @@ pub refused-answer : (f : Fault) (m n : ℕ) → faulty f ≡ true → answered 
 refused-answer Clean m n e = let z : _≡_ {A = ℕ} 0 1 = cc in absurd (omega arith)
 refused-answer (At r i) m n e = refl
 
+-- an answer by its fault, in the numbers of document 01
+pub told-answered : (f : Fault) (n : ℕ) → toldVerdict (answered f n) ≡ toldOr f (n ∷ [])
+told-answered Clean n = refl
+told-answered (At r i) n = refl
+
 -- what an equation with the verdict promises
 pub judges : (P : List (List ℕ)) (E : List EntryList) (r : Verdict) → r ≡ verdictOf P E → Judges P E r
 judges P E r e =
     record {
       verdict = e;
+      numbers =
+          ap toldVerdict e ∙ told-answered (faultOf (firstFault (judgeTests P E))) (comparedCells P E) ∙
+          told-found (firstFault (judgeTests P E)) (comparedCells P E ∷ []);
       exactly = rw e (accepted-exactly P E);
       cells = λ n q. read (faultOf (firstFault (judgeTests P E))) (comparedCells P E) n (sym e ∙ q);
     }

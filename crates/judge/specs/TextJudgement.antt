@@ -2,34 +2,42 @@
 use Prim.Native.Nat.{ℕ, _≤_}
 use mathlib.Core.Path.{_≡_}
 use mathlib.Core.Bool.{true}
-use mathlib.Core.List.{List}
+use mathlib.Core.List.{List, [], _∷_}
 use mathlib.Core.Logic.{_↔_}
 use lib.ListN.{length}
 use Rattle.word.specs.Finding.{firstFault}
 use Rattle.scheme.specs.SchemeList.{EntryList}
-use Rattle.scheme.specs.SchemeMemory.{patternsIn, schemeIn, faultOf, orElse}
+use Rattle.scheme.specs.SchemeMemory.{patternsIn, schemeIn, faultOf, orElse, toldOr}
+use Rattle.scheme.specs.declared.memory.Fault.{Fault}
 use Rattle.grammar.specs.Spelling.{SpellsPatterns, SpellsScheme}
 use Rattle.notation.specs.PatternAnswers.{patternsAnswer}
 use Rattle.notation.specs.SchemeAnswers.{schemeAnswer}
 use Rattle.notation.specs.declared.patterns.PatternsRead.{PatternsRead}
 use Rattle.notation.specs.declared.schemes.SchemeRead.{SchemeRead}
-use Rattle.verdict.specs.Verdict.{claimTests, comparedCells, answered, verdictOf, accepted}
+use Rattle.verdict.specs.Verdict.{claimTests, comparedCells, answered, verdictOf, toldVerdict, accepted}
 use Rattle.verdict.specs.Truth.{WellFormed, AllTrue}
 use Rattle.verdict.specs.declared.answer.Verdict.{Verdict}
 use Rattle.judge.specs.declared.texts.TextsJudged.{TextsJudged}
 
--- the verdict on what was read: the faults of reading, of the set before the scheme, and then those of the claims
-abbrev pub verdictRead : PatternsRead → SchemeRead → Verdict
-verdictRead p q =
-    answered (orElse (p .fault) (orElse (q .fault) (faultOf (firstFault (claimTests (patternsIn (p .patterns)) (schemeIn (q .scheme)))))))
-    (comparedCells (patternsIn (p .patterns)) (schemeIn (q .scheme)))
+-- what is found in what was read: the faults of reading, of the set before the scheme, and then
+-- those of the claims
+abbrev pub faultRead : PatternsRead → SchemeRead → Fault
+faultRead p q = orElse (p .fault) (orElse (q .fault) (faultOf (firstFault (claimTests (patternsIn (p .patterns)) (schemeIn (q .scheme))))))
 
--- "Text length comes before spelling, then the numbers in order, each over the whole input. Here the input is one text or one list: patterns are
--- judged before the scheme" (01)
+abbrev pub cellsRead : PatternsRead → SchemeRead → ℕ
+cellsRead p q = comparedCells (patternsIn (p .patterns)) (schemeIn (q .scheme))
+
+-- the verdict on what was read
+abbrev pub verdictRead : PatternsRead → SchemeRead → Verdict
+verdictRead p q = answered (faultRead p q) (cellsRead p q)
+
+-- "Text length comes before spelling, then the numbers in order, each over the whole input. Here
+-- the input is one text or one list: patterns are judged before the scheme" (01)
 abbrev pub verdictOfTexts : List ℕ → List ℕ → Verdict
 verdictOfTexts s t = verdictRead (patternsAnswer s) (schemeAnswer t)
 
--- the texts are within their ceilings, they spell a set and a scheme, this is well-formed, and its claims are true at every length
+-- the texts are within their ceilings, they spell a set and a scheme, this is well-formed, and its
+-- claims are true at every length
 pub record TextsTrue (s t : List ℕ) : Type 0 where
   pub patterns : List (List ℕ)
   pub scheme : List EntryList
@@ -43,11 +51,14 @@ pub record TextsTrue (s t : List ℕ) : Type 0 where
 -- the answer r to the texts s and t
 pub record JudgesTexts (s t : List ℕ) (r : Verdict) : Type 0 where
   pub verdict : r ≡ verdictOfTexts s t
+  -- the number and the value of document 01
+  pub numbers : toldVerdict r ≡ toldOr (faultRead (patternsAnswer s) (schemeAnswer t)) (cellsRead (patternsAnswer s) (schemeAnswer t) ∷ [])
   -- where the texts spell lists, it is the verdict on these
   pub spelt : (P : List (List ℕ)) (E : List EntryList) → length s ≤ 1024 → length t ≤ 32768 → SpellsPatterns s P → SpellsScheme t E → r ≡ verdictOf P E
   pub exactly : (accepted r ≡ true) ↔ TextsTrue s t
 
--- the answer with the lists that were read: those of the definition; where it accepts, the texts spell them, they are well-formed, and the claims are true
+-- the answer with the lists that were read: those of the definition; where it accepts, the texts
+-- spell them, they are well-formed, and the claims are true
 pub record JudgesAndReads (s t : List ℕ) (r : TextsJudged) : Type 0 where
   pub judges : JudgesTexts s t (r .verdict)
   pub patterns : r .patterns ≡ (patternsAnswer s) .patterns

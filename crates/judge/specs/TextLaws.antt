@@ -1,9 +1,10 @@
--- Laws of judging texts: what reading found decides, and the verdict on spelt lists is that on the lists.
+-- Laws of judging texts: what reading found decides, and the verdict on spelt lists is that on the
+-- lists.
 use Prim.Native.Nat.{ℕ, _≤_, _<_}
 use native.Mathlib.Omega.{arith}
 use mathlib.Core.Path.{_≡_, refl, sym, ap, ap₂, _∙_}
 use mathlib.Core.Bool.{Bool, true, false, cond}
-use mathlib.Core.List.{List, []}
+use mathlib.Core.List.{List, [], _∷_}
 use mathlib.Core.Logic.{_↔_}
 use lib.ListN.{length}
 use lib.Dec.{ltb}
@@ -13,7 +14,7 @@ use Rattle.word.specs.Finding.{clean, firstFault}
 use Rattle.word.specs.declared.refusal.Refusal.the-variants.{Oversize}
 use Rattle.scheme.specs.SchemeList.{EntryList}
 use Rattle.scheme.specs.WellFormed.{patternTests, schemeTests}
-use Rattle.scheme.specs.SchemeMemory.{patternsIn, schemeIn, faultOf, orElse, faulty}
+use Rattle.scheme.specs.SchemeMemory.{patternsIn, schemeIn, faultOf, orElse, faulty, toldOr}
 use Rattle.scheme.specs.declared.memory.Patterns.{Patterns}
 use Rattle.scheme.specs.declared.memory.Scheme.{Scheme}
 use Rattle.scheme.specs.declared.memory.Fault.{Fault}
@@ -28,18 +29,23 @@ use Rattle.notation.specs.PatternAnswers.{readOr, refusedPatterns, testedPatter
 use Rattle.notation.specs.SchemeAnswers.{readSchemeOr, refusedScheme, testedScheme, schemeAnswer, ReadsScheme}
 use Rattle.notation.specs.declared.patterns.PatternsRead.{PatternsRead}
 use Rattle.notation.specs.declared.schemes.SchemeRead.{SchemeRead}
-use Rattle.verdict.specs.Verdict.{claimTests, comparedCells, judgeTests, answered, verdictOf, accepted}
+use Rattle.verdict.specs.Verdict.{claimTests, comparedCells, judgeTests, answered, verdictOf, toldVerdict, accepted}
 use Rattle.verdict.specs.Truth.{WellFormed, AllTrue}
 use Rattle.verdict.specs.VerdictLaws.{accepted-exactly}
 use Rattle.verdict.specs.declared.answer.Verdict.{Verdict}
-use Rattle.judge.specs.JudgementLaws.{refused-answer, or-else-assoc, verdict-parts}
-use Rattle.judge.specs.TextJudgement.{verdictRead, verdictOfTexts, TextsTrue, JudgesTexts, JudgesAndReads}
+use Rattle.judge.specs.JudgementLaws.{refused-answer, told-answered, or-else-assoc, verdict-parts}
+use Rattle.judge.specs.TextJudgement.{faultRead, cellsRead, verdictRead, verdictOfTexts, TextsTrue, JudgesTexts, JudgesAndReads}
 use Rattle.judge.specs.declared.texts.TextsJudged.{TextsJudged}
 
 -- a refusal accepts nothing
 refused-not : (f : Fault) (n : ℕ) → faulty f ≡ true → accepted (answered f n) ≡ true → ⊥
 refused-not Clean n h a = true-not-false (sym h)
 refused-not (At r i) n h a = true-not-false (sym a)
+
+-- the verdict on two texts, in the numbers of document 01
+told-texts : (s t : List ℕ) (r : Verdict) → r ≡ verdictOfTexts s t →
+    toldVerdict r ≡ toldOr (faultRead (patternsAnswer s) (schemeAnswer t)) (cellsRead (patternsAnswer s) (schemeAnswer t) ∷ [])
+told-texts s t r e = ap toldVerdict e ∙ told-answered (faultRead (patternsAnswer s) (schemeAnswer t)) (cellsRead (patternsAnswer s) (schemeAnswer t))
 
 -- a clean answer comes from a text within its ceiling
 pub patterns-short : (s : List ℕ) → (patternsAnswer s) .fault ≡ Clean → length s ≤ 1024
@@ -129,11 +135,15 @@ module _ (s t : List ℕ) (p : PatternsRead) (is : p ≡ patternsAnswer s) (read
       refused-so : (g : Fault) (n : ℕ) → r ≡ answered (orElse (orElse (p .fault) (q .fault)) g) n
       refused-so g n = e ∙ refusal fault g n h ∙ ap (λ (x : Fault). answered (orElse x g) n) found
 
+      refused-verdict : r ≡ verdictOfTexts s t
+      refused-verdict = refused-so (faultOf (firstFault (claimTests P E))) (comparedCells P E) ∙ verdict-read
+
       pub refused-texts : JudgesAndReads s t (judged r)
       refused-texts =
           record {
             judges = record {
-              verdict = refused-so (faultOf (firstFault (claimTests P E))) (comparedCells P E) ∙ verdict-read;
+              verdict = refused-verdict;
+              numbers = told-texts s t r refused-verdict;
               spelt = λ Q F a b u v. refused-so (faultOf (firstFault (claimTests Q F))) (comparedCells Q F) ∙ verdict-lists Q F a b u v;
               exactly = (
                 λ a. absurd (not-accepted a),
@@ -200,11 +210,15 @@ module _ (s t : List ℕ) (p : PatternsRead) (is : p ≡ patternsAnswer s) (read
             ap accepted (on-lists (w .patterns) (w .scheme) (w .short) (w .short-scheme) (w .spells) (w .spells-scheme)) ∙
             accepted-exactly (w .patterns) (w .scheme) .1 (w .formed, w .claims)
 
+        judged-verdict : r ≡ verdictOfTexts s t
+        judged-verdict = e ∙ nothing-before (faultOf (firstFault (claimTests P E))) (comparedCells P E) ∙ verdict-read
+
         pub judged-texts : JudgesAndReads s t (judged r)
         judged-texts =
             record {
               judges = record {
-                verdict = e ∙ nothing-before (faultOf (firstFault (claimTests P E))) (comparedCells P E) ∙ verdict-read;
+                verdict = judged-verdict;
+                numbers = told-texts s t r judged-verdict;
                 spelt = on-lists;
                 exactly = (true-texts, accept);
               };

@@ -9,13 +9,14 @@ use lib.Dec.{eqb}
 use borrow.Author.Tests.{eqb-true, eq-eqb}
 use Rattle.word.specs.ListLaws.{true-not-false}
 use Rattle.word.specs.Refusal.{numberOf}
+use Rattle.word.specs.Told.{Told}
 use Rattle.word.specs.declared.refusal.Refusal.{Refusal}
 use Rattle.word.specs.declared.refusal.Refusal.the-variants.{Misspelt, Oversize, NoPermutation, Repeated, Rootless, Width, NoPosition, Childless, NoTarget, LiveGap, Irreversible, ShortTable, ShortPage}
-use Rattle.verdict.specs.Verdict.{accepted}
+use Rattle.verdict.specs.Verdict.{toldVerdict, accepted}
 use Rattle.verdict.specs.declared.answer.Verdict.{Verdict}
 use Rattle.verdict.specs.declared.answer.Verdict.the-variants.{Accepted, Refused}
 use Rattle.judge.specs.TextJudgement.{verdictOfTexts, TextsTrue, JudgesTexts}
-use Rattle.kernel.specs.Call.{numberIn, Called}
+use Rattle.kernel.specs.Call.{Called}
 
 -- no refusal has the number 0
 not-zero : (r : Refusal) → eqb (numberOf r) 0 ≡ false
@@ -33,7 +34,7 @@ not-zero Irreversible = refl
 not-zero ShortTable = refl
 not-zero ShortPage = refl
 
-zero-accepted : (v : Verdict) → (numberIn v ≡ 0) ↔ (accepted v ≡ true)
+zero-accepted : (v : Verdict) → ((toldVerdict v) .number ≡ 0) ↔ (accepted v ≡ true)
 zero-accepted (Accepted n) = (λ e. refl, λ e. refl)
 zero-accepted (Refused r i) = (
   λ e. absurd (true-not-false (sym (eq-eqb (numberOf r) 0 e) ∙ not-zero r)),
@@ -41,10 +42,10 @@ zero-accepted (Refused r i) = (
 )
 
 -- the number of a verdict keeps its promise
-pub called : (s t : List ℕ) (v : Verdict) (r : ℕ) → JudgesTexts s t v → r ≡ numberIn v → Called s t r
+pub called : (s t : List ℕ) (v : Verdict) (r : ℕ) → JudgesTexts s t v → r ≡ (toldVerdict v) .number → Called s t r
 called s t v r j e =
     record {
-      number = e ∙ ap numberIn (j .verdict);
+      number = e ∙ ap (λ (w : Verdict). (toldVerdict w) .number) (j .verdict);
       exactly = (
         λ z. j .exactly .0 (zero-accepted v .0 (sym e ∙ z)),
         λ w. e ∙ zero-accepted v .1 (j .exactly .1 w),

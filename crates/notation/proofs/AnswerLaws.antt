@@ -4,22 +4,24 @@ use Prim.Native.Nat.{ℕ, _≤_, _<_}
 use native.Mathlib.Omega.{arith}
 use mathlib.Core.Path.{_≡_, refl, sym, ap, _∙_, subst}
 use mathlib.Core.Bool.{Bool, true, false, cond}
-use mathlib.Core.List.{List}
+use mathlib.Core.List.{List, []}
 use mathlib.Core.Option.{Option, none, some}
 use lib.ListN.{length}
 use lib.Dec.{ltb}
 use borrow.Author.Tests.{ltb-true, lt-ltb, le-ltb}
 use Rattle.word.specs.Finding.{Finding, clean, fault, firstFault}
+use Rattle.word.specs.Told.{toldBy}
 use Rattle.word.specs.declared.refusal.Refusal.{Refusal}
 use Rattle.word.specs.declared.refusal.Refusal.the-variants.{Misspelt, Oversize, ShortPage}
-use Rattle.scheme.specs.SchemeMemory.{faultOf, faulty}
+use Rattle.scheme.specs.SchemeMemory.{faultOf, faulty, toldOr}
+use Rattle.scheme.specs.ToldLaws.{told-found}
 use Rattle.scheme.specs.declared.memory.Fault.{Fault}
 use Rattle.scheme.specs.declared.memory.Fault.the-variants.{Clean, At}
 use Rattle.grammar.specs.Spelling.{Token, spaceless}
 use Rattle.grammar.specs.Tokens.{tokens}
 use Rattle.writer.specs.Page.{overlay}
 use Rattle.notation.specs.Written.{writtenOr, Writing}
-use Rattle.notation.specs.Answers.{answerFrom, answerTo, ReadsList, WritesList}
+use Rattle.notation.specs.Answers.{answerFrom, answerTo, foundFrom, foundIn, ReadsList, WritesList}
 use Rattle.notation.specs.declared.written.Written.{Written}
 use Rattle.notation.specs.declared.written.Written.the-variants.{Bytes, Refused}
 use Rattle.notation.proofs.FindingLaws.{notOne, not-clean, not-misspelt}
@@ -44,15 +46,20 @@ module _ {L R : Type 0} (most : ℕ) (Spells : List ℕ → L → Type 0) (tests
     (refuses : (r : Refusal) (i : ℕ) → faultIn (refused r i) ≡ At r i) (finds : (l : L) → faultIn (tested l) ≡ faultOf (firstFault (tests l)))
     (gives : (l : L) → firstFault (tests l) ≡ clean → listIn (tested l) ≡ l) (not-one : (l : L) → notOne (firstFault (tests l)) ≡ true) where
   abbrev Answers : R → Type 0
-  Answers r = ReadsList most Spells tests written faultIn listIn tested s r
+  Answers r = ReadsList most read Spells tests written faultIn listIn tested s r
 
   never : {A : Type 0} (r : Refusal) (i : ℕ) → faultIn (refused r i) ≡ Clean → A
   never r i e = absurd (not-clean r i (sym (refuses r i) ∙ e))
+
+  -- an answer whose fault is that of what reading finds
+  told-so : (r : R) (x : Finding) → faultIn r ≡ faultOf x → foundIn tests most read s ≡ x → toldOr (faultIn r) [] ≡ toldBy (foundIn tests most read s) []
+  told-so r x e f = ap (λ (y : Fault). toldOr y []) e ∙ told-found x [] ∙ ap (λ (y : Finding). toldBy y []) (sym f)
 
   long-reads : ltb most (length s) ≡ true → Answers (refused Oversize 0)
   long-reads h =
       let k = ltb-true most (length s) h in
       record {
+        numbers = told-so (refused Oversize 0) (fault Oversize 0) (refuses Oversize 0) (rw h refl);
         nothing = λ a b. absurd (omega (arith, k, a));
         misspelt = λ i e l w. not-misspelt (fault Oversize 0) i refl (sym (refuses Oversize 0) ∙ e);
         spelt = λ l a w. absurd (omega (arith, k, a));
@@ -61,9 +68,10 @@ module _ {L R : Type 0} (most : ℕ) (Spells : List ℕ → L → Type 0) (tests
         writes = λ e. never Oversize 0 e;
       }
 
-  none-reads : read (tokens s) ≡ none → Answers (refused Misspelt 0)
-  none-reads h =
+  none-reads : ltb most (length s) ≡ false → read (tokens s) ≡ none → Answers (refused Misspelt 0)
+  none-reads fits h =
       record {
+        numbers = told-so (refused Misspelt 0) (fault Misspelt 0) (refuses Misspelt 0) (rw (fits, h) refl);
         nothing = λ a b. refuses Misspelt 0;
         misspelt = λ i e l w. some-none l (sym (complete l w) ∙ h);
         spelt = λ l a w. absurd (some-none l (sym (complete l w) ∙ h));
@@ -72,7 +80,7 @@ module _ {L R : Type 0} (most : ℕ) (Spells : List ℕ → L → Type 0) (tests
         writes = λ e. never Misspelt 0 e;
       }
 
-  module _ (l : L) (h : read (tokens s) ≡ some l) where
+  module _ (fits : ltb most (length s) ≡ false) (l : L) (h : read (tokens s) ≡ some l) where
     whole : faultIn (tested l) ≡ Clean → listIn (tested l) ≡ l
     whole e = gives l (clean-of (firstFault (tests l)) (sym (finds l) ∙ e))
 
@@ -80,6 +88,7 @@ module _ {L R : Type 0} (most : ℕ) (Spells : List ℕ → L → Type 0) (tests
     some-reads =
         let w = sound l h in
         record {
+          numbers = told-so (tested l) (firstFault (tests l)) (finds l) (rw (fits, h) refl);
           nothing = λ a b. absurd (b l w);
           misspelt = λ i e k v. not-misspelt (firstFault (tests l)) i (not-one l) (sym (finds l) ∙ e);
           spelt = λ k a v. ap tested (unique l k w v);
@@ -93,8 +102,8 @@ module _ {L R : Type 0} (most : ℕ) (Spells : List ℕ → L → Type 0) (tests
     where
       go : (b : Bool) → ltb most (length s) ≡ b → (o : Option L) → read (tokens s) ≡ o → Answers (cond b (refused Oversize 0) (answerFrom refused tested o))
       go true h o k = long-reads h
-      go false h none k = none-reads k
-      go false h (some l) k = some-reads l k
+      go false h none k = none-reads h k
+      go false h (some l) k = some-reads h l k
 
 -- writing
 module _ {L R : Type 0} (Spells : List ℕ → L → Type 0) (tests : L → List Finding) (written : L → List ℕ) (answer : List ℕ → R) (whole : L → R) (kept : L → L)

@@ -11,6 +11,7 @@ use lib.Seq.{take-append-seam, drop-append-seam}
 use lib.Dec.{ltb}
 use borrow.Author.Tests.{lt-ltb, le-ltb}
 use Rattle.word.specs.Finding.{Finding, clean, fault, test, firstFault}
+use Rattle.word.specs.Told.{toldBy}
 use Rattle.word.specs.declared.refusal.Refusal.{Refusal}
 use Rattle.word.specs.declared.refusal.Refusal.the-variants.{ShortPage}
 use Rattle.scheme.specs.SchemeMemory.{faultOf, faulty}
@@ -18,7 +19,7 @@ use Rattle.scheme.specs.declared.memory.Fault.{Fault}
 use Rattle.scheme.specs.declared.memory.Fault.the-variants.{Clean, At}
 use Rattle.writer.specs.Page.{overlay}
 use Rattle.writer.specs.PageLaws.{overlay-whole}
-use Rattle.notation.specs.Written.{writtenOr, writing, Writing}
+use Rattle.notation.specs.Written.{writtenOr, toldWritten, writing, Writing}
 use Rattle.notation.specs.declared.written.Written.{Written}
 use Rattle.notation.specs.declared.written.Written.the-variants.{Bytes, Refused}
 use Rattle.scheme.specs.TestLaws.{single}
@@ -62,6 +63,7 @@ module _ (tests : List Finding) (xs before : List ℕ) where
   refused-by r i e =
       record {
         result = rw e refl;
+        numbers = rw e refl;
         page = rw e refl;
         passed = λ n h. absurd (not-bytes r i n h);
         text = λ n h. absurd (not-bytes r i n h);
@@ -93,6 +95,7 @@ module _ (tests : List Finding) (xs before : List ℕ) where
         let whole : after ≡ xs ++ drop (length xs) before = a ∙ overlay-whole 0 xs before (omega arith) ∙ rw (zero-add (length xs)) refl in
         record {
           result = rw (fits, e) refl;
+          numbers = rw (fits, e) refl;
           page = rw fits a;
           passed = λ m q. h;
           text = λ m q. rw (sym (ap bytesIn q), e, whole) (take-append-seam xs (drop (length xs) before));

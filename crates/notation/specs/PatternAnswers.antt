@@ -34,7 +34,7 @@ patternsAnswer s = answerTo refusedPatterns testedPatterns 1024 readPatterns s
 
 -- the answer r to the text s, in terms of what the text spells
 abbrev pub ReadsPatterns : List ℕ → PatternsRead → Type 0
-ReadsPatterns s r = ReadsList 1024 SpellsPatterns patternTests writtenPatterns (λ x. x .fault) (λ x. patternsIn (x .patterns)) testedPatterns s r
+ReadsPatterns s r = ReadsList 1024 readPatterns SpellsPatterns patternTests writtenPatterns (λ x. x .fault) (λ x. patternsIn (x .patterns)) testedPatterns s r
 
 -- the answer to writing the list P, in terms of what the page spells afterwards
 abbrev pub WritesPatterns : List (List ℕ) → List ℕ → List ℕ → Written → Type 0

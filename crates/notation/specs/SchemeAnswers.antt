@@ -35,7 +35,7 @@ schemeAnswer s = answerTo refusedScheme testedScheme 32768 readEntries s
 
 -- the answer r to the text s, in terms of what the text spells
 abbrev pub ReadsScheme : List ℕ → SchemeRead → Type 0
-ReadsScheme s r = ReadsList 32768 SpellsScheme schemeTests writtenScheme (λ x. x .fault) (λ x. schemeIn (x .scheme)) testedScheme s r
+ReadsScheme s r = ReadsList 32768 readEntries SpellsScheme schemeTests writtenScheme (λ x. x .fault) (λ x. schemeIn (x .scheme)) testedScheme s r
 
 -- the answer to writing the list E, in terms of what the page spells afterwards
 abbrev pub WritesScheme : List EntryList → List ℕ → List ℕ → Written → Type 0

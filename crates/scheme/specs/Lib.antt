@@ -7,3 +7,4 @@ pub mod Sized
 pub mod Links
 pub mod TestLaws
 pub mod MemoryLaws
+pub mod ToldLaws

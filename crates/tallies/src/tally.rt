@@ -1,10 +1,13 @@
-// The line of a pair of texts: the counts for the lengths 0 to 10, whether listing finds the same to the length 8, and whether the table was cleared.
+// The line of a pair of texts: the counts for the lengths 0 to 10, whether listing finds the same
+// to the length 8, whether it finds the counts of the plain evaluation to the length 7, and whether
+// the table was cleared.
 use crate::avoiders::avoiders;
 use crate::need::need;
 use crate::page::Left;
 use crate::page::run;
 use crate::print;
 use counting::answer::Counted;
+use counting::plainly::count_plainly;
 use listing::permutations::LONGEST;
 use notation::patterns::read_patterns;
 use notation::schemes::read_scheme;
@@ -16,10 +19,14 @@ use word::refusal::number;
 
 // the largest length that is counted
 const LENGTH: usize = 10;
+// the largest length that is evaluated plainly too
+const PLAIN: usize = 7;
 
-// What was found of all lengths so far: each count is the listed one, and each table is as it is to be.
+// What was found of all lengths so far: each count is the listed one, and so is each one of the
+// plain evaluation; each table is as it is to be.
 struct Found {
     listed: bool,
+    plain: bool,
     cleared: bool,
 }
 
@@ -42,6 +49,7 @@ pub fn line(set: &[u8], text: &[u8]) {
 fn counts(patterns: Patterns, scheme: Scheme) -> Found {
     let mut found = Found {
         listed: true,
+        plain: true,
         cleared: true,
     };
     let mut n: usize = 0;
@@ -53,7 +61,8 @@ fn counts(patterns: Patterns, scheme: Scheme) -> Found {
     found
 }
 
-// Prints the count for the length n, by a table of exactly the cells that are needed, and adds what is found of it.
+// Prints the count for the length n, by a table of exactly the cells that are needed, and adds what
+// is found of it.
 fn with_length(found: Found, patterns: Patterns, scheme: Scheme, n: usize) -> Found {
     let r = run(patterns, scheme, n, need(scheme, n));
     let answer = r.answer;
@@ -61,6 +70,7 @@ fn with_length(found: Found, patterns: Patterns, scheme: Scheme, n: usize) -> Fo
     print_answer(answer);
     Found {
         listed: both(found.listed, is_listed(answer, patterns, n)),
+        plain: both(found.plain, is_plain(patterns, scheme, n)),
         cleared: both(found.cleared, is_in_order(r)),
     }
 }
@@ -84,8 +94,8 @@ pub fn print_answer(answer: Counted) {
     }
 }
 
-// Whether a count is the number of permutations that the listing finds. Lengths above the listed ones are not compared, and a refusal, which the line
-// shows, is no count.
+// Whether a count is the number of permutations that the listing finds. Lengths above the listed
+// ones are not compared, and a refusal, which the line shows, is no count.
 fn is_listed(answer: Counted, patterns: Patterns, n: usize) -> bool {
     if LONGEST < n {
         return true;
@@ -93,6 +103,19 @@ fn is_listed(answer: Counted, patterns: Patterns, n: usize) -> bool {
     match answer {
         Counted::Count(c) => c == avoiders(patterns, n),
         Counted::Refused(_, _) => true,
+    }
+}
+
+// Whether the plain evaluation gives the number of permutations that the listing finds. A refusal
+// is no such number. Lengths above 7 are not evaluated.
+fn is_plain(patterns: Patterns, scheme: Scheme, n: usize) -> bool {
+    if PLAIN < n {
+        return true;
+    }
+    let answer = count_plainly(patterns, scheme, n);
+    match answer {
+        Counted::Count(c) => c == avoiders(patterns, n),
+        Counted::Refused(_, _) => false,
     }
 }
 
@@ -111,6 +134,11 @@ fn last_words(found: Found) {
         print::text(b" listed");
     } else {
         print::text(b" differs");
+    }
+    if found.plain {
+        print::text(b" plain");
+    } else {
+        print::text(b" plain-differs");
     }
     if found.cleared {
         print::text(b" cleared\n");

@@ -1,17 +1,31 @@
--- The answer of `contains` as its tests decide it, one after the other.
+-- The answer of `contains` as its tests decide it, one after the other, and what it promises.
 -- Assumes nothing.
 use Prim.Native.Nat.{ℕ, _≤_, _<_}
-use mathlib.Core.Path.{_≡_, refl}
-use mathlib.Core.Bool.{true, false, cond}
-use mathlib.Core.List.{List}
+use mathlib.Core.Path.{_≡_, refl, ap, _∙_}
+use mathlib.Core.Bool.{Bool, true, false, cond}
+use mathlib.Core.List.{List, [], _∷_}
 use lib.ListN.{length}
 use borrow.Author.Tests.{lt-ltb, le-ltb, eq-eqb, ne-eqb}
 use Rattle.word.specs.Word.{contains, isPerm}
-use Rattle.word.specs.Containment.{containment}
+use Rattle.word.specs.Finding.{Finding, clean, fault, firstFault}
+use Rattle.word.specs.Told.{toldBy}
+use Rattle.word.specs.Containment.{containmentTests, answerOf, containment, toldContained, Decides}
 use Rattle.word.specs.declared.refusal.Refusal.the-variants.{Oversize, NoPermutation}
+use Rattle.word.specs.declared.containment.Contained.{Contained}
 use Rattle.word.specs.declared.containment.Contained.the-variants.{Yes, No, Refused}
 
+-- an answer by a finding, in the numbers of document 01
+told-answer : (x : Finding) (b : Bool) → toldContained (answerOf x b) ≡ toldBy x (cond b 1 0 ∷ [])
+told-answer clean true = refl
+told-answer clean false = refl
+told-answer (fault r i) b = refl
+
 module _ (β w : List ℕ) where
+  -- the defined answer keeps the promise
+  pub decides : (r : Contained) → r ≡ containment β w → Decides β w r
+  decides r e =
+      record { answer = e; numbers = ap toldContained e ∙ told-answer (firstFault (containmentTests β w)) (contains β w) }
+
   pub long-pattern : 8 < length β → containment β w ≡ Refused Oversize 0
   long-pattern h = rw (lt-ltb 8 (length β) h) refl
 

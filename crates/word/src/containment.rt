@@ -9,19 +9,20 @@ ghost use mathlib.Core.Path.{_≡_};
 ghost use mathlib.Core.Bool.{not};
 ghost use lib.ListN.{length, take};
 ghost use Rattle.word.specs.Word.{avoids};
-ghost use Rattle.word.specs.Containment.{containment, patternsOf};
+ghost use Rattle.word.specs.Containment.{patternsOf, Decides};
 
-// The answer to whether a permutation contains a pattern: yes, no, or a refusal with the index at fault.
+// The answer to whether a permutation contains a pattern: yes, no, or a refusal with the index at
+// fault, which is 0.
 pub enum Contained {
     Yes,
     No,
     Refused(Refusal, usize),
 }
 
-// Whether the permutation contains the pattern. It is refused where one of the two passes its ceiling (2) or is no permutation (3), the
-// pattern tested first.
+// Whether the permutation contains the pattern. It is refused where one of the two passes its
+// ceiling (2) or is no permutation (3), the pattern tested first.
 pub fn contains(pattern: &[u8], permutation: &[u8]) -> Contained
-    ensures { λ r. ⌜ r ≡ containment (now (pattern .entry)) (now (permutation .entry)) ⌝ }
+    ensures { λ r. ⌜ Decides (now (pattern .entry)) (now (permutation .entry)) r ⌝ }
 {
     if DIGITS < pattern.len() {
         return Contained::Refused(Refusal::Oversize, 0);

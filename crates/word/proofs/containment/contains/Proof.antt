@@ -1,4 +1,5 @@
--- `word::containment::contains` meets its contract: each test that led to a return decides one test of the definition.
+-- `word::containment::contains` meets its contract: each test that led to a return decides one test
+-- of the definition.
 -- Assumes nothing.
 use Prim.Native.Nat.{ℕ}
 use mathlib.Core.Path.{_≡_, sym, ap, _∙_}
@@ -10,7 +11,7 @@ use lib.Seq.{take-all}
 use Rattle.word.specs.declared.containment.Contained.{Contained}
 use Rattle.word.specs.declared.containment.Contained.the-variants.{Yes, No}
 use borrow.Author.Tests.{not-true, not-false}
-use Rattle.word.proofs.Answer.{long-pattern, empty-pattern, no-pattern, long-word, no-word, answered}
+use Rattle.word.proofs.Answer.{decides, long-pattern, empty-pattern, no-pattern, long-word, no-word, answered}
 use Rattle.word.specs.Word.{contains, isPerm}
 use Rattle.word.specs.Containment.{containment}
 use Rattle.word.proofs.PatternSet.{found-contains}
@@ -21,12 +22,12 @@ use Rattle.word.proofs.containment.contains.Tie as tie
 returns : tie.Need-returns
 returns c =
     let a = c .before .before .before .args in
-    sym (long-pattern (a .pattern .now) (a .permutation .now) (c .if1 .taken))
+    decides (a .pattern .now) (a .permutation .now) _ (sym (long-pattern (a .pattern .now) (a .permutation .now) (c .if1 .taken)))
 
 returns-2 : tie.Need-returns-2
 returns-2 c =
     let a = c .before .before .before .before .args in
-    sym (empty-pattern (a .pattern .now) (a .permutation .now) (c .before .if1 .left) (c .if2 .taken))
+    decides (a .pattern .now) (a .permutation .now) _ (sym (empty-pattern (a .pattern .now) (a .permutation .now) (c .before .if1 .left) (c .if2 .taken)))
 
 is-permutation-requires : tie.Need-is-permutation-requires
 is-permutation-requires c κs = search needs
@@ -35,13 +36,13 @@ returns-3 : tie.Need-returns-3
 returns-3 c =
     let a = c .before .before .before .before .before .before .args in
     let p : isPerm (a .pattern .now) ≡ false = sym (c .before .is-permutation .ensures) ∙ not-true _ (c .if3 .taken) in
-    sym (no-pattern (a .pattern .now) (a .permutation .now) (c .before .before .before .if1 .left) (c .before .before .if2 .left) p)
+    decides (a .pattern .now) (a .permutation .now) _ (sym (no-pattern (a .pattern .now) (a .permutation .now) (c .before .before .before .if1 .left) (c .before .before .if2 .left) p))
 
 returns-4 : tie.Need-returns-4
 returns-4 c =
     let a = c .before .before .before .before .before .before .before .args in
     let p : isPerm (a .pattern .now) ≡ true = sym (c .before .before .is-permutation .ensures) ∙ not-false _ (c .before .if3 .left) in
-    sym (long-word (a .pattern .now) (a .permutation .now) (c .before .before .before .before .if1 .left) (c .before .before .before .if2 .left) p (c .if4 .taken))
+    decides (a .pattern .now) (a .permutation .now) _ (sym (long-word (a .pattern .now) (a .permutation .now) (c .before .before .before .before .if1 .left) (c .before .before .before .if2 .left) p (c .if4 .taken)))
 
 is-permutation-requires-2 : tie.Need-is-permutation-requires-2
 is-permutation-requires-2 c κs = search needs
@@ -51,7 +52,7 @@ returns-5 c =
     let a = c .before .before .before .before .before .before .before .before .before .args in
     let p : isPerm (a .pattern .now) ≡ true = sym (c .before .before .before .before .is-permutation .ensures) ∙ not-false _ (c .before .before .before .if3 .left) in
     let w : isPerm (a .permutation .now) ≡ false = sym (c .before .is-permutation2 .ensures) ∙ not-true _ (c .if5 .taken) in
-    sym (no-word (a .pattern .now) (a .permutation .now) (c .before .before .before .before .before .before .if1 .left) (c .before .before .before .before .before .if2 .left) p (c .before .before .if4 .left) w)
+    decides (a .pattern .now) (a .permutation .now) _ (sym (no-word (a .pattern .now) (a .permutation .now) (c .before .before .before .before .before .before .if1 .left) (c .before .before .before .before .before .if2 .left) p (c .before .before .if4 .left) w))
 
 digits-of-requires : tie.Need-digits-of-requires
 digits-of-requires c κs = search needs
@@ -74,10 +75,10 @@ searched c =
     ap {B = Contained} (λ (b : Bool). cond b Yes No) (sym (copy ∙ ap (λ (β : List ℕ). contains β (a .permutation .now)) same))
 
 returns-6 : tie.Need-returns-6
-returns-6 c = sym (searched (c .before) ∙ ap {B = Contained} (λ (b : Bool). cond b Yes No) (c .if6 .taken))
+returns-6 c = decides _ _ Yes (sym (searched (c .before) ∙ ap {B = Contained} (λ (b : Bool). cond b Yes No) (c .if6 .taken)))
 
 returns-7 : tie.Need-returns-7
-returns-7 c = sym (searched (c .before) ∙ ap {B = Contained} (λ (b : Bool). cond b Yes No) (c .if6 .left))
+returns-7 c = decides _ _ No (sym (searched (c .before) ∙ ap {B = Contained} (λ (b : Bool). cond b Yes No) (c .if6 .left)))
 
 pub contains-spec : {M : Type 1} → statement M
 contains-spec =
