@@ -3,16 +3,15 @@
 -- scheme it is at most the size of the cell, so at most 20!, and 20! is below 2 ^ 64: no sum meets its cap.
 use Prim.Native.Nat.{ℕ, zero, suc, _+_, _-_, _≤_, _<_}
 use native.Mathlib.Omega.{arith}
-use mathlib.Core.Path.{_≡_, refl, sym, ap, ap₂, _∙_}
+use mathlib.Core.Path.{_≡_, sym, ap, _∙_}
 use mathlib.Core.Bool.{true, cond}
-use mathlib.Core.List.{List, [], _∷_, _++_, map, map-append, List·Memᴰ}
+use mathlib.Core.List.{List, _++_, map, map-append, List·Memᴰ}
 use mathlib.Core.Option.{some}
 use lib.ListN.{length, getD}
 use lib.Dec.{eqb}
 use borrow.Author.Tests.{ne-eqb}
 use Rattle.word.specs.Lists.{row, oneTo}
 use Rattle.word.specs.Word.{avoids}
-use Rattle.word.specs.PermLaws.{factorial}
 use Rattle.cell.specs.Cell.{total, free}
 use Rattle.cell.specs.BuiltCells.{cell-at-most}
 use Rattle.cell.specs.Child.{childAt, slot, split}
@@ -22,7 +21,7 @@ use Rattle.scheme.specs.SchemeMemory.{schemeIn}
 use Rattle.scheme.specs.declared.memory.Scheme.{Scheme}
 use Rattle.verdict.specs.Truth.{WellFormed, AllTrue}
 use Rattle.value.specs.Value.{ruleValue, entryValue}
-use Rattle.value.specs.ValueLaws.{size, factorial-grows, entry-solves}
+use Rattle.value.specs.ValueLaws.{size, factorial-at-most, entry-solves}
 use Rattle.step.specs.Step.{capped, childrenOf}
 use Rattle.step.specs.StepLaws.{nextCell, child-sum, below-cap}
 use Rattle.plan.specs.Layout.{entryAt, prefixAt, lengthAt}
@@ -36,7 +35,8 @@ use Rattle.count.specs.RunLaws.{sizes-solved}
 -- a sum that is made for the cell at the prefix p and the spacing g
 pub record SumFits (P : List (List ℕ)) (p g : List ℕ) (sum : ℕ) : Type 0 where
   pub cell : sum ≤ size P p g
-  pub most : sum ≤ factorial 20
+  -- 20!
+  pub most : sum ≤ 2432902008176640000
   pub fits : sum < 18446744073709551616
   -- so the sum with the cap is the sum
   pub same : capped sum ≡ sum
@@ -58,12 +58,9 @@ run-at-most f q n t low high =
 
 -- what is at most the size of a cell with a total of at most 20
 sum-fits : (P : List (List ℕ)) (p g : List ℕ) (sum : ℕ) → total g ≤ 20 → sum ≤ size P p g → SumFits P p g sum
-unfolding size factorial
+unfolding size
 sum-fits P p g sum h k =
-    let e : total g + (20 - total g) ≡ 20 = omega arith in
-    let l : factorial (total g + (20 - total g)) ≡ factorial 20 = ap factorial e in
-    let t : factorial 20 ≡ 2432902008176640000 = refl in
-    let m : sum ≤ factorial 20 = omega (arith, cell-at-most P p g, factorial-grows (total g) (20 - total g)) in
+    let m : sum ≤ 2432902008176640000 = omega (arith, cell-at-most P p g, factorial-at-most (total g) h) in
     record { cell = k; most = m; fits = omega arith; same = below-cap sum (omega arith) }
 
 -- A sum over next entries of the values of an accepted scheme, as the plain evaluation makes it

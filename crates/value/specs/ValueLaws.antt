@@ -130,7 +130,7 @@ factorial-step : (n : ℕ) → factorial n ≤ factorial (suc n)
 unfolding factorial
 factorial-step n = omega (arith, suc-mul n (factorial n))
 
-pub factorial-grows : (n d : ℕ) → factorial n ≤ factorial (n + d)
+factorial-grows : (n d : ℕ) → factorial n ≤ factorial (n + d)
 factorial-grows n zero = rw (add-zero n) (omega arith)
 factorial-grows n (suc d) = let e : n + suc d ≡ suc (n + d) = omega arith in rw e (omega (arith, factorial-grows n d, factorial-step (n + d)))
 
