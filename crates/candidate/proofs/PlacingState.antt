@@ -10,7 +10,7 @@ use lib.ListN.{length, getD, take, drop, set, drop-of-length-le}
 use lib.Seq.{drop-cons, take-suc, take-suc-set}
 use lib.Dec.{eqb}
 use borrow.Author.Tests.{eq-eqb, ne-eqb}
-use Rattle.word.specs.IsoLaws.{fits}
+use Rattle.word.specs.Vocabulary.{fits}
 use Rattle.cell.specs.Candidate.{place}
 
 module _ (need lev : ℕ → ℕ) (gone : ℕ → Bool) (H P : List ℕ) where

@@ -3,7 +3,7 @@ ghost use mathlib.Core.Path.{_≡_};
 ghost use mathlib.Core.Bool.{_||_};
 ghost use Prim.Native.Nat.{_≤_};
 ghost use lib.ListN.{length, take, drop};
-ghost use Rattle.word.specs.IsoLaws.{fits};
+ghost use Rattle.word.specs.Vocabulary.{fits};
 ghost use Rattle.cell.specs.Candidate.{place};
 ghost use Rattle.candidate.specs.Lookup.{entryOf, flagged};
 

@@ -14,7 +14,8 @@ use Rattle.word.specs.Lists.{all, keep}
 use Rattle.word.specs.Word.{avoids, reduce, isPerm, perms, before}
 use Rattle.word.specs.ListLaws.{and-left, and-right, and-in, all-out, keep-out, keep-in, below-or-not}
 use Rattle.word.specs.CopyLaws.{before-irrefl, before-cons, before-larger}
-use Rattle.word.specs.PermLaws.{perms-are, perms-all, perm-reduce, factorial, length-perms}
+use Rattle.word.specs.Vocabulary.{factorial}
+use Rattle.word.specs.PermLaws.{perms-are, perms-all, perm-reduce, length-perms}
 use Rattle.word.specs.AscendLaws.{ascends, ascends-map, ascends-keep, perms-ascend}
 use Rattle.cell.specs.Cell.{same, total, spacing, inCell, cell}
 use Rattle.cell.specs.Built.{built}

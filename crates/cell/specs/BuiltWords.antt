@@ -16,7 +16,8 @@ use Rattle.word.specs.CopyLaws.{before-cons}
 use Rattle.word.specs.PermLaws.{has-out, distinct-out, distinct-in, distinct-map, perm-bounds, perm-distinct, perm-in, perm-has}
 use Rattle.word.specs.PermLaws.{under-perm, reduce-perm, length-reduce, perm-reduce}
 use Rattle.cell.specs.Cell.{total, sort, between, spacing}
-use Rattle.cell.specs.Built.{level, val, lift, built, lift-rises, val-rises}
+use Rattle.cell.specs.BuiltLaws.{lift-rises, val-rises}
+use Rattle.cell.specs.Built.{level, val, lift, built}
 use Rattle.cell.specs.RisingLaws.{rises-same, map-rises-same, sort-map, under-map, reduce-map, before-map}
 use Rattle.cell.specs.SpacingLaws.{sort-in, under-sort, sort-up, sort-perm, between-val, val-spacing}
 

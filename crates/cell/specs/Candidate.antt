@@ -6,7 +6,7 @@ use lib.ListN.{length, take, drop}
 use lib.Dec.{ltb, eqb}
 use Rattle.word.specs.Lists.{any}
 use Rattle.word.specs.Word.{avoids, under, reduce, has, entry}
-use Rattle.word.specs.IsoLaws.{fits}
+use Rattle.word.specs.Vocabulary.{fits}
 use Rattle.cell.specs.Cell.{total, without, compared}
 use Rattle.cell.specs.Built.{level, built}
 

@@ -16,7 +16,8 @@ use Rattle.word.specs.BumpLaws.{Bumped, stays, moves, bumped, bump-below, bump-
 use Rattle.word.specs.PermLaws.{perm-cons, perm-uncons, perms-are, perms-all, under-bump-below, under-bump-above, reduce-perm}
 use Rattle.cell.specs.Cell.{same, total, cell, children}
 use Rattle.cell.specs.Child.{slot, childAt, split}
-use Rattle.cell.specs.Built.{val, lift, built, lift-rises}
+use Rattle.cell.specs.BuiltLaws.{lift-rises}
+use Rattle.cell.specs.Built.{val, lift, built}
 use Rattle.cell.specs.EachLaws.{keep-map, keep-each, each-same, map-each, length-each-total}
 use Rattle.cell.specs.BuiltWords.{lift-low, lift-high}
 use Rattle.cell.specs.BuiltCells.{same-out, same-in, cell-built}

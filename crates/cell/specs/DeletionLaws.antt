@@ -14,7 +14,8 @@ use Rattle.word.specs.IsoLaws.{iso-refl, iso-reduce}
 use Rattle.word.specs.ContainsLaws.{avoids-word-iso, avoids-sublist}
 use Rattle.word.specs.PermLaws.{distinct-out, perm-distinct, perm-reduce, reduce-perm, length-reduce, under-at-most}
 use Rattle.cell.specs.Cell.{without, deleted, merged}
-use Rattle.cell.specs.Built.{level, val, lift, built, iso-built, getD-map}
+use Rattle.cell.specs.BuiltLaws.{iso-built, getD-map}
+use Rattle.cell.specs.Built.{level, val, lift, built}
 use Rattle.cell.specs.WithoutLaws.{without-map, without-append, without-sublist, distinct-sublist}
 use Rattle.cell.specs.MergeLaws.{kept-bounds, kept-distinct, merged-length, merged-level}
 

@@ -3,6 +3,7 @@ pub mod Cell
 pub mod Claim
 pub mod Binomial
 pub mod Built
+pub mod BuiltLaws
 pub mod Candidate
 pub mod Basis
 pub mod SpacingWalk

@@ -13,10 +13,12 @@ use borrow.Author.Tests.{ltb-true, ltb-false, lt-ltb, le-ltb, le-leb, lt-leb, eq
 use Rattle.word.specs.Lists.{any}
 use Rattle.word.specs.Word.{alike, iso, under, reduce, distinct, isPerm}
 use Rattle.word.specs.ListLaws.{true-not-false, and-left, and-right, and-in, beq-true, getD-mem}
-use Rattle.word.specs.IsoLaws.{fits, iso-snoc, iso-prefix, iso-map, iso-length, iso-reduce, under-mono, under-strict}
+use Rattle.word.specs.Vocabulary.{fits}
+use Rattle.word.specs.IsoLaws.{iso-snoc, iso-prefix, iso-map, iso-length, iso-reduce, under-mono, under-strict}
 use Rattle.word.specs.PermLaws.{perm-distinct, reduce-perm, under-perm}
 use Rattle.cell.specs.Cell.{total}
-use Rattle.cell.specs.Built.{level, val, lift, built, val-keeps, lift-keeps, val-lift, iso-append, getD-map}
+use Rattle.cell.specs.BuiltLaws.{val-keeps, lift-keeps, val-lift, iso-append, getD-map}
+use Rattle.cell.specs.Built.{level, val, lift, built}
 use Rattle.cell.specs.Candidate.{place, headLength}
 use Rattle.cell.specs.BuiltWords.{level-at-most, built-length}
 use Rattle.cell.specs.RestLaws.{Within}

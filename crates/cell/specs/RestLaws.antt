@@ -16,7 +16,8 @@ use Rattle.word.specs.ContainsLaws.{contains-word-iso, avoids-word-iso, avoids-
 use Rattle.word.specs.BumpLaws.{Bumped, stays, moves, bumped, bump-below, bump-keeps}
 use Rattle.word.specs.PermLaws.{distinct-out, distinct-in, perm-bounds, perm-distinct, perm-in, perm-uncons}
 use Rattle.cell.specs.Cell.{total, atLeast}
-use Rattle.cell.specs.Built.{level, val, lift, built, iso-built}
+use Rattle.cell.specs.BuiltLaws.{iso-built}
+use Rattle.cell.specs.Built.{level, val, lift, built}
 use Rattle.cell.specs.SpacingWalk.{atLeast-refl}
 use Rattle.cell.specs.SublistLaws.{sublist-map, sublist-mem, sublist-without}
 

@@ -10,7 +10,7 @@ use borrow.Author.Tests.{le-leb, lt-leb, eq-eqb, ne-eqb}
 use Rattle.word.specs.Word.{under, reduce, before}
 use Rattle.word.specs.ListLaws.{below-or-not, same-or-not, map-same}
 use Rattle.cell.specs.Cell.{insert, sort}
-use Rattle.cell.specs.Built.{rises-keeps}
+use Rattle.cell.specs.BuiltLaws.{rises-keeps}
 
 module _ (f : ℕ → ℕ) (up : (s t : ℕ) → s < t → f s < f t) where
   pub rises-same : (s t : ℕ) → f s ≡ f t → s ≡ t

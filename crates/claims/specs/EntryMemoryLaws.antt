@@ -19,7 +19,7 @@ use Rattle.scheme.specs.MemoryLaws.{padded-within, length-padded}
 use Rattle.scheme.specs.TestLaws.{length-items}
 use Rattle.scheme.specs.declared.memory.Gap.{Gap}
 use Rattle.scheme.specs.declared.memory.Entry.{Entry}
-use Rattle.verdict.specs.ProperLaws.{ProperEntry}
+use Rattle.verdict.specs.Proper.{ProperEntry}
 use Rattle.claims.specs.EntryMemory.{HasRows}
 
 -- elements written one after the other

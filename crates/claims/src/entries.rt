@@ -13,7 +13,7 @@ ghost use Prim.Native.Nat.{_≤_};
 ghost use Rattle.word.specs.Containment.{patternsOf};
 ghost use Rattle.scheme.specs.SchemeMemory.{entryIn};
 ghost use Rattle.verdict.specs.Verdict.{liveGap, differs};
-ghost use Rattle.verdict.specs.ProperLaws.{ProperEntry};
+ghost use Rattle.verdict.specs.Proper.{ProperEntry};
 ghost use Rattle.claims.specs.EntryMemory.{ProperSet, DeletesAt, ComparedAnswer};
 
 // Refusal 10 of one entry: whether the cell at one of its gap vectors is not empty.

@@ -11,7 +11,7 @@ use lib.ListN.{length, getD, set, take, length-set, length-map}
 use lib.Seq.{getD-set-same, getD-set-other, ext-getD}
 use Rattle.word.specs.Lists.{row}
 use Rattle.word.specs.ListLaws.{below-or-not, map-same, row-out}
-use Rattle.cell.specs.Built.{getD-map}
+use Rattle.cell.specs.BuiltLaws.{getD-map}
 use Rattle.spacing.specs.GapRows.{gapsOf}
 use Rattle.scheme.specs.SchemeMemory.{noGap, padded, gapIn, entryIn}
 use Rattle.scheme.specs.MemoryLaws.{padded-within}

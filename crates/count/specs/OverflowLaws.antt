@@ -21,7 +21,8 @@ use Rattle.scheme.specs.SchemeMemory.{schemeIn}
 use Rattle.scheme.specs.declared.memory.Scheme.{Scheme}
 use Rattle.verdict.specs.Truth.{WellFormed, AllTrue}
 use Rattle.value.specs.Value.{ruleValue, entryValue}
-use Rattle.value.specs.ValueLaws.{size, factorial-at-most, entry-solves}
+use Rattle.value.specs.Size.{size}
+use Rattle.value.specs.ValueLaws.{factorial-at-most, entry-solves}
 use Rattle.step.specs.Step.{capped, childrenOf}
 use Rattle.step.specs.StepLaws.{nextCell, child-sum, below-cap}
 use Rattle.plan.specs.Layout.{entryAt, prefixAt, lengthAt}

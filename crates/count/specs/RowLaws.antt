@@ -14,7 +14,7 @@ use Rattle.word.specs.Word.{avoids, entry}
 use Rattle.word.specs.ListLaws.{true-not-false, below-or-not, same-or-not}
 use Rattle.cell.specs.Cell.{total, free, deleted, merged, mergeValues}
 use Rattle.cell.specs.Child.{slot, childAt, split}
-use Rattle.cell.specs.Built.{getD-map}
+use Rattle.cell.specs.BuiltLaws.{getD-map}
 use Rattle.cell.specs.Binomial.{binomial}
 use Rattle.cell.specs.ChildLaws.{slot-bounds, split-length, split-total, child-length}
 use Rattle.cell.specs.MergeLaws.{merged-length, merged-total}

@@ -14,7 +14,8 @@ use Rattle.rank.specs.Rank.{rankFrom, rankAfter, rankOf}
 use Rattle.scheme.specs.SchemeMemory.{schemeIn}
 use Rattle.scheme.specs.declared.memory.Scheme.{Scheme}
 use Rattle.verdict.specs.Truth.{WellFormed, AllTrue}
-use Rattle.value.specs.ValueLaws.{size, size-fits, entry-solves, count-size}
+use Rattle.value.specs.Size.{size}
+use Rattle.value.specs.ValueLaws.{size-fits, entry-solves, count-size}
 use Rattle.plan.specs.Layout.{prefixAt, lengthAt, widthOf, blockOf, cellAt}
 use Rattle.plan.specs.LayoutLaws.{prefix-length, entry-member, count-few, place-small}
 use Rattle.plan.specs.declared.items.Item.{Item}

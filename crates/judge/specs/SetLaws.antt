@@ -17,7 +17,8 @@ use Rattle.scheme.specs.MemoryLaws.{padded-within, length-padded}
 use Rattle.scheme.specs.TestLaws.{length-items}
 use Rattle.scheme.specs.declared.memory.Patterns.{Patterns}
 use Rattle.scheme.specs.declared.memory.Scheme.{Scheme}
-use Rattle.verdict.specs.ProperLaws.{ProperPattern, few-patterns, proper-pattern, few-entries, proper-entry}
+use Rattle.verdict.specs.Proper.{ProperPattern}
+use Rattle.verdict.specs.ProperLaws.{few-patterns, proper-pattern, few-entries, proper-entry}
 use Rattle.claims.specs.EntryMemory.{ProperSet}
 use Rattle.judge.specs.SetMemory.{HasDigits, HasLengths, ProperScheme}
 

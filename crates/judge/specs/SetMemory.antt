@@ -8,7 +8,7 @@ use Rattle.scheme.specs.SchemeMemory.{noPattern, noEntry, entryIn, schemeIn}
 use Rattle.scheme.specs.declared.memory.Pattern.{Pattern}
 use Rattle.scheme.specs.declared.memory.Scheme.{Scheme}
 use Rattle.verdict.specs.Verdict.{comparedCells}
-use Rattle.verdict.specs.ProperLaws.{ProperEntry}
+use Rattle.verdict.specs.Proper.{ProperEntry}
 
 -- each row has the digits of a pattern
 abbrev pub HasDigits : List Pattern → List (List ℕ) → Type 0

@@ -23,7 +23,8 @@ use Rattle.scheme.specs.declared.memory.Scheme.{Scheme}
 use Rattle.scheme.proofs.LookupLaws.{listed-found, prefixes-at}
 use Rattle.verdict.specs.Truth.{WellFormed, AllTrue}
 use Rattle.value.specs.Value.{countOf}
-use Rattle.value.specs.ValueLaws.{size, child-listed, target-listed, root-listed, count-size}
+use Rattle.value.specs.Size.{size}
+use Rattle.value.specs.ValueLaws.{child-listed, target-listed, root-listed, count-size}
 use Rattle.count.specs.RunLaws.{sizes-solved}
 use Rattle.plan.specs.Layout.{entryAt, prefixAt, lengthAt}
 use Rattle.plan.specs.LayoutLaws.{prefix-length, entry-member, entry-proper, entry-short, gaps-few, gap-width, count-few}

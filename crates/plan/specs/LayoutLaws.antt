@@ -17,7 +17,8 @@ use Rattle.scheme.specs.SchemeList.{EntryList}
 use Rattle.scheme.specs.SchemeMemory.{noGap, noEntry, gapIn, schemeIn}
 use Rattle.scheme.specs.MemoryLaws.{length-padded}
 use Rattle.scheme.specs.declared.memory.Scheme.{Scheme}
-use Rattle.verdict.specs.ProperLaws.{ProperEntry, proper-entry, few-entries}
+use Rattle.verdict.specs.Proper.{ProperEntry}
+use Rattle.verdict.specs.ProperLaws.{proper-entry, few-entries}
 use Rattle.plan.specs.Layout.{entryAt, prefixAt, lengthAt, placeAt, widthOf}
 use Rattle.plan.specs.Plan.{Proper, Places, NearPlaces}
 

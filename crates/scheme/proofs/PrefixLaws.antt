@@ -13,10 +13,11 @@ use borrow.Author.Tests.{not-true, eq-eqb, ne-eqb, leb-true, leb-false}
 use Rattle.word.specs.Lists.{any, row}
 use Rattle.word.specs.Word.{under, reduce, has, isPerm, bump}
 use Rattle.word.specs.ListLaws.{not-in, getD-mem, map-same, any-map, row-out, row-in}
-use Rattle.word.specs.BumpLaws.{Bumped, stays, moves, bumped, unbump, unbump-below, unbump-above}
+use Rattle.word.specs.Vocabulary.{unbump}
+use Rattle.word.specs.BumpLaws.{Bumped, stays, moves, bumped, unbump-below, unbump-above}
 use Rattle.word.specs.PermLaws.{perm-bounds, under-perm}
 use Rattle.cell.specs.Cell.{same, without, deleted, children}
-use Rattle.cell.specs.Built.{getD-map}
+use Rattle.cell.specs.BuiltLaws.{getD-map}
 use Rattle.cell.specs.BuiltCells.{same-out, same-in}
 use Rattle.cell.specs.Child.{childAt}
 use Rattle.cell.specs.ChildLaws.{children-all, children-are}

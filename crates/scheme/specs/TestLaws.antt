@@ -149,17 +149,6 @@ module _ {A : Type 0} (g : ℕ → A) where
   pub any-clean : (f : A → Bool) (n i : ℕ) → any f (map g (row 0 n)) ≡ false → i < n → f (g i) ≡ false
   any-clean f n i e h = any-passed f 0 n i e (omega arith) (omega arith)
 
--- one of the items before place i passes a test
-module _ {A : Type 0} (f : A → Bool) (g : ℕ → A) (i j : ℕ) (e : i ≡ j + 1) where
-  pub seen-here : f (g j) ≡ true → any f (seen g i) ≡ true
-  seen-here p = rw (e, add-one j, p) refl
-
-  pub seen-later : f (g j) ≡ false → any f (seen g i) ≡ any f (seen g j)
-  seen-later p = rw (e, add-one j, p) refl
-
-pub seen-none : {A : Type 0} (f : A → Bool) (g : ℕ → A) (i : ℕ) → i ≡ 0 → any f (seen g i) ≡ false
-seen-none f g i e = rw e refl
-
 -- the places from i on
 
 pub row-next : (n i : ℕ) → i < n → row i (n - i) ≡ i ∷ row (suc i) (n - suc i)

@@ -12,7 +12,7 @@ ghost use mathlib.Core.List.{[], _∷_};
 ghost use lib.ListN.{getD, take};
 ghost use Rattle.word.specs.Lists.{any};
 ghost use Rattle.word.specs.Word.{isPerm, bump};
-ghost use Rattle.word.specs.BumpLaws.{unbump};
+ghost use Rattle.word.specs.Vocabulary.{unbump};
 ghost use Rattle.word.specs.declared.refusal.Refusal.the-variants.{Childless, NoTarget};
 ghost use Rattle.cell.specs.Cell.{same, deleted, children};
 ghost use Rattle.cell.specs.Child.{childAt};

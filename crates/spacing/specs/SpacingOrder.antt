@@ -9,8 +9,7 @@ use native.Mathlib.Omega.{arith}
 use lib.ListN.{length, replicate, length-append, length-replicate, length-map}
 use Rattle.word.specs.Lists.{keep, each, row}
 use Rattle.cell.specs.Cell.{total, free, mOf, vectors, compared}
-use Rattle.spacing.specs.Following.{above, later}
-unfoldable pub use Rattle.spacing.specs.Following.{firstVector}
+use Rattle.spacing.specs.Following.{firstVector, above, later}
 
 -- `vectors` by the first component
 

@@ -13,7 +13,8 @@ use borrow.Author.Tests.{eq-eqb, ne-eqb}
 use Rattle.word.specs.ListLaws.{below-or-not}
 use Rattle.cell.specs.Cell.{total, free, mergeValues}
 use Rattle.cell.specs.Binomial.{binomial}
-use Rattle.spacing.specs.SpacingOrder.{firstVector, first-length, first-total}
+use Rattle.spacing.specs.Following.{firstVector}
+use Rattle.spacing.specs.SpacingOrder.{first-length, first-total}
 use Rattle.rank.specs.Rank.{rankAfter, rankOf, nextOf}
 use Rattle.rank.specs.RankLaws.{rank-injective, next-rank, next-length, next-total, first-rank}
 use Rattle.step.specs.Step.{childrenOf, capped, stepOf}

@@ -12,7 +12,8 @@ use borrow.Author.Tests.{eq-eqb, ne-eqb, ltb-false, not-false}
 use Rattle.word.specs.Lists.{all, keep, oneTo}
 use Rattle.word.specs.Word.{avoids, isPerm, perms, avoiders}
 use Rattle.word.specs.ListLaws.{true-not-false, all-fails, map-same, row-out}
-use Rattle.word.specs.PermLaws.{factorial, perms-are, perm-bounds}
+use Rattle.word.specs.Vocabulary.{factorial}
+use Rattle.word.specs.PermLaws.{perms-are, perm-bounds}
 use Rattle.word.specs.Finding.{clean, firstFault}
 use Rattle.word.specs.declared.refusal.Refusal.the-variants.{Rootless, Childless, NoTarget}
 use Rattle.cell.specs.Cell.{same, total, cell, deleted, merged, free, atLeast, children}
@@ -32,19 +33,8 @@ use Rattle.scheme.specs.TestLaws.{or-right}
 use Rattle.verdict.specs.Truth.{WellFormed, RuleClaim, AllTrue}
 use Rattle.verdict.specs.FindingLaws.{clean-in, clean-test, first-out, none-out}
 use Rattle.verdict.specs.ProperLaws.{proper-entry, position-inside}
+use Rattle.value.specs.Size.{size, Listed, measure}
 use Rattle.value.specs.Value.{entryFor, ruleValue, entryValue, value, countOf}
-
--- the size of a cell
-unfoldable pub size : List (List ℕ) → List ℕ → List ℕ → ℕ
-size P p g = length (cell P p g)
-
--- p is the prefix of an entry
-abbrev pub Listed : List EntryList → List ℕ → Type 0
-Listed E p = listed (map (λ (e : EntryList). e .prefix) E) p ≡ true
-
--- "eight times the length less the prefix length falls at each cell" (01)
-abbrev pub measure : List ℕ → List ℕ → ℕ
-measure p g = 8 * (length p + total g) - length p
 
 -- the entry of a listed prefix
 pub entry-found : (E : List EntryList) (p : List ℕ) → Listed E p →

@@ -2,5 +2,6 @@
 pub mod Verdict
 pub mod Truth
 pub mod FindingLaws
+pub mod Proper
 pub mod ProperLaws
 pub mod VerdictLaws

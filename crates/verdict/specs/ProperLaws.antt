@@ -18,21 +18,8 @@ use Rattle.cell.specs.Cell.{total}
 use Rattle.scheme.specs.SchemeList.{Does, expands, deletes, EntryList}
 use Rattle.scheme.specs.WellFormed.{firstAt, listed, largeGap, largeEntry, wrongWidth, outside, patternTests, schemeTests}
 use Rattle.scheme.specs.TestLaws.{or-left, or-right}
+use Rattle.verdict.specs.Proper.{ProperPattern, ProperEntry}
 use Rattle.verdict.specs.FindingLaws.{clean-in, clean-test, first-out, none-out}
-
--- a pattern that went through the tests 2 and 3
-pub record ProperPattern (β : List ℕ) : Type 0 where
-  pub perm : isPerm β ≡ true
-  pub short : length β ≤ 8
-
--- an entry that went through the tests 2, 3, 6 and 7
-pub record ProperEntry (e : EntryList) : Type 0 where
-  pub perm : isPerm (e .prefix) ≡ true
-  pub short : length (e .prefix) ≤ 6
-  pub few : length (e .gaps) ≤ 8
-  pub wide : (b : List ℕ) → List·Memᴰ b (e .gaps) → length b ≡ suc (length (e .prefix))
-  pub small : (b : List ℕ) → List·Memᴰ b (e .gaps) → total b ≤ 8
-  pub inside : outside (length (e .prefix)) (e .rule) ≡ false
 
 -- a negated test that fails
 not-false : (b : Bool) → not b ≡ false → b ≡ true

@@ -18,7 +18,8 @@ use Rattle.word.specs.Word.{iso, entry, firstCopy}
 use Rattle.word.specs.Copy.{shown}
 use Rattle.word.specs.declared.copy.FirstCopy.{FirstCopy}
 use Rattle.word.specs.ListLaws.{length-row, same-or-not}
-use Rattle.word.specs.IsoLaws.{fits, iso-snoc, iso-prefix, iso-length}
+use Rattle.word.specs.Vocabulary.{fits}
+use Rattle.word.specs.IsoLaws.{iso-snoc, iso-prefix, iso-length}
 
 -- the first of two that there is
 abbrev pub orElse : Option (List ℕ) → Option (List ℕ) → Option (List ℕ)

@@ -7,6 +7,7 @@ use mathlib.Core.Bool.{cond}
 use mathlib.Core.List.{List, [], _∷_, map}
 use lib.Dec.{ltb, eqb}
 use borrow.Author.Tests.{ltb-true, lt-ltb, le-ltb, eqb-true, eq-eqb}
+use Rattle.word.specs.Vocabulary.{unbump}
 use Rattle.word.specs.Word.{bump}
 use Rattle.word.specs.ListLaws.{below-or-not, same-test}
 
@@ -83,10 +84,6 @@ bump-bump a b y h = step (bumped a y) (bumped b y)
     step (stays p p′) (moves q q′) = absurd (omega arith)
     step (moves p p′) (stays q q′) = rw (p′, q′, p′) (bump-below (suc b) (suc y) (omega arith))
     step (moves p p′) (moves q q′) = rw (p′, q′) (bump-above (suc b) (suc y) (omega arith) ∙ sym (bump-above a (suc y) (omega arith)))
-
--- y with the gap at a closed again
-unfoldable pub unbump : ℕ → ℕ → ℕ
-unbump a y = cond (ltb y a) y (pred y)
 
 pub unbump-below : (a y : ℕ) → y < a → unbump a y ≡ y
 unfolding unbump

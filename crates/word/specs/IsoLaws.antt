@@ -7,6 +7,7 @@ use native.Mathlib.Omega.{arith}
 use lib.ListN.{length}
 use lib.Dec.{leb, ltb}
 use borrow.Author.Tests.{ltb-true, ltb-false, leb-true, leb-false, lt-ltb, le-ltb}
+use Rattle.word.specs.Vocabulary.{fits}
 use Rattle.word.specs.Word.{alike, iso, under, reduce}
 use Rattle.word.specs.ListLaws.{and-left, and-right, and-in, and-middle, beq-refl, beq-comm, beq-true, true-not-false}
 
@@ -68,13 +69,6 @@ iso-length [] [] h = refl
 iso-length [] (y ∷ v) h = absurd (true-not-false (sym h))
 iso-length (x ∷ u) [] h = absurd (true-not-false (sym h))
 iso-length (x ∷ u) (y ∷ v) h = ap suc (iso-length u v (and-right (alike x u y v) (iso u v) h))
-
--- x is above the entries of b in just the places where y is above those of s, and b is as long as s
-unfoldable pub fits : List ℕ → ℕ → List ℕ → ℕ → Bool
-fits [] x [] y = true
-fits [] x (c ∷ s) y = false
-fits (a ∷ b) x [] y = false
-fits (a ∷ b) x (c ∷ s) y = Bool·beq (ltb a x) (ltb c y) && fits b x s y
 
 alike-nil-snoc : (a c : ℕ) (s : List ℕ) (y : ℕ) → alike a [] c (s ++ (y ∷ [])) ≡ false
 unfolding alike

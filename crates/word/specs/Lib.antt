@@ -1,6 +1,7 @@
 -- The definitions of the crate word, and then its laws.
 pub mod Lists
 pub mod Word
+pub mod Vocabulary
 pub mod Refusal
 pub mod Finding
 pub mod Told

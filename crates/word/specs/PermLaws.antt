@@ -9,13 +9,14 @@ use mathlib.Core.List.{List·Memᴰ·eq-of-singleton, Memᴰ·cast, Memᴰ·map,
 use lib.ListN.{length, length-map}
 use lib.Dec.{leb, eqb, leb·suc-suc}
 use borrow.Author.Tests.{leb-true, le-leb, lt-leb, eqb-true, eq-eqb}
+use Rattle.word.specs.Vocabulary.{factorial, unbump}
 use Rattle.word.specs.Lists.{all, oneTo}
 use Rattle.word.specs.Word.{under, reduce, has, distinct, within, isPerm, bump, perms}
 use Rattle.word.specs.ListLaws.{and-left, and-right, and-in, not-in, not-out, below-or-not, same-or-not, any-out, any-in, all-out, all-in}
 use Rattle.word.specs.ListLaws.{each-out, each-in, length-each, map-same, length-row, row-out, row-in}
 use Rattle.word.specs.IsoLaws.{under-strict}
 use Rattle.word.specs.BumpLaws.{Bumped, stays, moves, bumped, bump-injective, bump-misses, bump-positive, bump-at-most, bump-bounds}
-use Rattle.word.specs.BumpLaws.{bump-unbump, bump-onto-within, unbump}
+use Rattle.word.specs.BumpLaws.{bump-unbump, bump-onto-within}
 
 -- has is membership
 pub has-out : (x : ℕ) (w : List ℕ) → has x w ≡ true → List·Memᴰ x w
@@ -181,11 +182,6 @@ perms-all n w e l = rw (← l) (perm-induction (λ w. List·Memᴰ w (perms (len
         List·Memᴰ (a ∷ map (bump a) s) (perms (suc (length (map (bump a) s))))
     more a s e p q m = rw (length-map s (bump a))
         (each-in (λ a. map (λ s. a ∷ map (bump a) s) (perms (length s))) (row-in 1 (suc (length s)) a p (omega arith)) (Memᴰ·map (λ s. a ∷ map (bump a) s) m))
-
--- the number of permutations of length n
-unfoldable pub factorial : ℕ → ℕ
-factorial zero = 1
-factorial (suc n) = suc n * factorial n
 
 pub length-perms : (n : ℕ) → length (perms n) ≡ factorial n
 unfolding perms factorial

@@ -5,7 +5,7 @@ use mathlib.Core.Path.{_≡_, sym, _∙_}
 use borrow.Author.Needs.{needs}
 use native.Mathlib.Omega.{arith}
 use lib.ListN.{length, take, drop}
-use Rattle.word.specs.IsoLaws.{fits}
+use Rattle.word.specs.Vocabulary.{fits}
 use Rattle.word.proofs.Search.{pairs-none, pair-passed, pair-failed}
 use Rattle.candidate.proofs.placing.pairs_fit.Statement.{statement}
 use Rattle.candidate.proofs.placing.pairs_fit.Tie as tie

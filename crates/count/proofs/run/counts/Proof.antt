@@ -7,7 +7,7 @@ use mathlib.Core.Path.{_≡_, ap, _∙_}
 use lib.ListN.{length}
 use Rattle.word.specs.Containment.{patternsOf}
 use Rattle.scheme.specs.SchemeMemory.{schemeIn}
-use Rattle.value.specs.ValueLaws.{size}
+use Rattle.value.specs.Size.{size}
 use Rattle.plan.specs.Layout.{widthOf, needOf}
 use Rattle.plan.specs.LayoutLaws.{width-sum, count-few, place-small}
 use Rattle.count.specs.Run.{Outlook, cleared}

@@ -8,7 +8,7 @@ use borrow.Author.Needs.{needs}
 use lib.ListN.{length, take, getD, length-set}
 use lib.Seq.{take-all}
 use Rattle.word.specs.Word.{bump}
-use Rattle.word.specs.BumpLaws.{unbump}
+use Rattle.word.specs.Vocabulary.{unbump}
 use Rattle.cell.specs.Cell.{deleted}
 use Rattle.scheme.proofs.PrefixLaws.{digit-bounds, bump-inside, shorter-size, shorter-more}
 use Rattle.scheme.proofs.links.shorter.Statement.{statement}

@@ -6,7 +6,7 @@ use denote.Ref.{now}
 use Prim.Native.Nat.{_+_, _-_}
 use mathlib.Core.Path.{ap, _∙_}
 use lib.ListN.{length}
-use Rattle.spacing.specs.SpacingOrder.{firstVector}
+use Rattle.spacing.specs.Following.{firstVector}
 use Rattle.rank.specs.PascalLaws.{binomial-small}
 use Rattle.step.specs.Task.{spacingIn, taskStep}
 use Rattle.step.proofs.FillLaws.{Filling, filling-start, filling-more, filling-end}

@@ -7,7 +7,7 @@ use borrow.Author.Needs.{needs}
 use native.Mathlib.Omega.{arith}
 use lib.ListN.{length, getD, take, drop}
 use Rattle.word.specs.Copy.{shown}
-use Rattle.word.specs.IsoLaws.{fits}
+use Rattle.word.specs.Vocabulary.{fits}
 use Rattle.word.proofs.Search.{Walk, weight, empty-copy, length-cut, walk-start, walk-skip, walk-on, walk-found, walk-back, walk-none, pairs-none, pair-passed, pair-failed, weight-skip, weight-place, weight-back}
 use Rattle.word.proofs.copy.first_copy.Statement.{statement}
 use Rattle.word.proofs.copy.first_copy.Tie as tie
