@@ -3,7 +3,7 @@
 -- scheme it is at most the size of the cell, so at most 20!, and 20! is below 2 ^ 64: no sum meets its cap.
 use Prim.Native.Nat.{ℕ, zero, suc, _+_, _-_, _≤_, _<_}
 use native.Mathlib.Omega.{arith}
-use mathlib.Core.Path.{_≡_, sym, ap, _∙_}
+use mathlib.Core.Path.{_≡_, refl, sym, ap, _∙_}
 use mathlib.Core.Bool.{true, cond}
 use mathlib.Core.List.{List, _++_, map, map-append, List·Memᴰ}
 use mathlib.Core.Option.{some}
