@@ -12,7 +12,7 @@ use borrow.Author.Tests.{ltb-true, ltb-false, lt-ltb, le-ltb, eq-eqb, ne-eqb}
 use Rattle.lines.specs.declared.input.Lines.{Lines}
 use Rattle.lines.specs.Lines.{isEnd, line, behind}
 use Rattle.lines.specs.Kept.{held, heldLength, endsIn, upToThree, hasBytes, keptOf}
-use Rattle.lines.specs.KeptWalk.{made, ended, withFourth, stored, nextPlace, inSet, inScheme, inLast, byteAt, stepped, after}
+use Rattle.lines.specs.KeptWalk.{made, ended, withFourth, stored, nextPlace, inSet, inScheme, inLast, byteAt, keptByte, keptOn}
 use Rattle.lines.specs.LineLaws.{ends-other, ends-end, line-end, line-same, line-more, behind-none, behind-last, behind-some}
 
 -- the kept bytes of one line
@@ -143,50 +143,50 @@ module _ (s : List ℕ) (b : ℕ) where
   by-place (suc (suc zero)) p false q = last-kept p q
   by-place (suc (suc (suc n))) p c q = fourth-kept n p
 
-  pub step-kept : stepped (keptOf s) b ≡ keptOf (s ++ (b ∷ []))
+  pub step-kept : keptByte (keptOf s) b ≡ keptOf (s ++ (b ∷ []))
   unfolding keptOf
   step-kept = by-place (endsIn s) refl (isEnd b) refl
 
 -- a chunk more
-pub after-kept : (s chunk : List ℕ) → after (keptOf s) chunk ≡ keptOf (s ++ chunk)
-after-kept s [] = ap keptOf (sym (append-nil s))
-after-kept s (b ∷ l) =
-    ap (λ (k : Lines). after k l) (step-kept s b) ∙ after-kept (s ++ (b ∷ [])) l ∙ ap keptOf (append-assoc s (b ∷ []) l)
+pub kept-on : (s chunk : List ℕ) → keptOn (keptOf s) chunk ≡ keptOf (s ++ chunk)
+kept-on s [] = ap keptOf (sym (append-nil s))
+kept-on s (b ∷ l) =
+    ap (λ (k : Lines). keptOn k l) (step-kept s b) ∙ kept-on (s ++ (b ∷ [])) l ∙ ap keptOf (append-assoc s (b ∷ []) l)
 
 pub kept-none : made (replicate 1025 0) 0 (replicate 32769 0) 0 (replicate 3 0) 0 0 false ≡ keptOf []
 unfolding keptOf
 kept-none = same-made (held-none 1025) refl (held-none 32769) refl (held-none 3) refl refl refl
 
 -- the loop over a chunk: what is to come is the chunk from the index on
-pub turn : (k next : Lines) (chunk : List ℕ) (i : ℕ) (all : Lines) → after k (drop i chunk) ≡ all → i < length chunk → stepped k (getD chunk i 0) ≡ next
-    → after next (drop (i + 1) chunk) ≡ all
+pub turn : (k next : Lines) (chunk : List ℕ) (i : ℕ) (all : Lines) → keptOn k (drop i chunk) ≡ all → i < length chunk → keptByte k (getD chunk i 0) ≡ next
+    → keptOn next (drop (i + 1) chunk) ≡ all
 turn k next chunk i all p h e =
-    ap (λ (m : Lines). after m (drop (i + 1) chunk)) (sym e)
-    ∙ ap (λ (j : ℕ). after (stepped k (getD chunk i 0)) (drop j chunk)) (add-one i)
-    ∙ ap (after k) (sym (drop-cons chunk i 0 h)) ∙ p
+    ap (λ (m : Lines). keptOn m (drop (i + 1) chunk)) (sym e)
+    ∙ ap (λ (j : ℕ). keptOn (keptByte k (getD chunk i 0)) (drop j chunk)) (add-one i)
+    ∙ ap (keptOn k) (sym (drop-cons chunk i 0 h)) ∙ p
 
-pub chunk-end : (k : Lines) (chunk : List ℕ) (i : ℕ) (all : Lines) → after k (drop i chunk) ≡ all → length chunk ≤ i → k ≡ all
-chunk-end k chunk i all p h = ap (after k) (sym (drop-of-length-le chunk {i = i} h)) ∙ p
+pub chunk-end : (k : Lines) (chunk : List ℕ) (i : ℕ) (all : Lines) → keptOn k (drop i chunk) ≡ all → length chunk ≤ i → k ≡ all
+chunk-end k chunk i all p h = ap (keptOn k) (sym (drop-of-length-le chunk {i = i} h)) ∙ p
 
 -- the turns, as the code takes them
 
 module _ (k : Lines) (b : ℕ) where
-  at-place : (e : ℕ) (c : Bool) → k .ends ≡ e → isEnd b ≡ c → stepped k b ≡ byteAt e c k b
+  at-place : (e : ℕ) (c : Bool) → k .ends ≡ e → isEnd b ≡ c → keptByte k b ≡ byteAt e c k b
   at-place e c p q = rw (p, q) refl
 
-  pub turn-fourth : 3 ≤ k .ends → stepped k b ≡ withFourth k
+  pub turn-fourth : 3 ≤ k .ends → keptByte k b ≡ withFourth k
   turn-fourth h = by (k .ends) refl h
     where
-      by : (e : ℕ) → k .ends ≡ e → 3 ≤ e → stepped k b ≡ withFourth k
+      by : (e : ℕ) → k .ends ≡ e → 3 ≤ e → keptByte k b ≡ withFourth k
       by zero p g = absurd (omega arith)
       by (suc zero) p g = absurd (omega arith)
       by (suc (suc zero)) p g = absurd (omega arith)
       by (suc (suc (suc n))) p g = at-place (suc (suc (suc n))) (isEnd b) p refl
 
-  pub turn-end : k .ends < 3 → b ≡ 0x0A → stepped k b ≡ ended k
+  pub turn-end : k .ends < 3 → b ≡ 0x0A → keptByte k b ≡ ended k
   turn-end h e = by (k .ends) refl h
     where
-      by : (n : ℕ) → k .ends ≡ n → n < 3 → stepped k b ≡ ended k
+      by : (n : ℕ) → k .ends ≡ n → n < 3 → keptByte k b ≡ ended k
       by zero p g = at-place 0 true p (eq-eqb b 0x0A e)
       by (suc zero) p g = at-place 1 true p (eq-eqb b 0x0A e)
       by (suc (suc zero)) p g = at-place 2 true p (eq-eqb b 0x0A e)
@@ -195,22 +195,22 @@ module _ (k : Lines) (b : ℕ) where
   -- a byte is stored where there is room, and dropped where there is none
 
   pub turn-set : k .ends ≡ 0 → (b ≡ 0x0A → ⊥) → k .«set_length» < 1025
-      → stepped k b ≡ made (set (k .set) (k .«set_length») b) (k .«set_length» + 1) (k .scheme) (k .«scheme_length») (k .last) (k .«last_length») (k .ends) (k .fourth)
+      → keptByte k b ≡ made (set (k .set) (k .«set_length») b) (k .«set_length» + 1) (k .scheme) (k .«scheme_length») (k .last) (k .«last_length») (k .ends) (k .fourth)
   turn-set p q h = at-place 0 false p (ne-eqb b 0x0A q) ∙ rw (lt-ltb (k .«set_length») 1025 h) refl
 
-  pub drop-set : k .ends ≡ 0 → (b ≡ 0x0A → ⊥) → 1025 ≤ k .«set_length» → stepped k b ≡ k
+  pub drop-set : k .ends ≡ 0 → (b ≡ 0x0A → ⊥) → 1025 ≤ k .«set_length» → keptByte k b ≡ k
   drop-set p q h = at-place 0 false p (ne-eqb b 0x0A q) ∙ rw (le-ltb (k .«set_length») 1025 h) refl
 
   pub turn-scheme : k .ends ≡ 1 → (b ≡ 0x0A → ⊥) → k .«scheme_length» < 32769
-      → stepped k b ≡ made (k .set) (k .«set_length») (set (k .scheme) (k .«scheme_length») b) (k .«scheme_length» + 1) (k .last) (k .«last_length») (k .ends) (k .fourth)
+      → keptByte k b ≡ made (k .set) (k .«set_length») (set (k .scheme) (k .«scheme_length») b) (k .«scheme_length» + 1) (k .last) (k .«last_length») (k .ends) (k .fourth)
   turn-scheme p q h = at-place 1 false p (ne-eqb b 0x0A q) ∙ rw (lt-ltb (k .«scheme_length») 32769 h) refl
 
-  pub drop-scheme : k .ends ≡ 1 → (b ≡ 0x0A → ⊥) → 32769 ≤ k .«scheme_length» → stepped k b ≡ k
+  pub drop-scheme : k .ends ≡ 1 → (b ≡ 0x0A → ⊥) → 32769 ≤ k .«scheme_length» → keptByte k b ≡ k
   drop-scheme p q h = at-place 1 false p (ne-eqb b 0x0A q) ∙ rw (le-ltb (k .«scheme_length») 32769 h) refl
 
   pub turn-last : k .ends ≡ 2 → (b ≡ 0x0A → ⊥) → k .«last_length» < 3
-      → stepped k b ≡ made (k .set) (k .«set_length») (k .scheme) (k .«scheme_length») (set (k .last) (k .«last_length») b) (k .«last_length» + 1) (k .ends) (k .fourth)
+      → keptByte k b ≡ made (k .set) (k .«set_length») (k .scheme) (k .«scheme_length») (set (k .last) (k .«last_length») b) (k .«last_length» + 1) (k .ends) (k .fourth)
   turn-last p q h = at-place 2 false p (ne-eqb b 0x0A q) ∙ rw (lt-ltb (k .«last_length») 3 h) refl
 
-  pub drop-last : k .ends ≡ 2 → (b ≡ 0x0A → ⊥) → 3 ≤ k .«last_length» → stepped k b ≡ k
+  pub drop-last : k .ends ≡ 2 → (b ≡ 0x0A → ⊥) → 3 ≤ k .«last_length» → keptByte k b ≡ k
   drop-last p q h = at-place 2 false p (ne-eqb b 0x0A q) ∙ rw (le-ltb (k .«last_length») 3 h) refl
