@@ -43,6 +43,7 @@ module _ (error : ℤ) where
 
 -- what is taken of a chunk is kept of the input so far and its bytes
 pub reads-some : (lines : Lines) (chunk : List ℕ) (got error : ℤ) (r : Reading) → r ≡ takenOf lines chunk got error → ReadsSome lines r
+unfolding takenOf
 reads-some lines chunk got error r e =
     record {
       chunk = chunk;

@@ -1,7 +1,7 @@
 -- What one read of the input comes to, and what is read in all. Definitions only.
 use Prim.Native.Nat.{ℕ, zero, suc}
 use mathlib.Core.Path.{_≡_}
-use mathlib.Core.Bool.{Bool, false, cond}
+use mathlib.Core.Bool.{Bool, true, false, cond}
 use mathlib.Core.List.{List, _++_}
 use lib.IntN.{ℤ, pos, negsuc}
 use lib.ListN.{length, take}
@@ -26,12 +26,17 @@ stateAfter (pos zero) error = End
 stateAfter (pos (suc n)) error = More
 stateAfter (negsuc n) error = cond (interrupted error) More Failed
 
+abbrev pub hasMore : State → Bool
+hasMore More = true
+hasMore End = false
+hasMore Failed = false
+
 -- the bytes of the chunk that were read
 abbrev pub bytesGot : List ℕ → ℤ → List ℕ
 bytesGot chunk got = take (clamped got (length chunk)) chunk
 
 -- what is kept after a read
-abbrev pub takenOf : Lines → List ℕ → ℤ → ℤ → Reading
+unfoldable pub takenOf : Lines → List ℕ → ℤ → ℤ → Reading
 takenOf lines chunk got error = record { state = stateAfter got error; lines = keptOn lines (bytesGot chunk got) }
 
 -- One read. No contract of the C library says which bytes `read` finds: they are some bytes, and

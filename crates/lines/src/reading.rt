@@ -3,7 +3,7 @@ use crate::input::Lines;
 use crate::input::keep;
 use libc::EINTR;
 ghost use mathlib.Core.Path.{_≡_};
-ghost use Rattle.lines.specs.Reads.{stateAfter, takenOf};
+ghost use Rattle.lines.specs.Reads.{stateAfter, takenOf, hasMore};
 
 // Whether there may be more of the input, it has ended, or a read failed.
 pub enum State {
@@ -42,4 +42,15 @@ fn state_after(got: isize, error: i32) -> State
         return State::More;
     }
     State::Failed
+}
+
+// Whether there may be more of the input.
+pub fn has_more(state: State) -> bool
+    ensures { λ r. ⌜ r ≡ hasMore state ⌝ }
+{
+    match state {
+        State::More => true,
+        State::End => false,
+        State::Failed => false,
+    }
 }

@@ -10,7 +10,7 @@ use Rattle.lines.specs.declared.input.Lines.{Lines}
 use Rattle.lines.specs.declared.reading.State.{State}
 use Rattle.lines.specs.declared.reading.Reading.{Reading}
 use Rattle.lines.specs.KeptWalk.{keptOn}
-use Rattle.lines.specs.Reads.{stateAfter, bytesGot}
+use Rattle.lines.specs.Reads.{stateAfter, bytesGot, takenOf}
 use borrow.Author.Needs.{needs}
 use Rattle.lines.proofs.reading.taken.Statement.{statement}
 use Rattle.lines.proofs.reading.taken.Tie as tie
@@ -28,6 +28,7 @@ state-after-requires : tie.Need-state-after-requires
 state-after-requires c κs = search needs
 
 returns : tie.Need-returns
+unfolding takenOf
 returns c = let a = c .before .before .before .before .before .args in
     let same : toZ w64 (ofZ w64 (a .got)) ≡ a .got = search needs in
     let error : toZ w32 (ofZ w32 (a .error)) ≡ a .error = search needs in
