@@ -30,8 +30,10 @@ ghost use Rattle.bfile.specs.TableText.{printedOr, numberText, lengthTex
 // "It holds 4,096 cells" (01)
 pub const CELLS: usize = 4096;
 
-// Writes what is to be printed at the start of the page; the number of bytes. A page of 512 bytes
-// is always enough.
+// A page of so many bytes is always enough.
+pub const PAGE: usize = 512;
+
+// Writes what is to be printed at the start of the page; the number of bytes.
 pub fn print(lines: Lines, page: &mut [u8]) -> usize
     ensures { λ r. ⌜ Prints lines (now (page .entry)) (now (page .exit)) r ⌝ }
 {

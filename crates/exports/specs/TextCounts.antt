@@ -35,7 +35,8 @@ foundIn s t tests =
 abbrev pub countIn : List ℕ → List ℕ → ℕ → ℕ
 countIn s t n = countOf (patternsIn ((patternsAnswer s) .patterns)) (schemeIn ((schemeAnswer t) .scheme)) n
 
--- the number r for the texts s and t, the length n and a table that holds `before`, and then `after`
+-- the number r for the texts s and t, the length n and a table that holds `before`, and then
+-- `after`
 pub record CountsTexts (s t : List ℕ) (n : ℕ) (before after : List ℕ) (r : ℕ) : Type 0 where
   pub answer : r ≡ codeOf (countedOr (foundIn s t (λ P E. countTests P E n (length before))) (countIn s t n))
   pub table : after ≡ tableAfter (foundIn s t (λ P E. countTests P E n (length before))) (needOf n (schemeIn ((schemeAnswer t) .scheme))) before

@@ -1,4 +1,5 @@
-// What is kept of an input of three lines, as far as a line may be long; the number in the third line.
+// What is kept of an input of three lines, as far as a line may be long; the number in the third
+// line.
 ghost use mathlib.Core.Path.{_≡_};
 ghost use mathlib.Core.List.{[], _∷_};
 ghost use lib.ListN.{take};
@@ -15,7 +16,8 @@ pub const SCHEME: usize = 32769;
 // One byte more than the number in the third line may have: "one or two digits" (01).
 pub const LAST: usize = 3;
 
-// The first bytes of each line, with zeros behind them, and how many they are; the number of line ends, up to three; whether a byte came after the third.
+// The first bytes of each line, with zeros behind them, and how many they are; the number of line
+// ends, up to three; whether a byte came after the third.
 pub struct Lines {
     pub set: [u8; SET],
     pub set_length: usize,

@@ -1,4 +1,5 @@
-// One read of the input: what is kept with the bytes that it brought, and whether there may be more.
+// One read of the input: what is kept with the bytes that it brought, and whether there may be
+// more.
 use crate::input::Lines;
 use crate::input::keep;
 use libc::EINTR;
@@ -38,10 +39,10 @@ fn state_after(got: isize, error: i32) -> State
     if got == 0 {
         return State::End;
     }
-    if error == EINTR {
-        return State::More;
+    if error != EINTR {
+        return State::Failed;
     }
-    State::Failed
+    State::More
 }
 
 // Whether there may be more of the input.

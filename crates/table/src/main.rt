@@ -1,5 +1,6 @@
 // The table program: reads a set, a scheme and the largest length from standard input, and prints a
 // b-file or the line of a refusal. Where reading or writing fails it says so on standard error.
+use bfile::printing::PAGE;
 use bfile::printing::print;
 use libc::STDIN_FILENO;
 use libc::STDOUT_FILENO;
@@ -24,7 +25,7 @@ fn main() {
 
 // Prints the b-file or the line of a refusal.
 fn write_table(lines: Lines) {
-    let mut page = [0u8; 512];
+    let mut page = [0u8; PAGE];
     let n = print(lines, &mut page);
     if !io::write_all(STDOUT_FILENO, &page[..n]) {
         os::fail(b"table: writing standard output");
@@ -36,9 +37,10 @@ fn write_table(lines: Lines) {
 fn read_all() -> Reading
     ensures { λ r. ⌜ ReadsAll r ⌝ }
 {
+    let start = nothing();
     let mut reading = Reading {
         state: State::More,
-        lines: nothing(),
+        lines: start,
     };
     let mut turns = u64::MAX;
     while 0 < turns {

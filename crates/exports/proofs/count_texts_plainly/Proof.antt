@@ -1,4 +1,5 @@
--- `exports::count_texts_plainly` meets its contract: what reading found, and then the plain evaluation.
+-- `exports::count_texts_plainly` meets its contract: what reading found, and then the plain
+-- evaluation.
 -- Assumes nothing.
 use mathlib.Core.Path.{sym, _∙_}
 use Rattle.exports.specs.TextCountLaws.{plain-refused, plain-done}

@@ -1,4 +1,5 @@
--- `lines::input::last_number` meets its contract: one kept byte and two are read, and no or three spell no number.
+-- `lines::input::last_number` meets its contract: one kept byte and two are read, and no or three
+-- spell no number.
 -- Assumes nothing.
 use Prim.Native.Nat.{ℕ}
 use mathlib.Core.Path.{_≡_, sym, ap, _∙_}
