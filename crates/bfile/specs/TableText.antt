@@ -63,7 +63,8 @@ abbrev pub tableText : Option Three → List ℕ
 tableText none = misspeltLine
 tableText (some t) = linesText t
 
--- the b-file of the numbers of permutations of 1 to j that contain none of the patterns, j to n
+-- the b-file of the numbers of permutations of 1 to j that contain none of the patterns, for j
+-- from 0 to n
 abbrev pub avoidersText : List (List ℕ) → ℕ → List ℕ
 avoidersText P n = bfileText (map (λ j. length (avoiders P j)) (row 0 (suc n)))
 
@@ -73,8 +74,9 @@ pub record Prints (lines : Lines) (before after : List ℕ) (r : ℕ) : Type 0 w
   pub text : Writes (tableText (threeIn lines)) 0 before after r
   -- where they were kept of an input, this is the text for the lines of that input
   pub kept : (input : List ℕ) → lines ≡ keptOf input → Writes (tableText (threeLines input)) 0 before after r
-  -- the printed counts are the numbers of avoiders: the two texts are accepted, n is at most 20,
-  -- and the table is long enough
+  -- "If accepted, then .. the count .. is exactly the number of permutations of 1 to n that contain
+  -- none of the patterns": so are the printed counts. Texts are accepted exactly if TextsTrue holds
+  -- of them (JudgesTexts.exactly).
   pub counts : (t : Three) → threeIn lines ≡ some t → (w : TextsTrue (t .set) (t .scheme)) (n : ℕ) → numberIn (t .last) ≡ some n → n ≤ 20 →
       needOf n (w .scheme) ≤ tableCells → Writes (avoidersText (w .patterns) n) 0 before after r
   -- a page of 512 bytes is always enough

@@ -37,10 +37,9 @@ fn write_table(lines: Lines) {
 fn read_all() -> Reading
     ensures { λ r. ⌜ ReadsAll r ⌝ }
 {
-    let start = nothing();
     let mut reading = Reading {
         state: State::More,
-        lines: start,
+        lines: nothing(),
     };
     let mut turns = u64::MAX;
     while 0 < turns {

@@ -38,7 +38,8 @@ returns c =
     let f = c .before .before .before .before .before .before .table-fault in
     let put = c .before .before .put-fault .ensures in
     let h = sym (c .before .before .before .before .before .is-fault .ensures) ∙ c .before .before .before .before .if1 .taken in
-    (rw (← (f .ensures)) (writes-as (put .0) (only-line (f .result) (bfileText (map (countOf P E) (row 0 (suc (a .n))))) h)), put .1)
+    let text = bfileText (map (countOf P E) (row 0 (suc (a .n)))) in
+    (writes-as (put .0) (only-line (f .result) text h ∙ ap (λ (x : Fault). printedOr x text) (f .ensures)), put .1)
 
 slice-aggregate-all-counts : tie.Need-slice-aggregate-all-counts
 slice-aggregate-all-counts c = search needs
