@@ -5,17 +5,16 @@ use native.Mathlib.Numerals.{add-one}
 use native.Mathlib.Omega.{arith}
 use mathlib.Core.Path.{_≡_, refl, sym, ap, ap₂, _∙_}
 use mathlib.Core.Bool.{Bool, true, false, cond}
-use mathlib.Core.List.{List, [], _∷_, map, List·Memᴰ}
+use mathlib.Core.List.{List, [], map, List·Memᴰ}
 use mathlib.Core.Logic.{_⊎_, inl, inr}
 use mathlib.Core.Option.{Option, none, some}
 use lib.ListN.{length, getD, take}
 use lib.Seq.{take-all, length-take-le}
-use lib.Dec.{ltb}
 use borrow.Author.Tests.{lt-ltb}
 use Rattle.word.specs.Lists.{row}
 use Rattle.word.specs.Word.{avoiders}
 use Rattle.word.specs.ListLaws.{true-not-false, below-or-not, map-same, row-out}
-use Rattle.word.specs.Finding.{Finding, firstFault}
+use Rattle.word.specs.Finding.{firstFault}
 use Rattle.word.specs.declared.refusal.Refusal.the-variants.{Oversize}
 use Rattle.scheme.specs.SchemeList.{EntryList}
 use Rattle.scheme.specs.SchemeMemory.{patternsIn, schemeIn, faultOf, orElse, faulty}
@@ -52,7 +51,6 @@ use Rattle.lines.specs.NumberLaws.{number-front}
 use Rattle.lines.specs.CallerLaws.{fronts, frontsIf, kept-three}
 use Rattle.lines.specs.declared.input.Lines.{Lines}
 use Rattle.lines.specs.declared.input.Number.{Number}
-use Rattle.lines.specs.declared.input.Number.the-variants.{Is}
 use Rattle.bfile_text.specs.Printed.{bfileText}
 use Rattle.bfile.specs.TableText.{printedOr, tableCells, lengthText, misspeltLine, numberText, linesText, tableText, avoidersText, Prints, AcceptedLists}
 

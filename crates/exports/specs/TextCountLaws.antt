@@ -1,12 +1,11 @@
 -- Laws of counting on texts: a fault of reading refuses, and else the lists decide.
 use Prim.Native.Nat.{ℕ, _≤_}
-use mathlib.Core.Path.{_≡_, refl, sym, ap, ap₂, _∙_}
+use mathlib.Core.Path.{_≡_, sym, ap, ap₂, _∙_}
 use mathlib.Core.Bool.{true, false}
 use mathlib.Core.List.{List}
 use lib.ListN.{length}
 use Rattle.word.specs.Word.{avoiders}
 use Rattle.word.specs.ListLaws.{true-not-false}
-use Rattle.word.specs.Finding.{firstFault}
 use Rattle.scheme.specs.SchemeList.{EntryList}
 use Rattle.scheme.specs.SchemeMemory.{patternsIn, schemeIn, faultOf, orElse, faulty}
 use Rattle.scheme.specs.declared.memory.Fault.{Fault}
@@ -21,12 +20,10 @@ use Rattle.verdict.specs.VerdictLaws.{accepted-exactly}
 use Rattle.judge.specs.TextJudgement.{TextsTrue}
 use Rattle.judge.specs.TextLaws.{spelt-fault, spelt-list, spelt-scheme-fault, spelt-scheme-list}
 use Rattle.plan.specs.Layout.{needOf}
-use Rattle.value.specs.Value.{countOf}
-use Rattle.counting.specs.Counting.{countTests, plainTests, countedOr, tableAfter, Counts, PlainCounts}
+use Rattle.counting.specs.Counting.{countedOr, tableAfter, Counts, PlainCounts}
 use Rattle.counting.specs.CountLaws.{refused-count, refused-table}
 use Rattle.counting.specs.declared.answer.Counted.{Counted}
-use Rattle.counting.specs.declared.answer.Counted.the-variants.{Count}
-use Rattle.exports.specs.TextCounts.{codeOf, foundIn, countIn, CountsTexts, PlainTexts}
+use Rattle.exports.specs.TextCounts.{codeOf, countIn, CountsTexts, PlainTexts}
 
 -- What was read from the texts s and t.
 module _ (s t : List ℕ) (p : PatternsRead) (reads : (p ≡ patternsAnswer s) × ReadsPatterns s p) (q : SchemeRead)

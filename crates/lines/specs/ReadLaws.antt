@@ -10,7 +10,6 @@ use borrow.Author.Tests.{lt-ltb, ne-eqb}
 use Rattle.lines.specs.declared.input.Lines.{Lines}
 use Rattle.lines.specs.declared.reading.State.the-variants.{More, End, Failed}
 use Rattle.lines.specs.declared.reading.Reading.{Reading}
-use Rattle.lines.specs.Kept.{keptOf}
 use Rattle.lines.specs.KeptWalk.{keptOn}
 use Rattle.lines.specs.KeptLaws.{kept-on}
 use Rattle.lines.specs.Reads.{stateAfter, bytesGot, takenOf, ReadsSome, ReadsAll}

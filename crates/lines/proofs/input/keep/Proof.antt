@@ -1,6 +1,6 @@
 -- `lines::input::keep` meets its contract: what is kept in all is what is kept from the index on.
 -- Assumes nothing.
-use Prim.Native.Nat.{ℕ, _-_, _≤_}
+use Prim.Native.Nat.{_-_, _≤_}
 use native.Mathlib.Omega.{arith}
 use mathlib.Core.Path.{_≡_, refl}
 use lib.ListN.{length, drop, getD}

@@ -8,7 +8,6 @@ use mir.Val.{toZ, ofZ}
 use lib.ListN.{take}
 use Rattle.lines.specs.declared.input.Lines.{Lines}
 use Rattle.lines.specs.declared.reading.State.{State}
-use Rattle.lines.specs.declared.reading.Reading.{Reading}
 use Rattle.lines.specs.KeptWalk.{keptOn}
 use Rattle.lines.specs.Reads.{stateAfter, bytesGot, takenOf}
 use borrow.Author.Needs.{needs}
