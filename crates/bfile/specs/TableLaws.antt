@@ -1,66 +1,97 @@
--- Laws of what the table program prints: the kept part of a line decides, and the counts are the numbers of avoiders.
+-- Laws of what the table program prints: the kept part of a line decides, and the printed counts
+-- are the numbers of avoiders.
 use Prim.Native.Nat.{ℕ, suc, _+_, min, _≤_, _<_}
 use native.Mathlib.Numerals.{add-one}
 use native.Mathlib.Omega.{arith}
 use mathlib.Core.Path.{_≡_, refl, sym, ap, ap₂, _∙_}
 use mathlib.Core.Bool.{Bool, true, false, cond}
-use mathlib.Core.List.{List, [], _∷_, map, List·Memᴰ}
+use mathlib.Core.List.{List, [], map, List·Memᴰ}
 use mathlib.Core.Logic.{_⊎_, inl, inr}
 use mathlib.Core.Option.{Option, none, some}
 use lib.ListN.{length, getD, take}
 use lib.Seq.{take-all, length-take-le}
-use lib.Dec.{ltb}
 use borrow.Author.Tests.{lt-ltb}
 use Rattle.word.specs.Lists.{row}
+use Rattle.word.specs.Word.{avoiders}
 use Rattle.word.specs.ListLaws.{true-not-false, below-or-not, map-same, row-out}
+use Rattle.word.specs.Finding.{firstFault}
 use Rattle.word.specs.declared.refusal.Refusal.the-variants.{Oversize}
 use Rattle.scheme.specs.SchemeList.{EntryList}
-use Rattle.grammar.specs.Tokens.{tokens}
-use Rattle.grammar.specs.Grammar.{readPatterns, readEntries}
-use Rattle.notation.specs.Answers.{answerFrom}
-use Rattle.notation.specs.PatternAnswers.{refusedPatterns, testedPatterns, patternsAnswer}
-use Rattle.notation.specs.SchemeAnswers.{refusedScheme, testedScheme, schemeAnswer}
-use Rattle.notation.specs.declared.patterns.PatternsRead.{PatternsRead}
-use Rattle.notation.specs.declared.schemes.SchemeRead.{SchemeRead}
-use Rattle.value.specs.Value.{countOf}
-use Rattle.count.specs.Run.{Counts}
-use Rattle.scheme.specs.SchemeMemory.{patternsIn, schemeIn}
+use Rattle.scheme.specs.SchemeMemory.{patternsIn, schemeIn, faultOf, orElse, faulty}
 use Rattle.scheme.specs.declared.memory.Patterns.{Patterns}
 use Rattle.scheme.specs.declared.memory.Scheme.{Scheme}
 use Rattle.scheme.specs.declared.memory.Fault.{Fault}
-use Rattle.scheme.specs.declared.memory.Fault.the-variants.{Clean}
-use Rattle.judge.specs.TextJudgement.{verdictRead, verdictOfTexts, JudgesAndReads}
+use Rattle.scheme.specs.declared.memory.Fault.the-variants.{Clean, At}
+use Rattle.grammar.specs.Tokens.{tokens}
+use Rattle.grammar.specs.Grammar.{readPatterns, readEntries}
+use Rattle.writer.specs.Page.{Writes}
+use Rattle.writer.specs.PageLaws.{writes-as}
+use Rattle.notation.specs.Answers.{answerFrom}
+use Rattle.notation.specs.PatternAnswers.{refusedPatterns, testedPatterns, patternsAnswer, ReadsPatterns}
+use Rattle.notation.specs.SchemeAnswers.{refusedScheme, testedScheme, schemeAnswer, ReadsScheme}
+use Rattle.notation.specs.declared.patterns.PatternsRead.{PatternsRead}
+use Rattle.notation.specs.declared.schemes.SchemeRead.{SchemeRead}
+use Rattle.notation.proofs.PatternAnswerLaws as pattern-answers
+use Rattle.notation.proofs.SchemeAnswerLaws as scheme-answers
+use Rattle.verdict.specs.Verdict.{claimTests, comparedCells, answered}
+use Rattle.verdict.specs.VerdictLaws.{claims-clean}
+use Rattle.value.specs.Value.{countOf}
+use Rattle.value.specs.ValueLaws.{count-avoiders}
+use Rattle.plan.specs.Layout.{needOf}
+use Rattle.count.specs.Run.{Counts}
+use Rattle.claims.specs.EntryMemoryLaws.{take-row}
+use Rattle.judge.specs.TextJudgement.{verdictRead, verdictOfTexts, TextsTrue, JudgesAndReads}
+use Rattle.judge.specs.TextLaws.{spelt-fault, spelt-list, spelt-scheme-fault, spelt-scheme-list}
 use Rattle.judge.specs.declared.texts.TextsJudged.{TextsJudged}
 use Rattle.counting.specs.Counting.{faultIn}
-use Rattle.counting.specs.CountLaws.{clean-accepts}
-use Rattle.lines.specs.Lines.{line, Three, threeLines, numberIn}
-use Rattle.lines.specs.Kept.{keptOf, isSome, asNumber}
-use Rattle.lines.specs.CallerLaws.{front-few, set-front, scheme-front, last-number}
+use Rattle.counting.specs.CountLaws.{clean-accepts, table-serves}
+use Rattle.lines.specs.Lines.{Three, threeLines, numberIn}
+use Rattle.lines.specs.Kept.{setRoom, schemeRoom, keptOf, isComplete, heldLines, threeIn, asNumber}
+use Rattle.lines.specs.NumberLaws.{number-front}
+use Rattle.lines.specs.CallerLaws.{fronts, frontsIf, kept-three}
 use Rattle.lines.specs.declared.input.Lines.{Lines}
 use Rattle.lines.specs.declared.input.Number.{Number}
-use Rattle.bfile.specs.TableText.{printedOr, numberText, tableText, AcceptedLists}
-use Rattle.claims.specs.EntryMemoryLaws.{take-row}
+use Rattle.bfile_text.specs.Printed.{bfileText}
+use Rattle.bfile.specs.TableText.{printedOr, tableCells, lengthText, misspeltLine, numberText, linesText, tableText, avoidersText, Prints, AcceptedLists}
 
 -- a longer text is refused whatever it is, so its first bytes are enough
-pub patterns-cut : (s : List ℕ) → patternsAnswer (take 1025 s) ≡ patternsAnswer s
+pub patterns-cut : (s : List ℕ) → patternsAnswer (take setRoom s) ≡ patternsAnswer s
 patterns-cut s = go (below-or-not 1024 (length s))
   where
-    go : (1024 < length s) ⊎ (length s ≤ 1024) → patternsAnswer (take 1025 s) ≡ patternsAnswer s
+    go : (1024 < length s) ⊎ (length s ≤ 1024) → patternsAnswer (take setRoom s) ≡ patternsAnswer s
     go (inl h) =
-        let k : 1024 < length (take 1025 s) = omega (arith, length-take-le 1025 s (omega arith)) in
-        ap (λ (b : Bool). cond b (refusedPatterns Oversize 0) (answerFrom refusedPatterns testedPatterns (readPatterns (tokens (take 1025 s))))) (lt-ltb 1024 (length (take 1025 s)) k) ∙
+        let k : 1024 < length (take setRoom s) = omega (arith, length-take-le setRoom s (omega arith)) in
+        ap (λ (b : Bool). cond b (refusedPatterns Oversize 0) (answerFrom refusedPatterns testedPatterns (readPatterns (tokens (take setRoom s))))) (lt-ltb 1024 (length (take setRoom s)) k) ∙
         sym (ap (λ (b : Bool). cond b (refusedPatterns Oversize 0) (answerFrom refusedPatterns testedPatterns (readPatterns (tokens s)))) (lt-ltb 1024 (length s) h))
-    go (inr h) = ap patternsAnswer (take-all 1025 s (omega arith))
+    go (inr h) = ap patternsAnswer (take-all setRoom s (omega arith))
 
-pub scheme-cut : (s : List ℕ) → schemeAnswer (take 32769 s) ≡ schemeAnswer s
+pub scheme-cut : (s : List ℕ) → schemeAnswer (take schemeRoom s) ≡ schemeAnswer s
 scheme-cut s = go (below-or-not 32768 (length s))
   where
-    go : (32768 < length s) ⊎ (length s ≤ 32768) → schemeAnswer (take 32769 s) ≡ schemeAnswer s
+    go : (32768 < length s) ⊎ (length s ≤ 32768) → schemeAnswer (take schemeRoom s) ≡ schemeAnswer s
     go (inl h) =
-        let k : 32768 < length (take 32769 s) = omega (arith, length-take-le 32769 s (omega arith)) in
-        ap (λ (b : Bool). cond b (refusedScheme Oversize 0) (answerFrom refusedScheme testedScheme (readEntries (tokens (take 32769 s))))) (lt-ltb 32768 (length (take 32769 s)) k) ∙
+        let k : 32768 < length (take schemeRoom s) = omega (arith, length-take-le schemeRoom s (omega arith)) in
+        ap (λ (b : Bool). cond b (refusedScheme Oversize 0) (answerFrom refusedScheme testedScheme (readEntries (tokens (take schemeRoom s))))) (lt-ltb 32768 (length (take schemeRoom s)) k) ∙
         sym (ap (λ (b : Bool). cond b (refusedScheme Oversize 0) (answerFrom refusedScheme testedScheme (readEntries (tokens s)))) (lt-ltb 32768 (length s) h))
-    go (inr h) = ap schemeAnswer (take-all 32769 s (omega arith))
+    go (inr h) = ap schemeAnswer (take-all schemeRoom s (omega arith))
+
+-- the text by what was read of the set and of the scheme, and the number
+abbrev readText : PatternsRead → SchemeRead → Number → List ℕ
+readText p q n = printedOr (faultIn (verdictRead p q)) (numberText (patternsIn (p .patterns)) (schemeIn (q .scheme)) n)
+
+-- so the first bytes of the three lines are enough
+pub fronts-text : (t : Three) → linesText (fronts t) ≡ linesText t
+fronts-text t =
+    ap₂ (λ (p : PatternsRead) (q : SchemeRead). readText p q (asNumber (numberIn (take 3 (t .last))))) (patterns-cut (t .set)) (scheme-cut (t .scheme)) ∙
+    ap (λ (n : Option ℕ). readText (patternsAnswer (t .set)) (schemeAnswer (t .scheme)) (asNumber n)) (number-front (t .last))
+
+fronts-table : (o : Option Three) → tableText (frontsIf o) ≡ tableText o
+fronts-table none = refl
+fronts-table (some t) = fronts-text t
+
+-- what was kept of an input decides as the input does
+pub kept-text : (input : List ℕ) → tableText (threeIn (keptOf input)) ≡ tableText (threeLines input)
+kept-text input = ap tableText (kept-three input) ∙ fronts-table (threeLines input)
 
 -- the counts in memory are those that are printed
 pub counts-taken : (P : List (List ℕ)) (E : List EntryList) (n : ℕ) (counts : List ℕ) → n ≤ 20 → Counts P E n counts →
@@ -69,66 +100,106 @@ counts-taken P E n counts h c =
     ap (λ m. take m counts) (add-one n) ∙ take-row counts 0 (suc n) (omega (arith, c .size)) ∙
     map-same (λ i. getD counts i 0) (countOf P E) (row 0 (suc n)) (λ (i : ℕ) (m : List·Memᴰ i (row 0 (suc n))). c .upto i (omega (arith, row-out 0 (suc n) m)))
 
--- the smaller of two numbers
-least-left : (a b : ℕ) → a ≤ b → min a b ≡ a
-least-left a b h = omega arith
-
 -- the lists of an accepted verdict
 pub accepted-lists : (s t : List ℕ) (j : TextsJudged) → JudgesAndReads s t j → (f : Fault) → f ≡ faultIn (j .verdict) → f ≡ Clean → AcceptedLists (j .patterns) (j .scheme)
 accepted-lists s t j judges f is found =
     let a = clean-accepts (j .verdict) (sym is ∙ found) in
     record { formed = judges .formed a; claims = judges .claims a }
 
--- whether there is something
-pub none-of : (o : Option Three) → isSome o ≡ false → o ≡ none
-none-of none e = refl
-none-of (some t) e = absurd (true-not-false e)
+-- Where the two texts of three lines are accepted, the text is that of the numbers of avoiders.
+module _ (t : Three) (w : TextsTrue (t .set) (t .scheme)) where
+  abbrev p : PatternsRead
+  p = patternsAnswer (t .set)
 
-pub some-of : (o : Option Three) → isSome o ≡ true → (t : Three) × (o ≡ some t)
-some-of none e = absurd (true-not-false (sym e))
-some-of (some t) e = (t, refl)
+  abbrev q : SchemeRead
+  q = schemeAnswer (t .scheme)
 
--- What was kept of an input with three lines decides as the lines do.
-module _ (lines : Lines) (input : List ℕ) (k : lines ≡ keptOf input) (t : Three) (e : threeLines input ≡ some t) where
-  kept-set : take (min (lines .«set_length») 1025) (lines .set) ≡ take 1025 (t .set)
-  unfolding keptOf
-  kept-set =
-      ap₂ (λ (n : ℕ) (l : List ℕ). take (min n 1025) l) (ap (λ (x : Lines). x .«set_length») k) (ap (λ (x : Lines). x .set) k) ∙
-      ap (λ (n : ℕ). take n ((keptOf input) .set)) (least-left ((keptOf input) .«set_length») 1025 (front-few 1025 (line 0 input))) ∙
-      set-front input t e
+  reads : ReadsPatterns (t .set) p
+  reads = pattern-answers.answered (t .set) p refl .1
 
-  kept-scheme : take (min (lines .«scheme_length») 32769) (lines .scheme) ≡ take 32769 (t .scheme)
-  unfolding keptOf
-  kept-scheme =
-      ap₂ (λ (n : ℕ) (l : List ℕ). take (min n 32769) l) (ap (λ (x : Lines). x .«scheme_length») k) (ap (λ (x : Lines). x .scheme) k) ∙
-      ap (λ (n : ℕ). take n ((keptOf input) .scheme)) (least-left ((keptOf input) .«scheme_length») 32769 (front-few 32769 (line 1 input))) ∙
-      scheme-front input t e
+  reads-scheme : ReadsScheme (t .scheme) q
+  reads-scheme = scheme-answers.answered (t .scheme) q refl .1
 
-  module _ (j : TextsJudged)
-      (judges : JudgesAndReads (take (min (lines .«set_length») 1025) (lines .set)) (take (min (lines .«scheme_length») 32769) (lines .scheme)) j) where
-    set-answer : patternsAnswer (take (min (lines .«set_length») 1025) (lines .set)) ≡ patternsAnswer (t .set)
-    set-answer = ap patternsAnswer kept-set ∙ patterns-cut (t .set)
+  set-clean : p .fault ≡ Clean
+  set-clean = spelt-fault (t .set) p reads (w .patterns) (w .short) (w .spells) ∙ ap faultOf (w .formed .patterns)
 
-    scheme-answer : schemeAnswer (take (min (lines .«scheme_length») 32769) (lines .scheme)) ≡ schemeAnswer (t .scheme)
-    scheme-answer = ap schemeAnswer kept-scheme ∙ scheme-cut (t .scheme)
+  scheme-clean : q .fault ≡ Clean
+  scheme-clean = spelt-scheme-fault (t .scheme) q reads-scheme (w .scheme) (w .short-scheme) (w .spells-scheme) ∙ ap faultOf (w .formed .scheme)
 
-    verdict-kept : j .verdict ≡ verdictOfTexts (t .set) (t .scheme)
-    verdict-kept = judges .judges .verdict ∙ ap₂ verdictRead set-answer scheme-answer
+  set-list : patternsIn (p .patterns) ≡ w .patterns
+  set-list = spelt-list (t .set) p reads (w .patterns) (w .short) (w .spells) set-clean
 
-    -- a refused line
-    pub refused-text : (f : Fault) → f ≡ faultIn (j .verdict) →
-        tableText (threeLines input) ≡ printedOr f (numberText (patternsIn ((patternsAnswer (t .set)) .patterns)) (schemeIn ((schemeAnswer (t .scheme)) .scheme)) (asNumber (numberIn (t .last))))
-    refused-text f is =
-        ap tableText e ∙
-        ap (λ (x : Fault). printedOr x (numberText (patternsIn ((patternsAnswer (t .set)) .patterns)) (schemeIn ((schemeAnswer (t .scheme)) .scheme)) (asNumber (numberIn (t .last)))))
-        (sym (is ∙ ap faultIn verdict-kept))
+  scheme-list : schemeIn (q .scheme) ≡ w .scheme
+  scheme-list = spelt-scheme-list (t .scheme) q reads-scheme (w .scheme) (w .short-scheme) (w .spells-scheme) scheme-clean
+
+  claims-so : faultOf (firstFault (claimTests (patternsIn (p .patterns)) (schemeIn (q .scheme)))) ≡ Clean
+  claims-so = ap₂ (λ (P : List (List ℕ)) (E : List EntryList). faultOf (firstFault (claimTests P E))) set-list scheme-list ∙ ap faultOf (claims-clean (w .patterns) (w .scheme) (w .formed .scheme) (w .claims))
+
+  accepted-so : faultIn (verdictOfTexts (t .set) (t .scheme)) ≡ Clean
+  accepted-so =
+      ap₂ (λ (x y : Fault). faultIn (answered (orElse x (orElse y (faultOf (firstFault (claimTests (patternsIn (p .patterns)) (schemeIn (q .scheme))))))) (comparedCells (patternsIn (p .patterns)) (schemeIn (q .scheme)))))
+      set-clean scheme-clean ∙
+      ap (λ (x : Fault). faultIn (answered x (comparedCells (patternsIn (p .patterns)) (schemeIn (q .scheme))))) claims-so
+
+  -- the counts of 01 are the numbers of avoiders
+  counts-so : (n : ℕ) → map (countOf (w .patterns) (w .scheme)) (row 0 (suc n)) ≡ map (λ j. length (avoiders (w .patterns) j)) (row 0 (suc n))
+  counts-so n =
+      map-same (countOf (w .patterns) (w .scheme)) (λ j. length (avoiders (w .patterns) j)) (row 0 (suc n))
+      (λ (j : ℕ) (m : List·Memᴰ j (row 0 (suc n))). count-avoiders (w .patterns) (w .scheme) (w .formed) (w .claims) j)
+
+  pub counts-text : (n : ℕ) → numberIn (t .last) ≡ some n → n ≤ 20 → needOf n (w .scheme) ≤ tableCells → linesText t ≡ avoidersText (w .patterns) n
+  counts-text n e h k =
+      ap₂ (λ (f : Fault) (o : Option ℕ). printedOr f (numberText (patternsIn (p .patterns)) (schemeIn (q .scheme)) (asNumber o))) accepted-so e ∙
+      ap₂ (λ (P : List (List ℕ)) (E : List EntryList). lengthText P E n) set-list scheme-list ∙
+      ap (λ (f : Fault). printedOr f (bfileText (map (countOf (w .patterns) (w .scheme)) (row 0 (suc n))))) (table-serves (w .scheme) n tableCells h k) ∙
+      ap bfileText (counts-so n)
+
+-- what is written for the lines in memory keeps the promise
+pub prints : (lines : Lines) (before after : List ℕ) (r : ℕ) → Writes (tableText (threeIn lines)) 0 before after r → r ≤ 512 → Prints lines before after r
+prints lines before after r w few =
+    record {
+      text = w;
+      kept = λ input k. writes-as w (ap (λ (l : Lines). tableText (threeIn l)) k ∙ kept-text input);
+      counts = λ t e v n d h m. writes-as w (ap tableText e ∙ counts-text t v n d h m);
+      fits = few;
+    }
+
+-- the line of a refusal asks for no text
+pub only-line : (g : Fault) (text : List ℕ) → faulty g ≡ true → printedOr g [] ≡ printedOr g text
+only-line Clean text h = absurd (true-not-false (sym h))
+only-line (At r i) text h = refl
+
+-- as many bytes of an array as are asked for, or all
+pub take-least : (l : List ℕ) (a n : ℕ) → length l ≡ n → take (min a n) l ≡ take a l
+take-least l a n e = go (below-or-not a n)
+  where
+    go : (a < n) ⊎ (n ≤ a) → take (min a n) l ≡ take a l
+    go (inl h) = let k : min a n ≡ a = omega arith in ap (λ (m : ℕ). take m l) k
+    go (inr h) = let k : min a n ≡ n = omega arith in ap (λ (m : ℕ). take m l) k ∙ take-all n l (omega arith) ∙ sym (take-all a l (omega arith))
+
+-- The text for the lines in memory, as the code comes to it.
+module _ (k : Lines) where
+  pub missing-text : isComplete k ≡ false → misspeltLine ≡ tableText (threeIn k)
+  missing-text e = sym (ap (λ (b : Bool). tableText (cond b (some (heldLines k)) none)) e)
+
+  abbrev given : List ℕ
+  given = numberText (patternsIn ((patternsAnswer (heldLines k .set)) .patterns)) (schemeIn ((schemeAnswer (heldLines k .scheme)) .scheme)) (asNumber (numberIn (heldLines k .last)))
+
+  there-text : isComplete k ≡ true → tableText (threeIn k) ≡ linesText (heldLines k)
+  there-text e = ap (λ (b : Bool). tableText (cond b (some (heldLines k)) none)) e
+
+  module _ (there : isComplete k ≡ true) (j : TextsJudged) (judges : JudgesAndReads (heldLines k .set) (heldLines k .scheme) j) (f : Fault)
+      (is : f ≡ faultIn (j .verdict)) where
+    fault-so : f ≡ faultIn (verdictOfTexts (heldLines k .set) (heldLines k .scheme))
+    fault-so = is ∙ ap faultIn (judges .judges .verdict)
+
+    pub refused-text : faulty f ≡ true → printedOr f [] ≡ tableText (threeIn k)
+    refused-text h = only-line f given h ∙ ap (λ (x : Fault). printedOr x given) fault-so ∙ sym (there-text there)
 
     -- accepted lines: the number decides
-    pub accepted-text : (f : Fault) → f ≡ faultIn (j .verdict) → f ≡ Clean → (m : Number) → m ≡ asNumber (numberIn (line 2 input)) →
-        tableText (threeLines input) ≡ numberText (patternsIn (j .patterns)) (schemeIn (j .scheme)) m
-    accepted-text f is found m number =
-        refused-text f is ∙
-        ap (λ (x : Fault). printedOr x (numberText (patternsIn ((patternsAnswer (t .set)) .patterns)) (schemeIn ((schemeAnswer (t .scheme)) .scheme)) (asNumber (numberIn (t .last))))) found ∙
-        ap₂ (λ (p : Patterns) (q : Scheme). numberText (patternsIn p) (schemeIn q) (asNumber (numberIn (t .last))))
-        (sym (judges .patterns ∙ ap (λ (x : PatternsRead). x .patterns) set-answer)) (sym (judges .scheme ∙ ap (λ (x : SchemeRead). x .scheme) scheme-answer)) ∙
-        ap (numberText (patternsIn (j .patterns)) (schemeIn (j .scheme))) (sym (number ∙ last-number input t e))
+    pub accepted-text : f ≡ Clean → (m : Number) → m ≡ asNumber (numberIn (heldLines k .last)) →
+        numberText (patternsIn (j .patterns)) (schemeIn (j .scheme)) m ≡ tableText (threeIn k)
+    accepted-text found m number =
+        ap (numberText (patternsIn (j .patterns)) (schemeIn (j .scheme))) number ∙
+        ap₂ (λ (x : Patterns) (y : Scheme). numberText (patternsIn x) (schemeIn y) (asNumber (numberIn (heldLines k .last)))) (judges .patterns) (judges .scheme) ∙
+        ap (λ (x : Fault). printedOr x given) (sym found ∙ fault-so) ∙ sym (there-text there)

@@ -18,20 +18,24 @@ use scheme::memory::Scheme;
 use scheme::order::is_fault;
 use word::refusal::Refusal;
 ghost use mathlib.Core.Path.{_≡_};
+ghost use mathlib.Core.List.{[]};
 ghost use Prim.Native.Nat.{_≤_, min};
 ghost use lib.ListN.{take};
 ghost use Rattle.scheme.specs.SchemeMemory.{patternsIn, schemeIn};
 ghost use Rattle.writer.specs.Page.{Writes};
 ghost use Rattle.judge.specs.TextJudgement.{JudgesAndReads};
-ghost use Rattle.bfile.specs.TableText.{numberText, lengthText, Prints, PrintsFault, AcceptedLists};
+ghost use Rattle.lines.specs.Kept.{heldLines};
+ghost use Rattle.bfile.specs.TableText.{printedOr, numberText, lengthText, Prints, AcceptedLists};
 
 // "It holds 4,096 cells" (01)
 pub const CELLS: usize = 4096;
 
-// Writes what is to be printed at the start of the page; the number of bytes. A page of 512 bytes is always enough. What is printed for lines that were kept
-// of no input is left open: then the result is at most 512.
+// A page of so many bytes is always enough.
+pub const PAGE: usize = 512;
+
+// Writes what is to be printed at the start of the page; the number of bytes.
 pub fn print(lines: Lines, page: &mut [u8]) -> usize
-    ensures { λ r. ⌜ Prints lines (now (page .entry)) (now (page .exit)) r × (r ≤ 512) ⌝ }
+    ensures { λ r. ⌜ Prints lines (now (page .entry)) (now (page .exit)) r ⌝ }
 {
     // "A missing line or a fourth is misspelt, tested before all else" (01)
     if !complete(lines) {
@@ -49,7 +53,7 @@ pub fn print(lines: Lines, page: &mut [u8]) -> usize
 
 // The verdict on the first two lines, as far as they were kept.
 fn judge_lines(lines: Lines) -> TextsJudged
-    ensures { λ r. ⌜ JudgesAndReads (take (min (lines .«set_length») 1025) (lines .set)) (take (min (lines .«scheme_length») 32769) (lines .scheme)) r ⌝ }
+    ensures { λ r. ⌜ JudgesAndReads (heldLines lines .set) (heldLines lines .scheme) r ⌝ }
 {
     let set = lines.set;
     let scheme = lines.scheme;
@@ -58,7 +62,7 @@ fn judge_lines(lines: Lines) -> TextsJudged
 
 // The verdict on the first bytes of two arrays: as many as are asked for, or all.
 fn judge_parts(set: [u8; SET], a: usize, scheme: [u8; SCHEME], b: usize) -> TextsJudged
-    ensures { λ r. ⌜ JudgesAndReads (take (min a 1025) set) (take (min b 32769) scheme) r ⌝ }
+    ensures { λ r. ⌜ JudgesAndReads (take a set) (take b scheme) r ⌝ }
 {
     let m = least(a, SET);
     let n = least(b, SCHEME);
@@ -74,7 +78,7 @@ fn least(a: usize, b: usize) -> usize
 
 // Writes the line of a refusal, or nothing.
 fn put_fault(page: &mut [u8], fault: Fault) -> usize
-    ensures { λ r. ⌜ PrintsFault fault (now (page .entry)) (now (page .exit)) r × (r ≤ 512) ⌝ }
+    ensures { λ r. ⌜ Writes (printedOr fault []) 0 (now (page .entry)) (now (page .exit)) r × (r ≤ 512) ⌝ }
 {
     match fault {
         Fault::Clean => 0,

@@ -20,7 +20,7 @@ digits-same (suc f) zero (suc m) h k = absurd (omega arith)
 digits-same (suc f) (suc g) zero h k = refl
 digits-same (suc f) (suc g) (suc m) h k = ap (λ (l : List ℕ). l ++ last (suc m)) (digits-same f g (suc m / 10) (omega arith) (omega arith))
 
-digits-none : (f : ℕ) → digitsOf f 0 ≡ []
+pub digits-none : (f : ℕ) → digitsOf f 0 ≡ []
 unfolding digitsOf
 digits-none zero = refl
 digits-none (suc f) = refl

@@ -1,10 +1,11 @@
 -- The bytes that the table program prints. Definitions only.
 use Prim.Native.Nat.{ℕ, zero, suc, _+_, _/_, _%_}
 use mathlib.Core.List.{List, [], _∷_, _++_}
-use Rattle.word.specs.declared.refusal.Refusal.{Refusal}
-use Rattle.word.specs.Refusal.{numberOf}
+use lib.ListN.{getD}
+use Rattle.word.specs.Told.{Told}
 
--- the digits of a number in base 10, in ASCII, and none for 0; f is as large as the number or larger
+-- the digits of a number in base 10, in ASCII, and none for 0; f is as large as the number or
+-- larger
 unfoldable pub digitsOf : ℕ → ℕ → List ℕ
 digitsOf zero n = []
 digitsOf (suc f) zero = []
@@ -30,6 +31,7 @@ bfileText counts = countLines 0 counts
 abbrev pub refused : List ℕ
 refused = 0x72 ∷ 0x65 ∷ 0x66 ∷ 0x75 ∷ 0x73 ∷ 0x65 ∷ 0x64 ∷ []
 
--- "or the one line `refused`, number and index, with single spaces between"
-abbrev pub refusalLine : Refusal → ℕ → List ℕ
-refusalLine r i = refused ++ (0x20 ∷ (decimal (numberOf r) ++ (0x20 ∷ (decimal i ++ (0x0A ∷ [])))))
+-- "or the one line `refused`, number and index, with single spaces between": of an answer in the
+-- numbers of document 01
+abbrev pub refusalLine : Told → List ℕ
+refusalLine t = refused ++ (0x20 ∷ (decimal (t .number) ++ (0x20 ∷ (decimal (getD (t .values) 0 0) ++ (0x0A ∷ [])))))

@@ -1,10 +1,13 @@
-// Counts as an OEIS b-file, or a refusal, written over a lent page. Bytes behind the end of the page are dropped; 512 bytes are always enough.
+// Counts as an OEIS b-file, or a refusal, written over a lent page. Bytes behind the end of the
+// page are dropped; 512 bytes are always enough.
 use word::refusal::Refusal;
 use word::refusal::number;
 ghost use mathlib.Core.Path.{_≡_};
 ghost use mathlib.Core.List.{[], _∷_};
 ghost use lib.ListN.{length, take};
 ghost use Prim.Native.Nat.{_+_, _≤_};
+ghost use Rattle.word.specs.Finding.{fault};
+ghost use Rattle.word.specs.Told.{toldBy};
 ghost use Rattle.writer.specs.Page.{Writes};
 ghost use Rattle.bfile_text.specs.Printed.{decimal, countLine, bfileText, refusalLine};
 
@@ -94,7 +97,7 @@ fn wide(x: u8) -> u64
 
 // Writes the line of a refusal.
 pub fn put_refusal(page: &mut [u8], refusal: Refusal, index: usize) -> usize
-    ensures { λ r. ⌜ Writes (refusalLine refusal index) 0 (now (page .entry)) (now (page .exit)) r × (r ≤ 512) ⌝ }
+    ensures { λ r. ⌜ Writes (refusalLine (toldBy (fault refusal index) [])) 0 (now (page .entry)) (now (page .exit)) r × (r ≤ 512) ⌝ }
 {
     let space = put_bytes(page, 0, &REFUSED);
     let second = put(page, space, b' ');

@@ -1,29 +1,63 @@
 -- Laws of counting on texts: a fault of reading refuses, and else the lists decide.
-use Prim.Native.Nat.{ℕ}
-use mathlib.Core.Path.{_≡_, refl, sym, ap, ap₂, _∙_}
+use Prim.Native.Nat.{ℕ, _≤_}
+use mathlib.Core.Path.{_≡_, sym, ap, ap₂, _∙_}
 use mathlib.Core.Bool.{true, false}
 use mathlib.Core.List.{List}
 use lib.ListN.{length}
-use Rattle.word.specs.Finding.{firstFault}
+use Rattle.word.specs.Word.{avoiders}
+use Rattle.word.specs.ListLaws.{true-not-false}
+use Rattle.scheme.specs.SchemeList.{EntryList}
 use Rattle.scheme.specs.SchemeMemory.{patternsIn, schemeIn, faultOf, orElse, faulty}
 use Rattle.scheme.specs.declared.memory.Fault.{Fault}
+use Rattle.scheme.specs.declared.memory.Fault.the-variants.{Clean}
 use Rattle.wellformed.proofs.OrderLaws.{or-else-fault, or-else-clean}
-use Rattle.notation.specs.PatternAnswers.{patternsAnswer}
-use Rattle.notation.specs.SchemeAnswers.{schemeAnswer}
+use Rattle.notation.specs.PatternAnswers.{patternsAnswer, ReadsPatterns}
+use Rattle.notation.specs.SchemeAnswers.{schemeAnswer, ReadsScheme}
 use Rattle.notation.specs.declared.patterns.PatternsRead.{PatternsRead}
 use Rattle.notation.specs.declared.schemes.SchemeRead.{SchemeRead}
+use Rattle.verdict.specs.Verdict.{verdictOf, accepted}
+use Rattle.verdict.specs.VerdictLaws.{accepted-exactly}
+use Rattle.judge.specs.TextJudgement.{TextsTrue}
+use Rattle.judge.specs.TextLaws.{spelt-fault, spelt-list, spelt-scheme-fault, spelt-scheme-list}
 use Rattle.plan.specs.Layout.{needOf}
-use Rattle.value.specs.Value.{countOf}
-use Rattle.counting.specs.Counting.{countTests, plainTests, countedOr, tableAfter, Counts, PlainCounts}
+use Rattle.counting.specs.Counting.{countedOr, tableAfter, Counts, PlainCounts}
 use Rattle.counting.specs.CountLaws.{refused-count, refused-table}
 use Rattle.counting.specs.declared.answer.Counted.{Counted}
-use Rattle.exports.specs.TextCounts.{codeOf, foundIn, countIn, CountsTexts, PlainTexts}
+use Rattle.exports.specs.TextCounts.{codeOf, countIn, CountsTexts, PlainTexts}
 
 -- What was read from the texts s and t.
-module _ (s t : List ℕ) (p : PatternsRead) (is : p ≡ patternsAnswer s) (q : SchemeRead) (is-scheme : q ≡ schemeAnswer t) (f : Fault)
-    (found : f ≡ orElse (p .fault) (q .fault)) where
+module _ (s t : List ℕ) (p : PatternsRead) (reads : (p ≡ patternsAnswer s) × ReadsPatterns s p) (q : SchemeRead)
+    (reads-scheme : (q ≡ schemeAnswer t) × ReadsScheme t q) (f : Fault) (found : f ≡ orElse (p .fault) (q .fault)) where
+  is : p ≡ patternsAnswer s
+  is = reads .0
+
+  is-scheme : q ≡ schemeAnswer t
+  is-scheme = reads-scheme .0
+
   read-fault : f ≡ orElse ((patternsAnswer s) .fault) ((schemeAnswer t) .fault)
   read-fault = found ∙ ap₂ (λ (x : PatternsRead) (y : SchemeRead). orElse (x .fault) (y .fault)) is is-scheme
+
+  -- accepted texts are read without a fault, and their lists are accepted
+  module _ (w : TextsTrue s t) where
+    set-clean : p .fault ≡ Clean
+    set-clean = spelt-fault s p (reads .1) (w .patterns) (w .short) (w .spells) ∙ ap faultOf (w .formed .patterns)
+
+    scheme-clean : q .fault ≡ Clean
+    scheme-clean = spelt-scheme-fault t q (reads-scheme .1) (w .scheme) (w .short-scheme) (w .spells-scheme) ∙ ap faultOf (w .formed .scheme)
+
+    none-found : faulty f ≡ false
+    none-found = ap faulty (found ∙ ap₂ orElse set-clean scheme-clean)
+
+    set-list : patternsIn (p .patterns) ≡ w .patterns
+    set-list = spelt-list s p (reads .1) (w .patterns) (w .short) (w .spells) set-clean
+
+    scheme-list : schemeIn (q .scheme) ≡ w .scheme
+    scheme-list = spelt-scheme-list t q (reads-scheme .1) (w .scheme) (w .short-scheme) (w .spells-scheme) scheme-clean
+
+    lists-accepted : accepted (verdictOf (patternsIn (p .patterns)) (schemeIn (q .scheme))) ≡ true
+    lists-accepted =
+        ap₂ (λ (P : List (List ℕ)) (E : List EntryList). accepted (verdictOf P E)) set-list scheme-list ∙
+        accepted-exactly (w .patterns) (w .scheme) .1 (w .formed, w .claims)
 
   -- a fault of reading
   module _ (h : faulty f ≡ true) (g : Fault) (v : ℕ) (c : Counted) (e : c ≡ countedOr f 0) where
@@ -41,10 +75,15 @@ module _ (s t : List ℕ) (p : PatternsRead) (is : p ≡ patternsAnswer s) (q : 
       record {
         answer = k ∙ ap codeOf (refused-so h _ (countIn s t n) c e);
         table = kept-so h _ (countIn s t n) c e (needOf n (schemeIn ((schemeAnswer t) .scheme))) T;
+        counts = λ w a b. absurd (true-not-false (sym h ∙ none-found w));
       }
 
   pub plain-refused : faulty f ≡ true → (n : ℕ) (c : Counted) (r : ℕ) → c ≡ countedOr f 0 → r ≡ codeOf c → PlainTexts s t n r
-  plain-refused h n c r e k = record { answer = k ∙ ap codeOf (refused-so h _ (countIn s t n) c e) }
+  plain-refused h n c r e k =
+      record {
+        answer = k ∙ ap codeOf (refused-so h _ (countIn s t n) c e);
+        counts = λ w a. absurd (true-not-false (sym h ∙ none-found w));
+      }
 
   -- none
   module _ (h : faulty f ≡ false) where
@@ -57,13 +96,20 @@ module _ (s t : List ℕ) (p : PatternsRead) (is : p ≡ patternsAnswer s) (q : 
         record {
           answer = k ∙ ap codeOf (moved .answer ∙ ap (λ (x : Fault). countedOr x (countIn s t n)) (then-found _));
           table = moved .table ∙ ap (λ (x : Fault). tableAfter x (needOf n (schemeIn ((schemeAnswer t) .scheme))) T) (then-found _);
+          counts = λ (w : TextsTrue s t) (a : n ≤ 20) (b : needOf n (w .scheme) ≤ length T).
+              k ∙ ap codeOf (d .counts (lists-accepted w) a (rw (scheme-list w) b)) ∙ ap (λ (P : List (List ℕ)). length (avoiders P n)) (set-list w);
         }
       where
         moved : Counts (patternsIn ((patternsAnswer s) .patterns)) (schemeIn ((schemeAnswer t) .scheme)) n T T' c
         moved = rw (← is, ← is-scheme) d
 
     pub plain-done : (n : ℕ) (c : Counted) (r : ℕ) → PlainCounts (patternsIn (p .patterns)) (schemeIn (q .scheme)) n c → r ≡ codeOf c → PlainTexts s t n r
-    plain-done n c r d k = record { answer = k ∙ ap codeOf (moved .answer ∙ ap (λ (x : Fault). countedOr x (countIn s t n)) (then-found _)) }
+    plain-done n c r d k =
+        record {
+          answer = k ∙ ap codeOf (moved .answer ∙ ap (λ (x : Fault). countedOr x (countIn s t n)) (then-found _));
+          counts = λ (w : TextsTrue s t) (a : n ≤ 9).
+              k ∙ ap codeOf (d .counts (lists-accepted w) a) ∙ ap (λ (P : List (List ℕ)). length (avoiders P n)) (set-list w);
+        }
       where
         moved : PlainCounts (patternsIn ((patternsAnswer s) .patterns)) (schemeIn ((schemeAnswer t) .scheme)) n c
         moved = rw (← is, ← is-scheme) d

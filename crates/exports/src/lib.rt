@@ -1,4 +1,5 @@
-// Counting on two texts with a C calling convention, for the differential test and the benchmark of bench/.
+// Counting on two texts with a C calling convention, for the differential test and the benchmark of
+// bench/.
 use counting::answer::Counted;
 use counting::answer::count_or;
 use counting::by_table::count;
@@ -11,7 +12,8 @@ use word::refusal::number;
 ghost use mathlib.Core.Path.{_≡_};
 ghost use Rattle.exports.specs.TextCounts.{codeOf, CountsTexts, PlainTexts};
 
-// The count for n by the scheme that a text spells: the count itself, or 2 to the 64 less 1 and less the number of the refusal.
+// The count for n by the scheme that a text spells: the count itself, or 2 to the 64 less 1 and
+// less the number of the refusal.
 #[no_mangle]
 pub extern "C" fn count_texts(patterns: &[u8], scheme: &[u8], n: usize, table: &mut [u64]) -> u64
     ensures { λ r. ⌜ CountsTexts (now (patterns .entry)) (now (scheme .entry)) n (now (table .entry)) (now (table .exit)) r ⌝ }

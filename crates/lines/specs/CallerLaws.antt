@@ -1,14 +1,15 @@
--- What is kept of an input says of its three lines.
-use Prim.Native.Nat.{ℕ, zero, suc, _≤_, _<_}
+-- What is kept of an input holds the first bytes of its three lines.
+use Prim.Native.Nat.{ℕ, zero, suc}
+use mathlib.Core.Path.{_≡_, refl, sym, ap}
 use native.Mathlib.Omega.{arith}
-use mathlib.Core.Path.{_≡_, refl, sym, ap, _∙_}
-use mathlib.Core.Bool.{false, not}
+use mathlib.Core.Bool.{false, not, _&&_, cond}
 use mathlib.Core.List.{List, [], _∷_}
-use mathlib.Core.Option.{none, some, Option·some-injective, Option·none-ne-some}
-use lib.ListN.{length, take, getD}
-use Rattle.lines.specs.Lines.{line, behind, Three, unlessFourth, threeLines, numberIn}
-use Rattle.lines.specs.Kept.{held, heldLength, hasBytes, keptOf, isSome, asNumber}
-use Rattle.lines.specs.NumberLaws.{number-of-one, number-of-two, number-of-other}
+use mathlib.Core.Option.{Option, none, some, Option·some-injective, Option·none-ne-some}
+use lib.ListN.{take}
+use lib.Dec.{eqb}
+use borrow.Author.Tests.{ne-eqb}
+use Rattle.lines.specs.Lines.{line, behind, Three, unlessFourth, threeLines}
+use Rattle.lines.specs.Kept.{setRoom, schemeRoom, lastRoom, held, heldLength, hasBytes, keptOf, heldLines, threeIn}
 
 -- the kept bytes of a line are its first bytes
 pub held-front : (n : ℕ) (l : List ℕ) → take (heldLength n l) (held n l) ≡ take n l
@@ -17,79 +18,44 @@ held-front zero l = refl
 held-front (suc n) [] = refl
 held-front (suc n) (b ∷ l) = ap (λ (r : List ℕ). b ∷ r) (held-front n l)
 
+abbrev linesOf : List ℕ → Three
+linesOf s = record { set = line 0 s; scheme = line 1 s; last = line 2 s }
+
 -- where there are three lines, they are these
-pub three-lines : (s : List ℕ) (t : Three) → threeLines s ≡ some t → t ≡ record { set = line 0 s; scheme = line 1 s; last = line 2 s }
+pub three-lines : (s : List ℕ) (t : Three) → threeLines s ≡ some t → t ≡ linesOf s
 three-lines s t e = sym (split (line 2 s) (behind 3 s) e)
   where
-    split : (l r : List ℕ) → unlessFourth l r (record { set = line 0 s; scheme = line 1 s; last = line 2 s }) ≡ some t
-        → record { set = line 0 s; scheme = line 1 s; last = line 2 s } ≡ t
+    split : (l r : List ℕ) → unlessFourth l r (linesOf s) ≡ some t → linesOf s ≡ t
     split [] r p = absurd (Option·none-ne-some t p)
     split (b ∷ l) [] p = Option·some-injective _ _ p
     split (b ∷ l) (c ∷ r) p = absurd (Option·none-ne-some t p)
 
-module _ (s : List ℕ) (t : Three) (e : threeLines s ≡ some t) where
-  pub set-front : take (keptOf s .«set_length») (keptOf s .set) ≡ take 1025 (t .set)
-  unfolding keptOf
-  set-front = held-front 1025 (line 0 s) ∙ ap (λ (x : Three). take 1025 (x .set)) (sym (three-lines s t e))
+-- as many bytes of each line as there is room for
+abbrev pub fronts : Three → Three
+fronts t =
+    record {
+      set = take setRoom (t .set);
+      scheme = take schemeRoom (t .scheme);
+      last = take lastRoom (t .last);
+    }
 
-  pub scheme-front : take (keptOf s .«scheme_length») (keptOf s .scheme) ≡ take 32769 (t .scheme)
-  unfolding keptOf
-  scheme-front = held-front 32769 (line 1 s) ∙ ap (λ (x : Three). take 32769 (x .scheme)) (sym (three-lines s t e))
+abbrev pub frontsIf : Option Three → Option Three
+frontsIf none = none
+frontsIf (some t) = some (fronts t)
 
-  pub last-front : take (keptOf s .«last_length») (keptOf s .last) ≡ take 3 (t .last)
-  unfolding keptOf
-  last-front = held-front 3 (line 2 s) ∙ ap (λ (x : Three). take 3 (x .last)) (sym (three-lines s t e))
+held-some : (b : ℕ) (l : List ℕ) → eqb (heldLength lastRoom (b ∷ l)) 0 ≡ false
+held-some b l = ne-eqb (heldLength lastRoom (b ∷ l)) 0 (λ (e : heldLength lastRoom (b ∷ l) ≡ 0). omega arith)
 
-  -- the number that the third line spells
-  pub last-number : asNumber (numberIn (line 2 s)) ≡ asNumber (numberIn (t .last))
-  last-number = ap (λ (x : Three). asNumber (numberIn (x .last))) (sym (three-lines s t e))
-
--- what is kept tells whether the three lines are there
-
-pub none-missing : (s : List ℕ) → keptOf s .«last_length» ≡ 0 → false ≡ isSome (threeLines s)
+-- the three lines in what is kept of an input are the first bytes of its three lines
+pub kept-three : (s : List ℕ) → threeIn (keptOf s) ≡ frontsIf (threeLines s)
 unfolding keptOf
-none-missing s h = split (line 2 s) h
+kept-three s = split (line 2 s) (behind 3 s) same
   where
-    split : (l : List ℕ) → heldLength 3 l ≡ 0 → false ≡ isSome (unlessFourth l (behind 3 s) (record { set = line 0 s; scheme = line 1 s; last = line 2 s }))
-    split [] p = refl
-    split (b ∷ l) p = absurd (omega arith)
+    same : heldLines (keptOf s) ≡ fronts (linesOf s)
+    same = rw (held-front setRoom (line 0 s), held-front schemeRoom (line 1 s), held-front lastRoom (line 2 s)) refl
 
-pub none-further : (s : List ℕ) → (keptOf s .«last_length» ≡ 0 → ⊥) → not (keptOf s .fourth) ≡ isSome (threeLines s)
-unfolding keptOf
-none-further s h = split (line 2 s) (behind 3 s) h
-  where
-    split : (l r : List ℕ) → (heldLength 3 l ≡ 0 → ⊥) → not (hasBytes r) ≡ isSome (unlessFourth l r (record { set = line 0 s; scheme = line 1 s; last = line 2 s }))
-    split [] r p = absurd (p refl)
-    split (b ∷ l) [] p = refl
-    split (b ∷ l) (c ∷ r) p = refl
-
--- the number in the third line, from the bytes that are kept of it
-
-pub kept-one : (s : List ℕ) → keptOf s .«last_length» ≡ 1 → numberIn (getD (keptOf s .last) 0 0 ∷ []) ≡ numberIn (line 2 s)
-unfolding keptOf
-kept-one s h = sym (number-of-one (line 2 s) h)
-
-pub kept-two : (s : List ℕ) → keptOf s .«last_length» ≡ 2 → numberIn (getD (keptOf s .last) 0 0 ∷ getD (keptOf s .last) 1 0 ∷ []) ≡ numberIn (line 2 s)
-unfolding keptOf
-kept-two s h = sym (number-of-two (line 2 s) h)
-
-pub kept-other : (s : List ℕ) → (keptOf s .«last_length» ≡ 1 → ⊥) → (keptOf s .«last_length» ≡ 2 → ⊥) → none ≡ numberIn (line 2 s)
-unfolding keptOf
-kept-other s h k = sym (number-of-other (line 2 s) h k)
-
--- how many bytes are kept shows whether the line is kept whole
-
-pub front-few : (n : ℕ) (l : List ℕ) → heldLength n l ≤ n
-front-few zero l = omega arith
-front-few (suc n) [] = omega arith
-front-few (suc n) (b ∷ l) = let k = front-few n l in omega arith
-
-pub front-whole : (n : ℕ) (l : List ℕ) → heldLength n l < n → take n l ≡ l
-front-whole zero l h = absurd (omega arith)
-front-whole (suc n) [] h = refl
-front-whole (suc n) (b ∷ l) h = ap (λ (r : List ℕ). b ∷ r) (front-whole n l (omega arith))
-
-pub front-long : (n : ℕ) (l : List ℕ) → n ≤ heldLength n l → n ≤ length l
-front-long zero l h = omega arith
-front-long (suc n) [] h = absurd (omega arith)
-front-long (suc n) (b ∷ l) h = let k = front-long n l (omega arith) in omega arith
+    split : (l r : List ℕ) → heldLines (keptOf s) ≡ fronts (linesOf s)
+        → cond (not (eqb (heldLength lastRoom l) 0) && not (hasBytes r)) (some (heldLines (keptOf s))) none ≡ frontsIf (unlessFourth l r (linesOf s))
+    split [] r e = refl
+    split (b ∷ l) [] e = rw (held-some b l) (ap some e)
+    split (b ∷ l) (c ∷ r) e = rw (held-some b l) refl

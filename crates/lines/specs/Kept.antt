@@ -1,14 +1,26 @@
--- What is kept of an input, as a function of all of it, and what the functions over it promise. Definitions only.
+-- What is kept of an input, as a function of all of it, and the three lines as the memory holds
+-- them. Definitions only.
 use Prim.Native.Nat.{ℕ, zero, suc}
-use mathlib.Core.Path.{_≡_}
-use mathlib.Core.Bool.{Bool, true, false, cond}
-use mathlib.Core.List.{List, [], _∷_, _++_}
+use mathlib.Core.Bool.{Bool, true, false, not, _&&_, cond}
+use mathlib.Core.List.{List, [], _∷_}
 use mathlib.Core.Option.{Option, none, some}
 use lib.ListN.{length, take}
+use lib.Dec.{eqb}
 use Rattle.lines.specs.declared.input.Lines.{Lines}
 use Rattle.lines.specs.declared.input.Number.{Number}
 use Rattle.lines.specs.declared.input.Number.the-variants.{Is, Misspelt}
-use Rattle.lines.specs.Lines.{isEnd, line, behind, Three, threeLines, numberIn}
+use Rattle.lines.specs.Lines.{isEnd, line, behind, Three}
+
+-- one byte more than each line may have: "Pattern text 1,024 bytes, scheme text 32,768" and "one
+-- or two digits" (01); input::SET, SCHEME and LAST
+abbrev pub setRoom : ℕ
+setRoom = 1025
+
+abbrev pub schemeRoom : ℕ
+schemeRoom = 32769
+
+abbrev pub lastRoom : ℕ
+lastRoom = 3
 
 -- the first n bytes of a line, and 0 at the places behind its end
 unfoldable pub held : ℕ → List ℕ → List ℕ
@@ -38,32 +50,33 @@ hasBytes (b ∷ s) = true
 unfoldable pub keptOf : List ℕ → Lines
 keptOf s =
     record {
-      set = held 1025 (line 0 s);
-      «set_length» = heldLength 1025 (line 0 s);
-      scheme = held 32769 (line 1 s);
-      «scheme_length» = heldLength 32769 (line 1 s);
-      last = held 3 (line 2 s);
-      «last_length» = heldLength 3 (line 2 s);
+      set = held setRoom (line 0 s);
+      «set_length» = heldLength setRoom (line 0 s);
+      scheme = held schemeRoom (line 1 s);
+      «scheme_length» = heldLength schemeRoom (line 1 s);
+      last = held lastRoom (line 2 s);
+      «last_length» = heldLength lastRoom (line 2 s);
       ends = upToThree (endsIn s);
       fourth = hasBytes (behind 3 s);
     }
 
--- where `before` is what is kept of an input, `after` is what is kept of it with the chunk
-abbrev pub KeepsOn : Lines → List ℕ → Lines → Type 0
-KeepsOn before chunk after = (input : List ℕ) → before ≡ keptOf input → after ≡ keptOf (input ++ chunk)
+-- the three lines are there and no fourth: the third has a byte, and none came after its end
+abbrev pub isComplete : Lines → Bool
+isComplete k = not (eqb (k .«last_length») 0) && not (k .fourth)
 
-abbrev pub isSome : Option Three → Bool
-isSome none = false
-isSome (some t) = true
+-- the bytes that the memory holds of each line: as many of its array as its length says
+abbrev pub heldLines : Lines → Three
+heldLines k =
+    record {
+      set = take (k .«set_length») (k .set);
+      scheme = take (k .«scheme_length») (k .scheme);
+      last = take (k .«last_length») (k .last);
+    }
 
--- whether the input has its three lines and no fourth
-abbrev pub TellsComplete : Lines → Bool → Type 0
-TellsComplete kept r = (input : List ℕ) → kept ≡ keptOf input → r ≡ isSome (threeLines input)
+-- the three lines as the memory holds them, where none is missing and there is no fourth
+abbrev pub threeIn : Lines → Option Three
+threeIn k = cond (isComplete k) (some (heldLines k)) none
 
 abbrev pub asNumber : Option ℕ → Number
 asNumber none = Misspelt
 asNumber (some n) = Is n
-
--- the number that the third line of the input spells
-abbrev pub TellsNumber : Lines → Number → Type 0
-TellsNumber kept r = (input : List ℕ) → kept ≡ keptOf input → r ≡ asNumber (numberIn (line 2 input))

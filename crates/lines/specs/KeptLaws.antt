@@ -11,8 +11,8 @@ use lib.Dec.{ltb}
 use borrow.Author.Tests.{ltb-true, ltb-false, lt-ltb, le-ltb, eq-eqb, ne-eqb}
 use Rattle.lines.specs.declared.input.Lines.{Lines}
 use Rattle.lines.specs.Lines.{isEnd, line, behind}
-use Rattle.lines.specs.Kept.{held, heldLength, endsIn, upToThree, hasBytes, keptOf}
-use Rattle.lines.specs.KeptWalk.{made, ended, withFourth, stored, nextPlace, inSet, inScheme, inLast, byteAt, stepped, after}
+use Rattle.lines.specs.Kept.{setRoom, schemeRoom, lastRoom, held, heldLength, endsIn, upToThree, hasBytes, keptOf}
+use Rattle.lines.specs.KeptWalk.{made, ended, withFourth, stored, nextPlace, inSet, inScheme, inLast, byteAt, keptByte, keptOn}
 use Rattle.lines.specs.LineLaws.{ends-other, ends-end, line-end, line-same, line-more, behind-none, behind-last, behind-some}
 
 -- the kept bytes of one line
@@ -90,7 +90,7 @@ module _ (s : List ℕ) (b : ℕ) where
       let first = line-end 0 s b q in
       let second = line-end 1 s b q in
       let third = line-end 2 s b q in
-      same-made (held-same 1025 0 first) (length-same 1025 0 first) (held-same 32769 1 second) (length-same 32769 1 second) (held-same 3 2 third) (length-same 3 2 third)
+      same-made (held-same setRoom 0 first) (length-same setRoom 0 first) (held-same schemeRoom 1 second) (length-same schemeRoom 1 second) (held-same lastRoom 2 third) (length-same lastRoom 2 third)
       (ap (λ (x : ℕ). upToThree x + 1) p ∙ u ∙ ap (λ (x : ℕ). upToThree (suc x)) (sym p) ∙ ap upToThree (sym (ends-end s b q)))
       (no-fourth (omega arith))
 
@@ -101,7 +101,7 @@ module _ (s : List ℕ) (b : ℕ) where
   set-kept p q =
       let second = line-same 1 s b (λ (e : endsIn s ≡ 1). omega arith) in
       let third = line-same 2 s b (λ (e : endsIn s ≡ 2). omega arith) in
-      same-made (held-grown 1025 0 p q) (length-grown 1025 0 p q) (held-same 32769 1 second) (length-same 32769 1 second) (held-same 3 2 third) (length-same 3 2 third)
+      same-made (held-grown setRoom 0 p q) (length-grown setRoom 0 p q) (held-same schemeRoom 1 second) (length-same schemeRoom 1 second) (held-same lastRoom 2 third) (length-same lastRoom 2 third)
       (ends-same q) (no-fourth (omega arith))
 
   scheme-kept : endsIn s ≡ 1 → isEnd b ≡ false → inScheme (keptOf s) b ≡ keptOf (s ++ (b ∷ []))
@@ -109,7 +109,7 @@ module _ (s : List ℕ) (b : ℕ) where
   scheme-kept p q =
       let first = line-same 0 s b (λ (e : endsIn s ≡ 0). omega arith) in
       let third = line-same 2 s b (λ (e : endsIn s ≡ 2). omega arith) in
-      same-made (held-same 1025 0 first) (length-same 1025 0 first) (held-grown 32769 1 p q) (length-grown 32769 1 p q) (held-same 3 2 third) (length-same 3 2 third)
+      same-made (held-same setRoom 0 first) (length-same setRoom 0 first) (held-grown schemeRoom 1 p q) (length-grown schemeRoom 1 p q) (held-same lastRoom 2 third) (length-same lastRoom 2 third)
       (ends-same q) (no-fourth (omega arith))
 
   last-kept : endsIn s ≡ 2 → isEnd b ≡ false → inLast (keptOf s) b ≡ keptOf (s ++ (b ∷ []))
@@ -117,7 +117,7 @@ module _ (s : List ℕ) (b : ℕ) where
   last-kept p q =
       let first = line-same 0 s b (λ (e : endsIn s ≡ 0). omega arith) in
       let second = line-same 1 s b (λ (e : endsIn s ≡ 1). omega arith) in
-      same-made (held-same 1025 0 first) (length-same 1025 0 first) (held-same 32769 1 second) (length-same 32769 1 second) (held-grown 3 2 p q) (length-grown 3 2 p q)
+      same-made (held-same setRoom 0 first) (length-same setRoom 0 first) (held-same schemeRoom 1 second) (length-same schemeRoom 1 second) (held-grown lastRoom 2 p q) (length-grown lastRoom 2 p q)
       (ends-same q) (no-fourth (omega arith))
 
   -- a byte after the third line end
@@ -131,7 +131,7 @@ module _ (s : List ℕ) (b : ℕ) where
       let first = line-same 0 s b (λ (e : endsIn s ≡ 0). omega arith) in
       let second = line-same 1 s b (λ (e : endsIn s ≡ 1). omega arith) in
       let third = line-same 2 s b (λ (e : endsIn s ≡ 2). omega arith) in
-      same-made (held-same 1025 0 first) (length-same 1025 0 first) (held-same 32769 1 second) (length-same 32769 1 second) (held-same 3 2 third) (length-same 3 2 third)
+      same-made (held-same setRoom 0 first) (length-same setRoom 0 first) (held-same schemeRoom 1 second) (length-same schemeRoom 1 second) (held-same lastRoom 2 third) (length-same lastRoom 2 third)
       (ap upToThree p ∙ sym (three-more (isEnd b) refl n p)) (sym (behind-some 3 s b (omega arith)))
 
   by-place : (e : ℕ) → endsIn s ≡ e → (c : Bool) → isEnd b ≡ c → byteAt (upToThree e) c (keptOf s) b ≡ keptOf (s ++ (b ∷ []))
@@ -143,50 +143,50 @@ module _ (s : List ℕ) (b : ℕ) where
   by-place (suc (suc zero)) p false q = last-kept p q
   by-place (suc (suc (suc n))) p c q = fourth-kept n p
 
-  pub step-kept : stepped (keptOf s) b ≡ keptOf (s ++ (b ∷ []))
+  pub step-kept : keptByte (keptOf s) b ≡ keptOf (s ++ (b ∷ []))
   unfolding keptOf
   step-kept = by-place (endsIn s) refl (isEnd b) refl
 
 -- a chunk more
-pub after-kept : (s chunk : List ℕ) → after (keptOf s) chunk ≡ keptOf (s ++ chunk)
-after-kept s [] = ap keptOf (sym (append-nil s))
-after-kept s (b ∷ l) =
-    ap (λ (k : Lines). after k l) (step-kept s b) ∙ after-kept (s ++ (b ∷ [])) l ∙ ap keptOf (append-assoc s (b ∷ []) l)
+pub kept-on : (s chunk : List ℕ) → keptOn (keptOf s) chunk ≡ keptOf (s ++ chunk)
+kept-on s [] = ap keptOf (sym (append-nil s))
+kept-on s (b ∷ l) =
+    ap (λ (k : Lines). keptOn k l) (step-kept s b) ∙ kept-on (s ++ (b ∷ [])) l ∙ ap keptOf (append-assoc s (b ∷ []) l)
 
-pub kept-none : made (replicate 1025 0) 0 (replicate 32769 0) 0 (replicate 3 0) 0 0 false ≡ keptOf []
+pub kept-none : made (replicate setRoom 0) 0 (replicate schemeRoom 0) 0 (replicate lastRoom 0) 0 0 false ≡ keptOf []
 unfolding keptOf
-kept-none = same-made (held-none 1025) refl (held-none 32769) refl (held-none 3) refl refl refl
+kept-none = same-made (held-none setRoom) refl (held-none schemeRoom) refl (held-none lastRoom) refl refl refl
 
 -- the loop over a chunk: what is to come is the chunk from the index on
-pub turn : (k next : Lines) (chunk : List ℕ) (i : ℕ) (all : Lines) → after k (drop i chunk) ≡ all → i < length chunk → stepped k (getD chunk i 0) ≡ next
-    → after next (drop (i + 1) chunk) ≡ all
+pub turn : (k next : Lines) (chunk : List ℕ) (i : ℕ) (all : Lines) → keptOn k (drop i chunk) ≡ all → i < length chunk → keptByte k (getD chunk i 0) ≡ next
+    → keptOn next (drop (i + 1) chunk) ≡ all
 turn k next chunk i all p h e =
-    ap (λ (m : Lines). after m (drop (i + 1) chunk)) (sym e)
-    ∙ ap (λ (j : ℕ). after (stepped k (getD chunk i 0)) (drop j chunk)) (add-one i)
-    ∙ ap (after k) (sym (drop-cons chunk i 0 h)) ∙ p
+    ap (λ (m : Lines). keptOn m (drop (i + 1) chunk)) (sym e)
+    ∙ ap (λ (j : ℕ). keptOn (keptByte k (getD chunk i 0)) (drop j chunk)) (add-one i)
+    ∙ ap (keptOn k) (sym (drop-cons chunk i 0 h)) ∙ p
 
-pub chunk-end : (k : Lines) (chunk : List ℕ) (i : ℕ) (all : Lines) → after k (drop i chunk) ≡ all → length chunk ≤ i → k ≡ all
-chunk-end k chunk i all p h = ap (after k) (sym (drop-of-length-le chunk {i = i} h)) ∙ p
+pub chunk-end : (k : Lines) (chunk : List ℕ) (i : ℕ) (all : Lines) → keptOn k (drop i chunk) ≡ all → length chunk ≤ i → k ≡ all
+chunk-end k chunk i all p h = ap (keptOn k) (sym (drop-of-length-le chunk {i = i} h)) ∙ p
 
 -- the turns, as the code takes them
 
 module _ (k : Lines) (b : ℕ) where
-  at-place : (e : ℕ) (c : Bool) → k .ends ≡ e → isEnd b ≡ c → stepped k b ≡ byteAt e c k b
+  at-place : (e : ℕ) (c : Bool) → k .ends ≡ e → isEnd b ≡ c → keptByte k b ≡ byteAt e c k b
   at-place e c p q = rw (p, q) refl
 
-  pub turn-fourth : 3 ≤ k .ends → stepped k b ≡ withFourth k
+  pub turn-fourth : 3 ≤ k .ends → keptByte k b ≡ withFourth k
   turn-fourth h = by (k .ends) refl h
     where
-      by : (e : ℕ) → k .ends ≡ e → 3 ≤ e → stepped k b ≡ withFourth k
+      by : (e : ℕ) → k .ends ≡ e → 3 ≤ e → keptByte k b ≡ withFourth k
       by zero p g = absurd (omega arith)
       by (suc zero) p g = absurd (omega arith)
       by (suc (suc zero)) p g = absurd (omega arith)
       by (suc (suc (suc n))) p g = at-place (suc (suc (suc n))) (isEnd b) p refl
 
-  pub turn-end : k .ends < 3 → b ≡ 0x0A → stepped k b ≡ ended k
+  pub turn-end : k .ends < 3 → b ≡ 0x0A → keptByte k b ≡ ended k
   turn-end h e = by (k .ends) refl h
     where
-      by : (n : ℕ) → k .ends ≡ n → n < 3 → stepped k b ≡ ended k
+      by : (n : ℕ) → k .ends ≡ n → n < 3 → keptByte k b ≡ ended k
       by zero p g = at-place 0 true p (eq-eqb b 0x0A e)
       by (suc zero) p g = at-place 1 true p (eq-eqb b 0x0A e)
       by (suc (suc zero)) p g = at-place 2 true p (eq-eqb b 0x0A e)
@@ -194,23 +194,23 @@ module _ (k : Lines) (b : ℕ) where
 
   -- a byte is stored where there is room, and dropped where there is none
 
-  pub turn-set : k .ends ≡ 0 → (b ≡ 0x0A → ⊥) → k .«set_length» < 1025
-      → stepped k b ≡ made (set (k .set) (k .«set_length») b) (k .«set_length» + 1) (k .scheme) (k .«scheme_length») (k .last) (k .«last_length») (k .ends) (k .fourth)
-  turn-set p q h = at-place 0 false p (ne-eqb b 0x0A q) ∙ rw (lt-ltb (k .«set_length») 1025 h) refl
+  pub turn-set : k .ends ≡ 0 → (b ≡ 0x0A → ⊥) → k .«set_length» < setRoom
+      → keptByte k b ≡ made (set (k .set) (k .«set_length») b) (k .«set_length» + 1) (k .scheme) (k .«scheme_length») (k .last) (k .«last_length») (k .ends) (k .fourth)
+  turn-set p q h = at-place 0 false p (ne-eqb b 0x0A q) ∙ rw (lt-ltb (k .«set_length») setRoom h) refl
 
-  pub drop-set : k .ends ≡ 0 → (b ≡ 0x0A → ⊥) → 1025 ≤ k .«set_length» → stepped k b ≡ k
-  drop-set p q h = at-place 0 false p (ne-eqb b 0x0A q) ∙ rw (le-ltb (k .«set_length») 1025 h) refl
+  pub drop-set : k .ends ≡ 0 → (b ≡ 0x0A → ⊥) → setRoom ≤ k .«set_length» → keptByte k b ≡ k
+  drop-set p q h = at-place 0 false p (ne-eqb b 0x0A q) ∙ rw (le-ltb (k .«set_length») setRoom h) refl
 
-  pub turn-scheme : k .ends ≡ 1 → (b ≡ 0x0A → ⊥) → k .«scheme_length» < 32769
-      → stepped k b ≡ made (k .set) (k .«set_length») (set (k .scheme) (k .«scheme_length») b) (k .«scheme_length» + 1) (k .last) (k .«last_length») (k .ends) (k .fourth)
-  turn-scheme p q h = at-place 1 false p (ne-eqb b 0x0A q) ∙ rw (lt-ltb (k .«scheme_length») 32769 h) refl
+  pub turn-scheme : k .ends ≡ 1 → (b ≡ 0x0A → ⊥) → k .«scheme_length» < schemeRoom
+      → keptByte k b ≡ made (k .set) (k .«set_length») (set (k .scheme) (k .«scheme_length») b) (k .«scheme_length» + 1) (k .last) (k .«last_length») (k .ends) (k .fourth)
+  turn-scheme p q h = at-place 1 false p (ne-eqb b 0x0A q) ∙ rw (lt-ltb (k .«scheme_length») schemeRoom h) refl
 
-  pub drop-scheme : k .ends ≡ 1 → (b ≡ 0x0A → ⊥) → 32769 ≤ k .«scheme_length» → stepped k b ≡ k
-  drop-scheme p q h = at-place 1 false p (ne-eqb b 0x0A q) ∙ rw (le-ltb (k .«scheme_length») 32769 h) refl
+  pub drop-scheme : k .ends ≡ 1 → (b ≡ 0x0A → ⊥) → schemeRoom ≤ k .«scheme_length» → keptByte k b ≡ k
+  drop-scheme p q h = at-place 1 false p (ne-eqb b 0x0A q) ∙ rw (le-ltb (k .«scheme_length») schemeRoom h) refl
 
-  pub turn-last : k .ends ≡ 2 → (b ≡ 0x0A → ⊥) → k .«last_length» < 3
-      → stepped k b ≡ made (k .set) (k .«set_length») (k .scheme) (k .«scheme_length») (set (k .last) (k .«last_length») b) (k .«last_length» + 1) (k .ends) (k .fourth)
-  turn-last p q h = at-place 2 false p (ne-eqb b 0x0A q) ∙ rw (lt-ltb (k .«last_length») 3 h) refl
+  pub turn-last : k .ends ≡ 2 → (b ≡ 0x0A → ⊥) → k .«last_length» < lastRoom
+      → keptByte k b ≡ made (k .set) (k .«set_length») (k .scheme) (k .«scheme_length») (set (k .last) (k .«last_length») b) (k .«last_length» + 1) (k .ends) (k .fourth)
+  turn-last p q h = at-place 2 false p (ne-eqb b 0x0A q) ∙ rw (lt-ltb (k .«last_length») lastRoom h) refl
 
-  pub drop-last : k .ends ≡ 2 → (b ≡ 0x0A → ⊥) → 3 ≤ k .«last_length» → stepped k b ≡ k
-  drop-last p q h = at-place 2 false p (ne-eqb b 0x0A q) ∙ rw (le-ltb (k .«last_length») 3 h) refl
+  pub drop-last : k .ends ≡ 2 → (b ≡ 0x0A → ⊥) → lastRoom ≤ k .«last_length» → keptByte k b ≡ k
+  drop-last p q h = at-place 2 false p (ne-eqb b 0x0A q) ∙ rw (le-ltb (k .«last_length») lastRoom h) refl

@@ -1,4 +1,4 @@
--- The memory of an input with one byte more. Definitions only.
+-- The memory with a chunk more, byte by byte. Definitions only.
 use Prim.Native.Nat.{ℕ, zero, suc, _+_}
 use mathlib.Core.Bool.{Bool, true, false, cond}
 use mathlib.Core.List.{List, [], _∷_}
@@ -6,6 +6,7 @@ use lib.ListN.{set}
 use lib.Dec.{ltb}
 use Rattle.lines.specs.declared.input.Lines.{Lines}
 use Rattle.lines.specs.Lines.{isEnd}
+use Rattle.lines.specs.Kept.{setRoom, schemeRoom, lastRoom}
 
 abbrev pub made : List ℕ → ℕ → List ℕ → ℕ → List ℕ → ℕ → ℕ → Bool → Lines
 made a n b m c l e f =
@@ -20,9 +21,11 @@ made a n b m c l e f =
       fourth = f;
     }
 
+-- "A line ends at byte 0A (hexadecimal)"
 abbrev pub ended : Lines → Lines
 ended k = made (k .set) (k .«set_length») (k .scheme) (k .«scheme_length») (k .last) (k .«last_length») (k .ends + 1) (k .fourth)
 
+-- "any byte after the third line's end as a fourth"
 abbrev pub withFourth : Lines → Lines
 withFourth k = made (k .set) (k .«set_length») (k .scheme) (k .«scheme_length») (k .last) (k .«last_length») (k .ends) true
 
@@ -33,14 +36,15 @@ stored n xs at b = cond (ltb at n) (set xs at b) xs
 abbrev pub nextPlace : ℕ → ℕ → ℕ
 nextPlace n at = cond (ltb at n) (at + 1) at
 
+-- a byte of the first, of the second, of the third line
 abbrev pub inSet : Lines → ℕ → Lines
-inSet k b = made (stored 1025 (k .set) (k .«set_length») b) (nextPlace 1025 (k .«set_length»)) (k .scheme) (k .«scheme_length») (k .last) (k .«last_length») (k .ends) (k .fourth)
+inSet k b = made (stored setRoom (k .set) (k .«set_length») b) (nextPlace setRoom (k .«set_length»)) (k .scheme) (k .«scheme_length») (k .last) (k .«last_length») (k .ends) (k .fourth)
 
 abbrev pub inScheme : Lines → ℕ → Lines
-inScheme k b = made (k .set) (k .«set_length») (stored 32769 (k .scheme) (k .«scheme_length») b) (nextPlace 32769 (k .«scheme_length»)) (k .last) (k .«last_length») (k .ends) (k .fourth)
+inScheme k b = made (k .set) (k .«set_length») (stored schemeRoom (k .scheme) (k .«scheme_length») b) (nextPlace schemeRoom (k .«scheme_length»)) (k .last) (k .«last_length») (k .ends) (k .fourth)
 
 abbrev pub inLast : Lines → ℕ → Lines
-inLast k b = made (k .set) (k .«set_length») (k .scheme) (k .«scheme_length») (stored 3 (k .last) (k .«last_length») b) (nextPlace 3 (k .«last_length»)) (k .ends) (k .fourth)
+inLast k b = made (k .set) (k .«set_length») (k .scheme) (k .«scheme_length») (stored lastRoom (k .last) (k .«last_length») b) (nextPlace lastRoom (k .«last_length»)) (k .ends) (k .fourth)
 
 -- by the number of line ends before the byte, and whether it is one
 abbrev pub byteAt : ℕ → Bool → Lines → ℕ → Lines
@@ -52,10 +56,11 @@ byteAt (suc (suc zero)) true k b = ended k
 byteAt (suc (suc zero)) false k b = inLast k b
 byteAt (suc (suc (suc n))) e k b = withFourth k
 
-abbrev pub stepped : Lines → ℕ → Lines
-stepped k b = byteAt (k .ends) (isEnd b) k b
+-- the memory with one byte more
+abbrev pub keptByte : Lines → ℕ → Lines
+keptByte k b = byteAt (k .ends) (isEnd b) k b
 
 -- the memory with the bytes of a chunk, one after the other
-abbrev pub after : Lines → List ℕ → Lines
-after k [] = k
-after k (b ∷ s) = after (stepped k b) s
+abbrev pub keptOn : Lines → List ℕ → Lines
+keptOn k [] = k
+keptOn k (b ∷ s) = keptOn (keptByte k b) s

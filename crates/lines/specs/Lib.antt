@@ -2,8 +2,10 @@
 pub mod Lines
 pub mod Kept
 pub mod KeptWalk
+pub mod Reads
 pub mod LineLaws
 pub mod KeptLaws
+pub mod ReadLaws
 pub mod NumberLaws
 pub mod CallerLaws
 pub mod ThreeLaws

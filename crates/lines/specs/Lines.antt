@@ -26,13 +26,15 @@ pub record Three : Type 0 where
   pub scheme : List ℕ
   pub last : List ℕ
 
--- "A third line of no bytes counts as missing, and any byte after the third line's end as a fourth."
+-- "A third line of no bytes counts as missing, and any byte after the third line's end as a
+-- fourth."
 abbrev pub unlessFourth : (third fourth : List ℕ) → Three → Option Three
 unlessFourth [] fourth t = none
 unlessFourth (b ∷ l) [] t = some t
 unlessFourth (b ∷ l) (c ∷ r) t = none
 
--- the three lines, where none is missing and there is no fourth; a missing first or second line leaves no third
+-- the three lines, where none is missing and there is no fourth; a missing first or second line
+-- leaves no third
 abbrev pub threeLines : List ℕ → Option Three
 threeLines s = unlessFourth (line 2 s) (behind 3 s) (record { set = line 0 s; scheme = line 1 s; last = line 2 s })
 

@@ -1,15 +1,14 @@
 -- Laws of the number that a line spells.
-use Prim.Native.Nat.{ℕ, _+_, _-_, _*_, _≤_, _<_}
+use Prim.Native.Nat.{ℕ, zero, suc, _+_, _-_, _*_, _≤_, _<_}
 use native.Mathlib.Omega.{arith}
 use mathlib.Core.Path.{_≡_, refl}
 use mathlib.Core.Bool.{Bool, true, false}
 use mathlib.Core.List.{List, [], _∷_}
 use mathlib.Core.Option.{none, some}
-use lib.ListN.{take, getD}
+use lib.ListN.{length, take, getD}
 use lib.Dec.{eqb}
 use borrow.Author.Tests.{le-leb, lt-leb, ne-eqb, eqb-true, eqb-false}
 use Rattle.lines.specs.Lines.{isDigit, numberIn}
-use Rattle.lines.specs.Kept.{held, heldLength}
 
 -- the first three bytes decide
 pub number-front : (l : List ℕ) → numberIn (take 3 l) ≡ numberIn l
@@ -63,24 +62,22 @@ second-misspelt a b h k e =
     let z : eqb a 0x30 ≡ false = ne-eqb a 0x30 (λ (e : a ≡ 0x30). omega arith) in
     rw (digit a g k, z, e) refl
 
--- from the kept bytes of a line
+-- from the bytes in memory: n of an array of three
 
-pub number-of-one : (l : List ℕ) → heldLength 3 l ≡ 1 → numberIn l ≡ numberIn (getD (held 3 l) 0 0 ∷ [])
-unfolding held
-number-of-one [] h = absurd (omega arith)
-number-of-one (a ∷ []) h = refl
-number-of-one (a ∷ b ∷ []) h = absurd (omega arith)
-number-of-one (a ∷ b ∷ c ∷ l) h = absurd (omega arith)
+pub memory-one : (l : List ℕ) → length l ≡ 3 → numberIn (getD l 0 0 ∷ []) ≡ numberIn (take 1 l)
+memory-one [] h = absurd (omega arith)
+memory-one (a ∷ l) h = refl
 
-pub number-of-two : (l : List ℕ) → heldLength 3 l ≡ 2 → numberIn l ≡ numberIn (getD (held 3 l) 0 0 ∷ getD (held 3 l) 1 0 ∷ [])
-unfolding held
-number-of-two [] h = absurd (omega arith)
-number-of-two (a ∷ []) h = absurd (omega arith)
-number-of-two (a ∷ b ∷ []) h = refl
-number-of-two (a ∷ b ∷ c ∷ l) h = absurd (omega arith)
+pub memory-two : (l : List ℕ) → length l ≡ 3 → numberIn (getD l 0 0 ∷ getD l 1 0 ∷ []) ≡ numberIn (take 2 l)
+memory-two [] h = absurd (omega arith)
+memory-two (a ∷ []) h = absurd (omega arith)
+memory-two (a ∷ b ∷ l) h = refl
 
-pub number-of-other : (l : List ℕ) → (heldLength 3 l ≡ 1 → ⊥) → (heldLength 3 l ≡ 2 → ⊥) → numberIn l ≡ none
-number-of-other [] h k = refl
-number-of-other (a ∷ []) h k = absurd (h refl)
-number-of-other (a ∷ b ∷ []) h k = absurd (k refl)
-number-of-other (a ∷ b ∷ c ∷ l) h k = refl
+pub memory-other : (n : ℕ) (l : List ℕ) → length l ≡ 3 → (n ≡ 1 → ⊥) → (n ≡ 2 → ⊥) → none ≡ numberIn (take n l)
+memory-other zero l h p q = refl
+memory-other (suc zero) l h p q = absurd (p refl)
+memory-other (suc (suc zero)) l h p q = absurd (q refl)
+memory-other (suc (suc (suc n))) [] h p q = absurd (omega arith)
+memory-other (suc (suc (suc n))) (a ∷ []) h p q = absurd (omega arith)
+memory-other (suc (suc (suc n))) (a ∷ b ∷ []) h p q = absurd (omega arith)
+memory-other (suc (suc (suc n))) (a ∷ b ∷ c ∷ l) h p q = refl

@@ -1,4 +1,5 @@
--- An input has three lines exactly if it is three lines with a line end behind each, the last line end perhaps left out.
+-- An input has three lines exactly if it is three lines with a line end behind each, the last line
+-- end perhaps left out.
 use Prim.Native.Nat.{ℕ, zero, suc, _<_}
 use native.Mathlib.Omega.{arith}
 use mathlib.Core.Path.{_≡_, refl, sym, ap, _∙_}

@@ -1,8 +1,11 @@
-// What is kept of an input of three lines, as far as a line may be long; the number in the third line.
+// What is kept of an input of three lines, as far as a line may be long; the number in the third
+// line.
 ghost use mathlib.Core.Path.{_≡_};
 ghost use mathlib.Core.List.{[], _∷_};
+ghost use lib.ListN.{take};
 ghost use Rattle.lines.specs.Lines.{numberIn};
-ghost use Rattle.lines.specs.Kept.{keptOf, KeepsOn, TellsComplete, TellsNumber, asNumber};
+ghost use Rattle.lines.specs.Kept.{keptOf, isComplete, asNumber};
+ghost use Rattle.lines.specs.KeptWalk.{keptOn};
 
 // One byte more than a set's text may have: "Pattern text 1,024 bytes, scheme text 32,768" (01).
 pub const SET: usize = 1025;
@@ -13,7 +16,8 @@ pub const SCHEME: usize = 32769;
 // One byte more than the number in the third line may have: "one or two digits" (01).
 pub const LAST: usize = 3;
 
-// The first bytes of each line, with zeros behind them, and how many they are; the number of line ends, up to three; whether a byte came after the third.
+// The first bytes of each line, with zeros behind them, and how many they are; the number of line
+// ends, up to three; whether a byte came after the third.
 pub struct Lines {
     pub set: [u8; SET],
     pub set_length: usize,
@@ -47,9 +51,9 @@ pub fn nothing() -> Lines
     }
 }
 
-// What is kept of the input with a further chunk. A line's surplus is dropped.
+// What is kept with a further chunk. A line's surplus is dropped.
 pub fn keep(lines: Lines, chunk: &[u8]) -> Lines
-    ensures { λ r. ⌜ KeepsOn lines (now (chunk .entry)) r ⌝ }
+    ensures { λ r. ⌜ r ≡ keptOn lines (now (chunk .entry)) ⌝ }
 {
     let mut kept = lines;
     let mut i: usize = 0;
@@ -84,7 +88,7 @@ pub fn keep(lines: Lines, chunk: &[u8]) -> Lines
 
 // Whether the three lines are there and no fourth.
 pub fn complete(lines: Lines) -> bool
-    ensures { λ r. ⌜ TellsComplete lines r ⌝ }
+    ensures { λ r. ⌜ r ≡ isComplete lines ⌝ }
 {
     if lines.last_length == 0 {
         return false;
@@ -126,7 +130,7 @@ fn two_digits(a: u8, b: u8) -> Number
 
 // The number that the third line spells.
 pub fn last_number(lines: Lines) -> Number
-    ensures { λ r. ⌜ TellsNumber lines r ⌝ }
+    ensures { λ r. ⌜ r ≡ asNumber (numberIn (take (lines .«last_length») (lines .last))) ⌝ }
 {
     let last = lines.last;
     let n = lines.last_length;

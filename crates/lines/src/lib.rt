@@ -1,2 +1,3 @@
-// What is kept of an input of three lines.
+// What is kept of an input of three lines, and one read of it.
 pub mod input;
+pub mod reading;

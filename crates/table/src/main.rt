@@ -1,54 +1,64 @@
-// The table program: reads a set, a scheme and the largest length from standard input, and prints a b-file or the line of a refusal.
+// The table program: reads a set, a scheme and the largest length from standard input, and prints a
+// b-file or the line of a refusal. Where reading or writing fails it says so on standard error.
+use bfile::printing::PAGE;
 use bfile::printing::print;
 use libc::STDIN_FILENO;
 use libc::STDOUT_FILENO;
 use lines::input::Lines;
-use lines::input::keep;
 use lines::input::nothing;
-
-// What was kept of the input, and whether there may be more of it.
-struct Reading {
-    more: bool,
-    lines: Lines,
-}
+use lines::reading::Reading;
+use lines::reading::State;
+use lines::reading::has_more;
+use lines::reading::taken;
+ghost use Rattle.lines.specs.Reads.{ReadsSome, ReadsAll};
 
 fn main() {
-    let lines = read_all();
-    let mut page = [0u8; 512];
-    let n = print(lines, &mut page);
-    io::write_all(STDOUT_FILENO, &page[..n]);
+    let reading = read_all();
+    let lines = reading.lines;
+    let state = reading.state;
+    match state {
+        State::End => write_table(lines),
+        State::More => os::fail(b"table: reading standard input"),
+        State::Failed => os::fail(b"table: reading standard input"),
+    }
 }
 
-// Reads to the end of the input. A proved loop has to end, so it counts its turns down from a number that no run uses up.
-fn read_all() -> Lines {
+// Prints the b-file or the line of a refusal.
+fn write_table(lines: Lines) {
+    let mut page = [0u8; PAGE];
+    let n = print(lines, &mut page);
+    if !io::write_all(STDOUT_FILENO, &page[..n]) {
+        os::fail(b"table: writing standard output");
+    }
+}
+
+// Reads to the end of the input, or to a read that fails. A proved loop has to end, so it counts
+// its turns down from a number that no run uses up.
+fn read_all() -> Reading
+    ensures { λ r. ⌜ ReadsAll r ⌝ }
+{
     let mut reading = Reading {
-        more: true,
+        state: State::More,
         lines: nothing(),
     };
     let mut turns = u64::MAX;
     while 0 < turns {
-        let next = read_some(reading);
+        let next = read_some(reading.lines);
         reading = next;
-        if !reading.more {
+        let state = reading.state;
+        if !has_more(state) {
             break;
         }
         turns -= 1;
     }
-    reading.lines
+    reading
 }
 
-// Reads once, and keeps what is needed of it. A read that fails ends the input.
-fn read_some(reading: Reading) -> Reading {
-    let lines = reading.lines;
+// Reads once, and keeps what is needed of it.
+fn read_some(lines: Lines) -> Reading
+    ensures { λ r. ⌜ ReadsSome lines r ⌝ }
+{
     let mut chunk = io::large_buffer();
     let got = libc::read(STDIN_FILENO, &mut chunk);
-    if got <= 0 {
-        return Reading { more: false, lines };
-    }
-    let n = io::count(got, &chunk);
-    let kept = keep(lines, &chunk[..n]);
-    Reading {
-        more: true,
-        lines: kept,
-    }
+    taken(lines, &chunk, got, os::errno())
 }

@@ -2,7 +2,7 @@
 -- Assumes nothing.
 use Prim.Native.Nat.{ℕ, _-_}
 use mathlib.Core.Path.{sym, ap, _∙_}
-use Rattle.exports.specs.TextCounts.{codeOf}
+use Rattle.exports.specs.TextCounts.{largest, codeOf}
 use borrow.Author.Needs.{needs}
 use Rattle.exports.proofs.code.Statement.{statement}
 use Rattle.exports.proofs.code.Tie as tie
@@ -26,7 +26,7 @@ returns : tie.Need-returns
 returns c = search needs
 
 returns-2 : tie.Need-returns-2
-returns-2 c = ap (λ (x : ℕ). 18446744073709551615 - x) (c .number .ensures) ∙ sym (ap codeOf (c .before .before .counted2 .given .1))
+returns-2 c = ap (λ (x : ℕ). largest - x) (c .number .ensures) ∙ sym (ap codeOf (c .before .before .counted2 .given .1))
 
 pub code-spec : {M : Type 1} → statement M
 code-spec =

@@ -30,7 +30,7 @@ returns c =
     let q = c .before .before .before .before .before .read-scheme in
     let f = c .before .before .before .before .earlier in
     let h = sym (c .before .before .before .is-fault .ensures) ∙ c .before .before .if1 .taken in
-    count-refused _ _ (p .result) (p .ensures .0) (q .result) (q .ensures .0) (f .result) (f .ensures) h _ _ (c .before .count-or .result) (c .code .result)
+    count-refused _ _ (p .result) (p .ensures) (q .result) (q .ensures) (f .result) (f .ensures) h _ _ (c .before .count-or .result) (c .code .result)
     (c .before .count-or .ensures) (c .code .ensures)
 
 count-requires : tie.Need-count-requires
@@ -48,7 +48,7 @@ returns-2 c =
     let q = c .before .before .before .before .before .before .before .before .before .before .read-scheme in
     let f = c .before .before .before .before .before .before .before .before .before .earlier in
     let h = sym (c .before .before .before .before .before .before .before .before .is-fault .ensures) ∙ c .before .before .before .before .before .before .before .if1 .left in
-    count-done _ _ (p .result) (p .ensures .0) (q .result) (q .ensures .0) (f .result) (f .ensures) h _ _ _ (c .before .before .before .count .result) (c .code2 .result)
+    count-done _ _ (p .result) (p .ensures) (q .result) (q .ensures) (f .result) (f .ensures) h _ _ _ (c .before .before .before .count .result) (c .code2 .result)
     (c .before .before .before .count .ensures) (c .code2 .ensures)
 
 pub count-texts-spec : {M : Type 1} → statement M

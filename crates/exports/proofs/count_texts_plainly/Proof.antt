@@ -1,4 +1,5 @@
--- `exports::count_texts_plainly` meets its contract: what reading found, and then the plain evaluation.
+-- `exports::count_texts_plainly` meets its contract: what reading found, and then the plain
+-- evaluation.
 -- Assumes nothing.
 use mathlib.Core.Path.{sym, _∙_}
 use Rattle.exports.specs.TextCountLaws.{plain-refused, plain-done}
@@ -30,7 +31,7 @@ returns c =
     let q = c .before .before .before .before .before .read-scheme in
     let f = c .before .before .before .before .earlier in
     let h = sym (c .before .before .before .is-fault .ensures) ∙ c .before .before .if1 .taken in
-    plain-refused _ _ (p .result) (p .ensures .0) (q .result) (q .ensures .0) (f .result) (f .ensures) h _ (c .before .count-or .result) (c .code .result)
+    plain-refused _ _ (p .result) (p .ensures) (q .result) (q .ensures) (f .result) (f .ensures) h _ (c .before .count-or .result) (c .code .result)
     (c .before .count-or .ensures) (c .code .ensures)
 
 count-plainly-requires : tie.Need-count-plainly-requires
@@ -45,7 +46,7 @@ returns-2 c =
     let q = c .before .before .before .before .before .before .before .read-scheme in
     let f = c .before .before .before .before .before .before .earlier in
     let h = sym (c .before .before .before .before .before .is-fault .ensures) ∙ c .before .before .before .before .if1 .left in
-    plain-done _ _ (p .result) (p .ensures .0) (q .result) (q .ensures .0) (f .result) (f .ensures) h _ (c .before .count-plainly .result) (c .code2 .result)
+    plain-done _ _ (p .result) (p .ensures) (q .result) (q .ensures) (f .result) (f .ensures) h _ (c .before .count-plainly .result) (c .code2 .result)
     (c .before .count-plainly .ensures) (c .code2 .ensures)
 
 pub count-texts-plainly-spec : {M : Type 1} → statement M

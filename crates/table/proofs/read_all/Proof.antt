@@ -1,12 +1,16 @@
--- `table::read_all` is safe and ends: the number of turns that are left falls.
+-- `table::read_all` meets its contract and ends: what is kept is kept of some input, and the number
+-- of turns that are left falls.
 -- Assumes nothing.
-use borrow.Author.Needs.{needs}
 use native.Mathlib.Omega.{arith}
+use mathlib.Core.List.{[]}
+use Rattle.lines.specs.Reads.{ReadsAll}
+use Rattle.lines.specs.ReadLaws.{reads-on}
+use borrow.Author.Needs.{needs}
 use Rattle.table.proofs.read_all.Statement.{statement}
 use Rattle.table.proofs.read_all.Tie as tie
 
 abbrev Inv-loop : tie.InvT-loop
-Inv-loop reading₀ turns₀ reading turns = Unit {0}
+Inv-loop reading₀ turns₀ reading turns = ReadsAll reading
 
 abbrev μ-loop : tie.MeasureT-loop
 μ-loop reading₀ turns₀ reading turns = turns
@@ -15,10 +19,13 @@ nothing-requires : tie.Need-nothing-requires Inv-loop μ-loop
 nothing-requires c κs = search needs
 
 loop-holds : tie.Need-loop-holds Inv-loop μ-loop
-loop-holds c = tt
+loop-holds c = record { input = []; kept = c .nothing .ensures }
 
 read-some-requires : tie.Need-read-some-requires Inv-loop μ-loop
 read-some-requires c κs = search needs
+
+has-more-requires : tie.Need-has-more-requires Inv-loop μ-loop
+has-more-requires c κs = search needs
 
 sub-turns : tie.Need-sub-turns Inv-loop μ-loop
 sub-turns c = omega arith
@@ -27,10 +34,19 @@ loop-less : tie.Need-loop-less Inv-loop μ-loop
 loop-less c = omega arith
 
 loop-again : tie.Need-loop-again Inv-loop μ-loop
-loop-again c = tt
+loop-again c =
+    let l = c .before .before .before .before .loop in
+    let r = c .before .before .read-some in
+    reads-on (l .reading) (r .result) (l .inv) (r .ensures)
 
 returns : tie.Need-returns Inv-loop μ-loop
-returns c = tt
+returns c = c .before .loop .inv
+
+returns-2 : tie.Need-returns-2 Inv-loop μ-loop
+returns-2 c =
+    let l = c .before .before .before .before .loop in
+    let r = c .before .before .read-some in
+    reads-on (l .reading) (r .result) (l .inv) (r .ensures)
 
 pub read-all-spec : {M : Type 1} → statement M
 read-all-spec =
@@ -41,7 +57,9 @@ read-all-spec =
     nothing-requires
     loop-holds
     read-some-requires
+    has-more-requires
     sub-turns
     loop-less
     loop-again
-    returns)
+    returns
+    returns-2)

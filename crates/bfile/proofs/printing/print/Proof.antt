@@ -3,8 +3,8 @@
 use mathlib.Core.Path.{sym, _∙_}
 use borrow.Author.Tests.{not-true, not-false}
 use Rattle.wellformed.proofs.OrderLaws.{not-faulty}
-use Rattle.lines.specs.Lines.{threeLines}
-use Rattle.bfile.specs.TableLaws.{none-of, some-of, refused-text, accepted-text, accepted-lists}
+use Rattle.writer.specs.PageLaws.{writes-as}
+use Rattle.bfile.specs.TableLaws.{prints, missing-text, refused-text, accepted-text, accepted-lists}
 use borrow.Author.Needs.{needs}
 use Rattle.bfile.proofs.printing.print.Statement.{statement}
 use Rattle.bfile.proofs.printing.print.Tie as tie
@@ -20,8 +20,11 @@ same-length c = search needs
 
 returns : tie.Need-returns
 returns c =
+    let a = c .before .before .before .before .before .before .before .args in
     let put = c .before .before .put-refusal .ensures in
-    (λ input k. rw (none-of (threeLines input) (sym (c .before .before .before .before .before .complete .ensures input k) ∙ not-true (c .before .before .before .before .before .complete .result) (c .before .before .before .before .if1 .taken))) (put .0), put .1)
+    let t = c .before .before .before .before .before .complete in
+    let gone = sym (t .ensures) ∙ not-true (t .result) (c .before .before .before .before .if1 .taken) in
+    prints (a .lines) _ _ _ (writes-as (put .0) (missing-text (a .lines) gone)) (put .1)
 
 judge-lines-requires : tie.Need-judge-lines-requires
 judge-lines-requires c κs = search needs
@@ -40,15 +43,14 @@ same-length-2 c = search needs
 
 returns-2 : tie.Need-returns-2
 returns-2 c =
+    let a = c .before .before .before .before .before .before .before .before .before .before .before .args in
     let f = c .before .before .before .before .before .before .fault-of in
     let j = c .before .before .before .before .before .before .before .judge-lines in
     let put = c .before .before .put-fault .ensures in
-    let h = sym (c .before .before .before .before .before .is-fault .ensures) ∙ c .before .before .before .before .if2 .taken in (
-      λ input k.
-          let (t, e) = some-of (threeLines input) (sym (c .before .before .before .before .before .before .before .before .before .complete .ensures input k) ∙ not-false (c .before .before .before .before .before .before .before .before .before .complete .result) (c .before .before .before .before .before .before .before .before .if1 .left)) in
-          rw (refused-text (c .before .before .before .before .before .before .before .before .before .before .before .args .lines) input k t e (j .result) (j .ensures) (f .result) (f .ensures)) (put .0 _ h),
-      put .1,
-    )
+    let t = c .before .before .before .before .before .before .before .before .before .complete in
+    let there = sym (t .ensures) ∙ not-false (t .result) (c .before .before .before .before .before .before .before .before .if1 .left) in
+    let h = sym (c .before .before .before .before .before .is-fault .ensures) ∙ c .before .before .before .before .if2 .taken in
+    prints (a .lines) _ _ _ (writes-as (put .0) (refused-text (a .lines) there (j .result) (j .ensures) (f .result) (f .ensures) h)) (put .1)
 
 last-number-requires : tie.Need-last-number-requires
 last-number-requires c κs = search needs
@@ -64,16 +66,16 @@ same-length-3 c = search needs
 
 returns-3 : tie.Need-returns-3
 returns-3 c =
+    let a = c .before .before .before .before .before .before .before .before .before .before .before .before .args in
     let f = c .before .before .before .before .before .before .before .fault-of in
     let j = c .before .before .before .before .before .before .before .before .judge-lines in
     let m = c .before .before .before .before .last-number in
     let put = c .before .before .put-number .ensures in
-    let found = not-faulty (f .result) (sym (c .before .before .before .before .before .before .is-fault .ensures) ∙ c .before .before .before .before .before .if2 .left) in (
-      λ input k.
-          let (t, e) = some-of (threeLines input) (sym (c .before .before .before .before .before .before .before .before .before .before .complete .ensures input k) ∙ not-false (c .before .before .before .before .before .before .before .before .before .before .complete .result) (c .before .before .before .before .before .before .before .before .before .if1 .left)) in
-          rw (accepted-text (c .before .before .before .before .before .before .before .before .before .before .before .before .args .lines) input k t e (j .result) (j .ensures) (f .result) (f .ensures) found (m .result) (m .ensures input k)) (put .0),
-      put .1,
-    )
+    let t = c .before .before .before .before .before .before .before .before .before .before .complete in
+    let there = sym (t .ensures) ∙ not-false (t .result) (c .before .before .before .before .before .before .before .before .before .if1 .left) in
+    let found = not-faulty (f .result) (sym (c .before .before .before .before .before .before .is-fault .ensures) ∙ c .before .before .before .before .before .if2 .left) in
+    prints (a .lines) _ _ _
+    (writes-as (put .0) (accepted-text (a .lines) there (j .result) (j .ensures) (f .result) (f .ensures) found (m .result) (m .ensures))) (put .1)
 
 pub print-spec : {M : Type 1} → statement M
 print-spec =

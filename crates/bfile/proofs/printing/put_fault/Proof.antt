@@ -1,9 +1,8 @@
 -- `bfile::printing::put_fault` meets its contract: by the cases of the fault.
 -- Assumes nothing.
-use mathlib.Core.Path.{sym, ap, _∙_}
+use mathlib.Core.Path.{refl, sym}
 use native.Mathlib.Omega.{arith}
-use Rattle.word.specs.ListLaws.{true-not-false}
-use Rattle.scheme.specs.SchemeMemory.{faulty}
+use Rattle.writer.specs.PageLaws.{overlay-none}
 use borrow.Author.Needs.{needs}
 use Rattle.bfile.proofs.printing.put_fault.Statement.{statement}
 use Rattle.bfile.proofs.printing.put_fault.Tie as tie
@@ -18,7 +17,7 @@ put-refusal-requires : tie.Need-put-refusal-requires
 put-refusal-requires c κs = search needs
 
 returns : tie.Need-returns
-returns c = (λ text h. absurd (true-not-false (sym h ∙ ap faulty (c .enum-told .given .1))), omega arith)
+returns c = (rw (c .enum-told .given .1) (record { moved = refl; page = sym (overlay-none 0 _) }), omega arith)
 
 same-length : tie.Need-same-length
 same-length c = search needs
@@ -26,7 +25,7 @@ same-length c = search needs
 returns-2 : tie.Need-returns-2
 returns-2 c =
     let put = c .before .before .put-refusal .ensures in
-    (λ text h. rw (c .before .before .before .before .before .fault .given .1) (put .0), put .1)
+    (rw (c .before .before .before .before .before .fault .given .1) (put .0), put .1)
 
 pub put-fault-spec : {M : Type 1} → statement M
 put-fault-spec =

@@ -7,12 +7,13 @@ use lib.ListN.{take}
 use Rattle.word.specs.Lists.{row}
 use Rattle.scheme.specs.SchemeMemory.{patternsIn, schemeIn}
 use Rattle.scheme.specs.declared.memory.Fault.{Fault}
+use Rattle.writer.specs.PageLaws.{writes-as}
 use Rattle.wellformed.proofs.OrderLaws.{not-faulty}
 use Rattle.value.specs.Value.{countOf}
 use Rattle.counting.specs.CountLaws.{table-good}
 use Rattle.bfile_text.specs.Printed.{bfileText}
-use Rattle.bfile.specs.TableText.{printedOr, lengthText}
-use Rattle.bfile.specs.TableLaws.{counts-taken}
+use Rattle.bfile.specs.TableText.{printedOr, tableCells, lengthText}
+use Rattle.bfile.specs.TableLaws.{counts-taken, only-line}
 use borrow.Author.Needs.{needs}
 use Rattle.bfile.proofs.printing.put_table.Statement.{statement}
 use Rattle.bfile.proofs.printing.put_table.Tie as tie
@@ -36,7 +37,9 @@ returns c =
     let E = schemeIn (a .scheme) in
     let f = c .before .before .before .before .before .before .table-fault in
     let put = c .before .before .put-fault .ensures in
-    (rw (← (f .ensures)) (put .0 (bfileText (map (countOf P E) (row 0 (suc (a .n))))) (sym (c .before .before .before .before .before .is-fault .ensures) ∙ c .before .before .before .before .if1 .taken)), put .1)
+    let h = sym (c .before .before .before .before .before .is-fault .ensures) ∙ c .before .before .before .before .if1 .taken in
+    let text = bfileText (map (countOf P E) (row 0 (suc (a .n)))) in
+    (writes-as (put .0) (only-line (f .result) text h ∙ ap (λ (x : Fault). printedOr x text) (f .ensures)), put .1)
 
 slice-aggregate-all-counts : tie.Need-slice-aggregate-all-counts
 slice-aggregate-all-counts c = search needs
@@ -46,14 +49,14 @@ all-counts-requires c κs =
     let a = c .before .before .before .before .before .args in
     let q = c .before .before .before .before .before .pre in
     let f = c .before .before .before .table-fault in
-    let good = table-good (schemeIn (a .scheme)) (a .n) 4096 (sym (f .ensures) ∙ not-faulty (f .result) (sym (c .before .before .is-fault .ensures) ∙ c .before .if1 .left)) in
+    let good = table-good (schemeIn (a .scheme)) (a .n) tableCells (sym (f .ensures) ∙ not-faulty (f .result) (sym (c .before .before .is-fault .ensures) ∙ c .before .if1 .left)) in
     (good .0, q .formed, q .claims, good .1)
 
 put-counts-requires : tie.Need-put-counts-requires
 put-counts-requires c κs =
     let a = c .before .before .before .before .before .before .before .before .args in
     let f = c .before .before .before .before .before .before .table-fault in
-    table-good (schemeIn (a .scheme)) (a .n) 4096 (sym (f .ensures) ∙ not-faulty (f .result) (sym (c .before .before .before .before .before .is-fault .ensures) ∙ c .before .before .before .before .if1 .left)) .0
+    table-good (schemeIn (a .scheme)) (a .n) tableCells (sym (f .ensures) ∙ not-faulty (f .result) (sym (c .before .before .before .before .before .is-fault .ensures) ∙ c .before .before .before .before .if1 .left)) .0
 
 same-length-2 : tie.Need-same-length-2
 same-length-2 c = search needs
@@ -65,7 +68,7 @@ returns-2 c =
     let E = schemeIn (a .scheme) in
     let f = c .before .before .before .before .before .before .before .before .before .table-fault in
     let none = sym (f .ensures) ∙ not-faulty (f .result) (sym (c .before .before .before .before .before .before .before .before .is-fault .ensures) ∙ c .before .before .before .before .before .before .before .if1 .left) in
-    let good = table-good E (a .n) 4096 none in
+    let good = table-good E (a .n) tableCells none in
     let all = c .before .before .before .before .before .all-counts in
     let put = c .before .before .put-counts .ensures in
     let text : lengthText P E (a .n) ≡ bfileText (take (a .n + 1) (all .result)) =

@@ -1,4 +1,5 @@
--- The proof of the cycle of calls {put_decimal}. The measure is the number. A digit is written as it is; a larger number is a tenth of it, and its last digit.
+-- The proof of the cycle of calls {put_decimal}. The measure is the number. A digit is written as
+-- it is; a larger number is a tenth of it, and its last digit.
 -- Assumes nothing.
 use mathlib.Core.Path.{sym}
 use native.Mathlib.Omega.{arith}

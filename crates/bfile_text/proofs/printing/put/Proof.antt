@@ -1,4 +1,5 @@
--- `bfile_text::printing::put` meets its contract: a byte inside the page is one place set, and one behind its end changes nothing.
+-- `bfile_text::printing::put` meets its contract: a byte inside the page is one place set, and one
+-- behind its end changes nothing.
 -- Assumes nothing.
 use borrow.Author.Needs.{needs}
 use Rattle.writer.specs.PageLaws.{one-inside, one-behind}

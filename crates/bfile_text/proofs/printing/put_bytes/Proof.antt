@@ -1,4 +1,5 @@
--- `bfile_text::printing::put_bytes` meets its contract: what is still to come are the bytes from the index on.
+-- `bfile_text::printing::put_bytes` meets its contract: what is still to come are the bytes from
+-- the index on.
 -- Assumes nothing.
 use Prim.Native.Nat.{_-_}
 use native.Mathlib.Omega.{arith}

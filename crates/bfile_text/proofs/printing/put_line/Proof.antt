@@ -1,4 +1,5 @@
--- `bfile_text::printing::put_line` meets its contract: the four parts of a line, one after the other.
+-- `bfile_text::printing::put_line` meets its contract: the four parts of a line, one after the
+-- other.
 -- Assumes nothing.
 use native.Mathlib.Omega.{arith}
 use Rattle.writer.specs.PageLaws.{writes-join}

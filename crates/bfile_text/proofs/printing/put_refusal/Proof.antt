@@ -1,4 +1,5 @@
--- `bfile_text::printing::put_refusal` meets its contract: the six parts of the line, one after the other.
+-- `bfile_text::printing::put_refusal` meets its contract: the six parts of the line, one after the
+-- other.
 -- Assumes nothing.
 use native.Mathlib.Omega.{arith}
 use mathlib.Core.Path.{ap, _∙_}

@@ -1,20 +1,17 @@
 -- `lines::input::keep` meets its contract: what is kept in all is what is kept from the index on.
 -- Assumes nothing.
-use Prim.Native.Nat.{ℕ, _-_, _≤_}
-use mathlib.Core.List.{List}
-use Rattle.lines.specs.declared.input.Lines.{Lines}
-use Rattle.lines.specs.Kept.{keptOf}
+use Prim.Native.Nat.{_-_, _≤_}
 use native.Mathlib.Omega.{arith}
-use mathlib.Core.Path.{_≡_, refl, ap, _∙_}
+use mathlib.Core.Path.{_≡_, refl}
 use lib.ListN.{length, drop, getD}
 use borrow.Author.Needs.{needs}
-use Rattle.lines.specs.KeptWalk.{after}
-use Rattle.lines.specs.KeptLaws.{after-kept, turn, chunk-end, turn-fourth, turn-end, turn-set, turn-scheme, turn-last, drop-set, drop-scheme, drop-last}
+use Rattle.lines.specs.KeptWalk.{keptOn}
+use Rattle.lines.specs.KeptLaws.{turn, chunk-end, turn-fourth, turn-end, turn-set, turn-scheme, turn-last, drop-set, drop-scheme, drop-last}
 use Rattle.lines.proofs.input.keep.Statement.{statement}
 use Rattle.lines.proofs.input.keep.Tie as tie
 
 abbrev Inv-loop : tie.InvT-loop
-Inv-loop chunk kept₀ i₀ kept i = (i ≤ length chunk) × (after kept (drop i chunk) ≡ after kept₀ chunk)
+Inv-loop chunk kept₀ i₀ kept i = (i ≤ length chunk) × (keptOn kept (drop i chunk) ≡ keptOn kept₀ chunk)
 
 abbrev μ-loop : tie.MeasureT-loop
 μ-loop chunk kept₀ i₀ kept i = length chunk - i
@@ -108,9 +105,8 @@ loop-again-8 c = let l = c .before .before .before .before .before .before .befo
     (omega arith, turn (l .kept) _ (c .before .before .before .before .before .before .before .before .args .chunk .now) (l .i) _ (l .inv .1) (c .before .before .before .before .before .before .loop-test .taken) (drop-last (l .kept) _ two (c .before .before .before .if2 .left) (c .if7 .left)))
 
 returns : tie.Need-returns Inv-loop μ-loop
-returns c = λ (input : List ℕ) (e : c .before .before .args .lines ≡ keptOf input).
-    let l = c .before .loop in
-    chunk-end (l .kept) (c .before .before .args .chunk .now) (l .i) _ (l .inv .1) (c .loop-test .left) ∙ ap (λ (k : Lines). after k (c .before .before .args .chunk .now)) e ∙ after-kept input (c .before .before .args .chunk .now)
+returns c = let l = c .before .loop in
+    chunk-end (l .kept) (c .before .before .args .chunk .now) (l .i) _ (l .inv .1) (c .loop-test .left)
 
 pub keep-spec : {M : Type 1} → statement M
 keep-spec =

@@ -1,13 +1,12 @@
--- `lines::input::last_number` meets its contract: one kept byte and two are read, and no or three spell no number.
+-- `lines::input::last_number` meets its contract: one kept byte and two are read, and no or three
+-- spell no number.
 -- Assumes nothing.
 use Prim.Native.Nat.{ℕ}
 use mathlib.Core.Path.{_≡_, sym, ap, _∙_}
-use mathlib.Core.List.{List, [], _∷_}
-use lib.ListN.{getD}
-use Rattle.lines.specs.declared.input.Lines.{Lines}
+use lib.ListN.{length, take}
 use Rattle.lines.specs.Lines.{numberIn}
-use Rattle.lines.specs.Kept.{keptOf, asNumber}
-use Rattle.lines.specs.CallerLaws.{kept-one, kept-two, kept-other}
+use Rattle.lines.specs.Kept.{asNumber}
+use Rattle.lines.specs.NumberLaws.{memory-one, memory-two, memory-other}
 use borrow.Author.Needs.{needs}
 use Rattle.lines.proofs.input.last_number.Statement.{statement}
 use Rattle.lines.proofs.input.last_number.Tie as tie
@@ -19,9 +18,10 @@ one-digit-requires : tie.Need-one-digit-requires
 one-digit-requires c κs = search needs
 
 returns : tie.Need-returns
-returns c = λ (input : List ℕ) (e : c .before .before .before .args .lines ≡ keptOf input).
-    c .one-digit .ensures ∙ ap (λ (k : Lines). asNumber (numberIn (getD (k .last) 0 0 ∷ []))) e
-    ∙ ap asNumber (kept-one input (sym (ap (λ (k : Lines). k .«last_length») e) ∙ c .before .if1 .taken))
+returns c = let a = c .before .before .before .args in
+    let three : length (a .lines .last) ≡ 3 = (let g = c .before .before .before .good in search needs) in
+    c .one-digit .ensures ∙ ap asNumber (memory-one (a .lines .last) three)
+    ∙ ap (λ (n : ℕ). asNumber (numberIn (take n (a .lines .last)))) (sym (c .before .if1 .taken))
 
 array-read-two-digits : tie.Need-array-read-two-digits
 array-read-two-digits c = search needs
@@ -33,14 +33,15 @@ two-digits-requires : tie.Need-two-digits-requires
 two-digits-requires c κs = search needs
 
 returns-2 : tie.Need-returns-2
-returns-2 c = λ (input : List ℕ) (e : c .before .before .before .before .args .lines ≡ keptOf input).
-    c .two-digits .ensures ∙ ap (λ (k : Lines). asNumber (numberIn (getD (k .last) 0 0 ∷ getD (k .last) 1 0 ∷ []))) e
-    ∙ ap asNumber (kept-two input (sym (ap (λ (k : Lines). k .«last_length») e) ∙ c .before .if2 .taken))
+returns-2 c = let a = c .before .before .before .before .args in
+    let three : length (a .lines .last) ≡ 3 = (let g = c .before .before .before .before .good in search needs) in
+    c .two-digits .ensures ∙ ap asNumber (memory-two (a .lines .last) three)
+    ∙ ap (λ (n : ℕ). asNumber (numberIn (take n (a .lines .last)))) (sym (c .before .if2 .taken))
 
 returns-3 : tie.Need-returns-3
-returns-3 c = λ (input : List ℕ) (e : c .before .before .before .args .lines ≡ keptOf input).
-    let same = ap (λ (k : Lines). k .«last_length») e in
-    ap asNumber (kept-other input (λ (z : keptOf input .«last_length» ≡ 1). c .before .if1 .left (same ∙ z)) (λ (z : keptOf input .«last_length» ≡ 2). c .if2 .left (same ∙ z)))
+returns-3 c = let a = c .before .before .before .args in
+    let three : length (a .lines .last) ≡ 3 = (let g = c .before .before .before .good in search needs) in
+    ap asNumber (memory-other (a .lines .«last_length») (a .lines .last) three (c .before .if1 .left) (c .if2 .left))
 
 pub last-number-spec : {M : Type 1} → statement M
 last-number-spec =

@@ -1,4 +1,5 @@
--- `lines::input::two_digits` meets its contract: two digits spell a number, where the first is no zero.
+-- `lines::input::two_digits` meets its contract: two digits spell a number, where the first is no
+-- zero.
 -- Assumes nothing.
 use Prim.Native.Nat.{ℕ, _+_, _*_}
 use native.Mathlib.Omega.{arith}
