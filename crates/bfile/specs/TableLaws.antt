@@ -41,7 +41,7 @@ use Rattle.plan.specs.Layout.{needOf}
 use Rattle.count.specs.Run.{Counts}
 use Rattle.claims.specs.EntryMemoryLaws.{take-row}
 use Rattle.judge.specs.TextJudgement.{verdictRead, verdictOfTexts, TextsTrue, JudgesAndReads}
-use Rattle.judge.specs.TextLaws.{spelt-fault, spelt-list, spelt-scheme-fault, spelt-scheme-list}
+use Rattle.judge.specs.TextLaws.{set-clean, set-list, scheme-clean, scheme-list}
 use Rattle.judge.specs.declared.texts.TextsJudged.{TextsJudged}
 use Rattle.counting.specs.Counting.{faultIn}
 use Rattle.counting.specs.CountLaws.{clean-accepts, table-serves}
@@ -120,25 +120,13 @@ module _ (t : Three) (w : TextsTrue (t .set) (t .scheme)) where
   reads-scheme : ReadsScheme (t .scheme) q
   reads-scheme = scheme-answers.answered (t .scheme) q refl .1
 
-  set-clean : p .fault ≡ Clean
-  set-clean = spelt-fault (t .set) p reads (w .patterns) (w .short) (w .spells) ∙ ap faultOf (w .formed .patterns)
-
-  scheme-clean : q .fault ≡ Clean
-  scheme-clean = spelt-scheme-fault (t .scheme) q reads-scheme (w .scheme) (w .short-scheme) (w .spells-scheme) ∙ ap faultOf (w .formed .scheme)
-
-  set-list : patternsIn (p .patterns) ≡ w .patterns
-  set-list = spelt-list (t .set) p reads (w .patterns) (w .short) (w .spells) set-clean
-
-  scheme-list : schemeIn (q .scheme) ≡ w .scheme
-  scheme-list = spelt-scheme-list (t .scheme) q reads-scheme (w .scheme) (w .short-scheme) (w .spells-scheme) scheme-clean
-
   claims-so : faultOf (firstFault (claimTests (patternsIn (p .patterns)) (schemeIn (q .scheme)))) ≡ Clean
-  claims-so = ap₂ (λ (P : List (List ℕ)) (E : List EntryList). faultOf (firstFault (claimTests P E))) set-list scheme-list ∙ ap faultOf (claims-clean (w .patterns) (w .scheme) (w .formed .scheme) (w .claims))
+  claims-so = ap₂ (λ (P : List (List ℕ)) (E : List EntryList). faultOf (firstFault (claimTests P E))) (set-list (t .set) (t .scheme) w p reads) (scheme-list (t .set) (t .scheme) w q reads-scheme) ∙ ap faultOf (claims-clean (w .patterns) (w .scheme) (w .formed .scheme) (w .claims))
 
   accepted-so : faultIn (verdictOfTexts (t .set) (t .scheme)) ≡ Clean
   accepted-so =
       ap₂ (λ (x y : Fault). faultIn (answered (orElse x (orElse y (faultOf (firstFault (claimTests (patternsIn (p .patterns)) (schemeIn (q .scheme))))))) (comparedCells (patternsIn (p .patterns)) (schemeIn (q .scheme)))))
-      set-clean scheme-clean ∙
+      (set-clean (t .set) (t .scheme) w p reads) (scheme-clean (t .set) (t .scheme) w q reads-scheme) ∙
       ap (λ (x : Fault). faultIn (answered x (comparedCells (patternsIn (p .patterns)) (schemeIn (q .scheme))))) claims-so
 
   -- the counts of 01 are the numbers of avoiders
@@ -150,7 +138,7 @@ module _ (t : Three) (w : TextsTrue (t .set) (t .scheme)) where
   pub counts-text : (n : ℕ) → numberIn (t .last) ≡ some n → n ≤ 20 → needOf n (w .scheme) ≤ tableCells → linesText t ≡ avoidersText (w .patterns) n
   counts-text n e h k =
       ap₂ (λ (f : Fault) (o : Option ℕ). printedOr f (numberText (patternsIn (p .patterns)) (schemeIn (q .scheme)) (asNumber o))) accepted-so e ∙
-      ap₂ (λ (P : List (List ℕ)) (E : List EntryList). lengthText P E n) set-list scheme-list ∙
+      ap₂ (λ (P : List (List ℕ)) (E : List EntryList). lengthText P E n) (set-list (t .set) (t .scheme) w p reads) (scheme-list (t .set) (t .scheme) w q reads-scheme) ∙
       ap (λ (f : Fault). printedOr f (bfileText (map (countOf (w .patterns) (w .scheme)) (row 0 (suc n))))) (table-serves (w .scheme) n tableCells h k) ∙
       ap bfileText (counts-so n)
 

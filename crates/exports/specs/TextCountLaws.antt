@@ -18,7 +18,7 @@ use Rattle.notation.specs.declared.schemes.SchemeRead.{SchemeRead}
 use Rattle.verdict.specs.Verdict.{verdictOf, accepted}
 use Rattle.verdict.specs.VerdictLaws.{accepted-exactly}
 use Rattle.judge.specs.TextJudgement.{TextsTrue}
-use Rattle.judge.specs.TextLaws.{spelt-fault, spelt-list, spelt-scheme-fault, spelt-scheme-list}
+use Rattle.judge.specs.TextLaws.{set-clean, set-list, scheme-clean, scheme-list}
 use Rattle.plan.specs.Layout.{needOf}
 use Rattle.counting.specs.Counting.{countedOr, tableAfter, Counts, PlainCounts}
 use Rattle.counting.specs.CountLaws.{refused-count, refused-table}
@@ -39,24 +39,12 @@ module _ (s t : List ℕ) (p : PatternsRead) (reads : (p ≡ patternsAnswer s) �
 
   -- accepted texts are read without a fault, and their lists are accepted
   module _ (w : TextsTrue s t) where
-    set-clean : p .fault ≡ Clean
-    set-clean = spelt-fault s p (reads .1) (w .patterns) (w .short) (w .spells) ∙ ap faultOf (w .formed .patterns)
-
-    scheme-clean : q .fault ≡ Clean
-    scheme-clean = spelt-scheme-fault t q (reads-scheme .1) (w .scheme) (w .short-scheme) (w .spells-scheme) ∙ ap faultOf (w .formed .scheme)
-
     none-found : faulty f ≡ false
-    none-found = ap faulty (found ∙ ap₂ orElse set-clean scheme-clean)
-
-    set-list : patternsIn (p .patterns) ≡ w .patterns
-    set-list = spelt-list s p (reads .1) (w .patterns) (w .short) (w .spells) set-clean
-
-    scheme-list : schemeIn (q .scheme) ≡ w .scheme
-    scheme-list = spelt-scheme-list t q (reads-scheme .1) (w .scheme) (w .short-scheme) (w .spells-scheme) scheme-clean
+    none-found = ap faulty (found ∙ ap₂ orElse (set-clean s t w p (reads .1)) (scheme-clean s t w q (reads-scheme .1)))
 
     lists-accepted : accepted (verdictOf (patternsIn (p .patterns)) (schemeIn (q .scheme))) ≡ true
     lists-accepted =
-        ap₂ (λ (P : List (List ℕ)) (E : List EntryList). accepted (verdictOf P E)) set-list scheme-list ∙
+        ap₂ (λ (P : List (List ℕ)) (E : List EntryList). accepted (verdictOf P E)) (set-list s t w p (reads .1)) (scheme-list s t w q (reads-scheme .1)) ∙
         accepted-exactly (w .patterns) (w .scheme) .1 (w .formed, w .claims)
 
   -- a fault of reading
@@ -97,7 +85,7 @@ module _ (s t : List ℕ) (p : PatternsRead) (reads : (p ≡ patternsAnswer s) �
           answer = k ∙ ap codeOf (moved .answer ∙ ap (λ (x : Fault). countedOr x (countIn s t n)) (then-found _));
           table = moved .table ∙ ap (λ (x : Fault). tableAfter x (needOf n (schemeIn ((schemeAnswer t) .scheme))) T) (then-found _);
           counts = λ (w : TextsTrue s t) (a : n ≤ 20) (b : needOf n (w .scheme) ≤ length T).
-              k ∙ ap codeOf (d .counts (lists-accepted w) a (rw (scheme-list w) b)) ∙ ap (λ (P : List (List ℕ)). length (avoiders P n)) (set-list w);
+              k ∙ ap codeOf (d .counts (lists-accepted w) a (rw (scheme-list s t w q (reads-scheme .1)) b)) ∙ ap (λ (P : List (List ℕ)). length (avoiders P n)) (set-list s t w p (reads .1));
         }
       where
         moved : Counts (patternsIn ((patternsAnswer s) .patterns)) (schemeIn ((schemeAnswer t) .scheme)) n T T' c
@@ -108,7 +96,7 @@ module _ (s t : List ℕ) (p : PatternsRead) (reads : (p ≡ patternsAnswer s) �
         record {
           answer = k ∙ ap codeOf (moved .answer ∙ ap (λ (x : Fault). countedOr x (countIn s t n)) (then-found _));
           counts = λ (w : TextsTrue s t) (a : n ≤ 9).
-              k ∙ ap codeOf (d .counts (lists-accepted w) a) ∙ ap (λ (P : List (List ℕ)). length (avoiders P n)) (set-list w);
+              k ∙ ap codeOf (d .counts (lists-accepted w) a) ∙ ap (λ (P : List (List ℕ)). length (avoiders P n)) (set-list s t w p (reads .1));
         }
       where
         moved : PlainCounts (patternsIn ((patternsAnswer s) .patterns)) (schemeIn ((schemeAnswer t) .scheme)) n c

@@ -94,6 +94,22 @@ or-else-clean-both Clean Clean h = (refl, refl)
 or-else-clean-both Clean (At r i) h = absurd (true-not-false h)
 or-else-clean-both (At r i) b h = absurd (true-not-false h)
 
+-- What is read from texts within their ceilings that spell a well-formed scheme with true claims
+module _ (s t : List ℕ) (w : TextsTrue s t) where
+  module _ (p : PatternsRead) (reading : ReadsPatterns s p) where
+    pub set-clean : p .fault ≡ Clean
+    set-clean = spelt-fault s p reading (w .patterns) (w .short) (w .spells) ∙ ap faultOf (w .formed .patterns)
+
+    pub set-list : patternsIn (p .patterns) ≡ w .patterns
+    set-list = spelt-list s p reading (w .patterns) (w .short) (w .spells) set-clean
+
+  module _ (q : SchemeRead) (reading : ReadsScheme t q) where
+    pub scheme-clean : q .fault ≡ Clean
+    scheme-clean = spelt-scheme-fault t q reading (w .scheme) (w .short-scheme) (w .spells-scheme) ∙ ap faultOf (w .formed .scheme)
+
+    pub scheme-list : schemeIn (q .scheme) ≡ w .scheme
+    scheme-list = spelt-scheme-list t q reading (w .scheme) (w .short-scheme) (w .spells-scheme) scheme-clean
+
 -- What was read from the texts s and t.
 module _ (s t : List ℕ) (p : PatternsRead) (is : p ≡ patternsAnswer s) (reading : ReadsPatterns s p) (q : SchemeRead) (is-scheme : q ≡ schemeAnswer t)
     (reading-scheme : ReadsScheme t q) where
@@ -123,8 +139,7 @@ module _ (s t : List ℕ) (p : PatternsRead) (is : p ≡ patternsAnswer s) (read
   -- true texts have no fault
   true-clean : TextsTrue s t → orElse (p .fault) (q .fault) ≡ Clean
   true-clean w =
-      ap₂ orElse (spelt-fault s p reading (w .patterns) (w .short) (w .spells) ∙ ap faultOf (w .formed .patterns))
-      (spelt-scheme-fault t q reading-scheme (w .scheme) (w .short-scheme) (w .spells-scheme) ∙ ap faultOf (w .formed .scheme))
+      ap₂ orElse (set-clean s t w p reading) (scheme-clean s t w q reading-scheme)
 
   module _ (fault : Fault) (found : fault ≡ orElse (p .fault) (q .fault)) where
     -- a fault of reading refuses
