@@ -20,7 +20,7 @@ use Rattle.cell.specs.BuiltWords.{level-at-most}
 use Rattle.cell.specs.WithoutLaws.{withoutFrom, without-from, entry-injective}
 use Rattle.candidate.specs.Lookup.{entryOf, flagged, Says, Flags}
 use Rattle.candidate.specs.Tabled.{keptValues, Reached, Tabled}
-use Rattle.candidate.proofs.TableLaws.{part-cons, part-end}
+use Rattle.candidate.proofs.LookupLaws.{part-cons, part-end}
 
 -- one entry more of the word: y, which was the first still to come
 pub push : (e : List ℕ) (n y : ℕ) (v u w : List ℕ) → n < length e → u ≡ y ∷ v → take n e ++ u ≡ w → take (n + 1) (set e n y) ++ v ≡ w

@@ -2,6 +2,6 @@
 pub mod PlacingState
 pub mod HitLaws
 pub mod BasisWalk
-pub mod TableLaws
+pub mod LookupLaws
 pub mod CandidateMade
 pub mod CandidateWalk

@@ -1,3 +1,3 @@
 -- The laws that the proofs of the crate claims use.
-pub mod GapLaws
+pub mod GapClaimLaws
 pub mod RuleLaws

@@ -22,9 +22,9 @@ use Rattle.verdict.specs.Verdict.{comparedCells, judgeTests, answered, verdictO
 use Rattle.verdict.specs.Truth.{WellFormed, AllTrue}
 use Rattle.verdict.specs.VerdictLaws.{accepted-clean, accepted-exactly}
 use Rattle.verdict.specs.declared.answer.Verdict.{Verdict}
-use Rattle.plan.specs.Layout.{needOf}
-use Rattle.value.specs.Value.{countOf}
-use Rattle.value.specs.ValueLaws.{count-avoiders}
+use Rattle.count_plan.specs.Layout.{needOf}
+use Rattle.verdict.specs.Value.{countOf}
+use Rattle.verdict.specs.ValueLaws.{count-avoiders}
 use Rattle.counting.specs.Counting.{tableTests, countTests, lengthTests, plainTests, faultIn, countedOr, toldCounted, tableAfter, Counts, PlainCounts}
 use Rattle.counting.specs.declared.answer.Counted.{Counted}
 use Rattle.counting.specs.declared.answer.Counted.the-variants.{Count}

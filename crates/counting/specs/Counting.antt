@@ -16,8 +16,8 @@ use Rattle.scheme.specs.declared.memory.Fault.the-variants.{Clean, At}
 use Rattle.verdict.specs.Verdict.{judgeTests, verdictOf, accepted}
 use Rattle.verdict.specs.declared.answer.Verdict.{Verdict}
 use Rattle.verdict.specs.declared.answer.Verdict.the-variants.{Accepted, Refused}
-use Rattle.plan.specs.Layout.{needOf}
-use Rattle.value.specs.Value.{countOf}
+use Rattle.count_plan.specs.Layout.{needOf}
+use Rattle.verdict.specs.Value.{countOf}
 use Rattle.counting.specs.declared.answer.Counted.{Counted}
 use Rattle.counting.specs.declared.answer.Counted.the-variants.{Count, Refused as RefusedCount}
 

@@ -2,8 +2,8 @@
 use crate::answer::Counted;
 use crate::answer::count_or;
 use crate::answer::fault_of;
-use count::run::counts;
-use count::run::need;
+use count_rows::run::counts;
+use count_rows::run::need;
 use judge::judging::judge;
 use judge::sets::lengths_of;
 use judge::sets::rows_of;
@@ -18,9 +18,9 @@ ghost use lib.ListN.{length};
 ghost use Rattle.scheme.specs.SchemeMemory.{patternsIn, schemeIn, faultOf};
 ghost use Rattle.word.specs.Finding.{firstFault};
 ghost use Rattle.verdict.specs.Truth.{WellFormed, AllTrue};
-ghost use Rattle.plan.specs.Layout.{needOf};
-ghost use Rattle.plan.specs.Plan.{Proper};
-ghost use Rattle.count.specs.Run.{cleared, Counts as CountsTo};
+ghost use Rattle.count_plan.specs.Layout.{needOf};
+ghost use Rattle.count_plan.specs.Plan.{Proper};
+ghost use Rattle.count_rows.specs.Run.{cleared, Counts as CountsTo};
 ghost use Rattle.counting.specs.Counting.{tableTests, Counts};
 
 // the largest length that is counted

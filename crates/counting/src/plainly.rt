@@ -2,10 +2,10 @@
 use crate::answer::Counted;
 use crate::answer::count_or;
 use crate::answer::fault_of;
+use count_plain::counting::plain_count;
 use judge::judging::judge;
 use judge::sets::lengths_of;
 use judge::sets::rows_of;
-use plain::counting::plain_count;
 use scheme::memory::Fault;
 use scheme::memory::Patterns;
 use scheme::memory::Scheme;
@@ -16,7 +16,7 @@ ghost use Prim.Native.Nat.{_≤_};
 ghost use Rattle.word.specs.Finding.{firstFault};
 ghost use Rattle.scheme.specs.SchemeMemory.{patternsIn, schemeIn, faultOf};
 ghost use Rattle.verdict.specs.Truth.{WellFormed, AllTrue};
-ghost use Rattle.value.specs.Value.{countOf};
+ghost use Rattle.verdict.specs.Value.{countOf};
 ghost use Rattle.counting.specs.Counting.{lengthTests, PlainCounts};
 
 // the largest length that is evaluated plainly

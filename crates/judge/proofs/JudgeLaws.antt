@@ -29,7 +29,7 @@ use Rattle.claims.specs.EntryMemory.{ProperSet}
 use Rattle.judge.specs.SetMemory.{HasDigits, HasLengths, ProperScheme, ComparesCells}
 use Rattle.judge.specs.SetLaws.{set-holds}
 use Rattle.judge.specs.JudgementLaws.{verdict-parts, live-same, differs-same, basis-shorter, refused-answer}
-use Rattle.judge.proofs.EntriesLaws.{liveEntry, differingEntry}
+use Rattle.judge.proofs.EntryWalkLaws.{liveEntry, differingEntry}
 
 -- the earlier of two findings, where the first decides and where it does not
 pub earlier-first : (f a b : Fault) → f ≡ a → faulty f ≡ true → f ≡ orElse a b

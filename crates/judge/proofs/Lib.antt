@@ -1,3 +1,3 @@
 -- The laws that the proofs of the crate judge use.
-pub mod EntriesLaws
+pub mod EntryWalkLaws
 pub mod JudgeLaws

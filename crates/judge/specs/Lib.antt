@@ -4,4 +4,4 @@ pub mod SetMemory
 pub mod SetLaws
 pub mod JudgementLaws
 pub mod TextJudgement
-pub mod TextLaws
+pub mod TextVerdictLaws

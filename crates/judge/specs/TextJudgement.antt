@@ -9,7 +9,7 @@ use Rattle.word.specs.Finding.{firstFault}
 use Rattle.scheme.specs.SchemeList.{EntryList}
 use Rattle.scheme.specs.SchemeMemory.{patternsIn, schemeIn, faultOf, orElse, toldOr}
 use Rattle.scheme.specs.declared.memory.Fault.{Fault}
-use Rattle.grammar.specs.Spelling.{SpellsPatterns, SpellsScheme}
+use Rattle.text_grammar.specs.Spelling.{SpellsPatterns, SpellsScheme}
 use Rattle.notation.specs.PatternAnswers.{patternsAnswer}
 use Rattle.notation.specs.SchemeAnswers.{schemeAnswer}
 use Rattle.notation.specs.declared.patterns.PatternsRead.{PatternsRead}

@@ -17,14 +17,14 @@ use Rattle.scheme.specs.SchemeMemory.{faultOf, faulty, toldOr}
 use Rattle.scheme.specs.ToldLaws.{told-found}
 use Rattle.scheme.specs.declared.memory.Fault.{Fault}
 use Rattle.scheme.specs.declared.memory.Fault.the-variants.{Clean, At}
-use Rattle.grammar.specs.Spelling.{Token, spaceless}
-use Rattle.grammar.specs.Tokens.{tokens}
-use Rattle.writer.specs.Page.{overlay}
+use Rattle.text_grammar.specs.Spelling.{Token, spaceless}
+use Rattle.text_grammar.specs.Tokens.{tokens}
+use Rattle.text_writer.specs.Page.{overlay}
 use Rattle.notation.specs.Written.{writtenOr, Writing}
 use Rattle.notation.specs.Answers.{answerFrom, answerTo, foundFrom, foundIn, ReadsList, WritesList}
 use Rattle.notation.specs.declared.written.Written.{Written}
 use Rattle.notation.specs.declared.written.Written.the-variants.{Bytes, Refused}
-use Rattle.notation.proofs.FindingLaws.{notOne, not-clean, not-misspelt}
+use Rattle.notation.proofs.ReadingFaultLaws.{notOne, not-clean, not-misspelt}
 use Rattle.notation.proofs.WritingLaws.{writes-refused, writes-short, writes-done}
 use Rattle.scheme.specs.TestLaws.{clean-of}
 

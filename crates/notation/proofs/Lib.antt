@@ -1,5 +1,5 @@
 -- The laws that the proofs of the crate notation cite.
-pub mod FindingLaws
+pub mod ReadingFaultLaws
 pub mod WritingLaws
 pub mod AnswerLaws
 pub mod PatternAnswerLaws

@@ -16,19 +16,19 @@ use Rattle.scheme.specs.declared.memory.Patterns.{Patterns}
 use Rattle.scheme.specs.declared.memory.Fault.{Fault}
 use Rattle.scheme.specs.declared.memory.Fault.the-variants.{Clean, At}
 use Rattle.word.specs.Containment.{isPattern}
-use Rattle.grammar.specs.Tokens.{tokens}
-use Rattle.grammar.specs.Spelling.{SpellsPatterns, writtenPatterns}
+use Rattle.text_grammar.specs.Tokens.{tokens}
+use Rattle.text_grammar.specs.Spelling.{SpellsPatterns, writtenPatterns}
 use Rattle.notation.specs.Answers.{answerFrom}
-use Rattle.grammar.specs.Grammar.{readPatterns}
-use Rattle.pattern_text.specs.PatternMemory.{loadedPatterns, patternText}
-use Rattle.pattern_text.specs.PatternLoading.{loaded-same, loaded-faults}
-use Rattle.grammar.specs.SpellingLaws.{patterns-sound, patterns-complete, patterns-unique, patterns-written-read}
-use Rattle.pattern_text.specs.PatternGrammar as walk
-use Rattle.pattern_text.specs.PatternReading.{walk-reads}
-use Rattle.pattern_text.specs.declared.pattern_reader.PatternText.{PatternText}
+use Rattle.text_grammar.specs.Grammar.{readPatterns}
+use Rattle.text_patterns.specs.PatternMemory.{loadedPatterns, patternText}
+use Rattle.text_patterns.specs.PatternLoading.{loaded-same, loaded-faults}
+use Rattle.text_grammar.specs.SpellingLaws.{patterns-sound, patterns-complete, patterns-unique, patterns-written-read}
+use Rattle.text_patterns.specs.PatternGrammar as walk
+use Rattle.text_patterns.specs.PatternReading.{walk-reads}
+use Rattle.text_patterns.specs.declared.pattern_reader.PatternText.{PatternText}
 use Rattle.notation.specs.declared.patterns.PatternsRead.{PatternsRead}
 use Rattle.notation.specs.PatternAnswers.{refusedPatterns, readOr, testedPatterns, patternsAnswer, ReadsPatterns}
-use Rattle.notation.proofs.FindingLaws.{notOne, test-not-one, first-not-one, twin-not-one, all-not-one}
+use Rattle.notation.proofs.ReadingFaultLaws.{notOne, test-not-one, first-not-one, twin-not-one, all-not-one}
 use Rattle.notation.proofs.AnswerLaws as any
 
 -- the tests never refuse with 1

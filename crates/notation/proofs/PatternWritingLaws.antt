@@ -11,18 +11,18 @@ use Rattle.scheme.specs.WellFormed.{patternTests}
 use Rattle.scheme.specs.SchemeMemory.{patternsIn, faultOf, faulty}
 use Rattle.scheme.specs.declared.memory.Fault.{Fault}
 use Rattle.scheme.specs.declared.memory.Fault.the-variants.{Clean}
-use Rattle.grammar.specs.Spelling.{SpellsPatterns, writtenPatterns}
-use Rattle.grammar.specs.SpellingLaws.{patterns-written-spells, patterns-read-written}
-use Rattle.pattern_text.specs.PatternMemory.{loadedPatterns}
-use Rattle.pattern_text.specs.PatternLoading.{loaded-same}
-use Rattle.grammar.specs.Grammar.{readPatterns}
-use Rattle.writer.specs.Page.{overlay}
+use Rattle.text_grammar.specs.Spelling.{SpellsPatterns, writtenPatterns}
+use Rattle.text_grammar.specs.SpellingLaws.{patterns-written-spells, patterns-read-written}
+use Rattle.text_patterns.specs.PatternMemory.{loadedPatterns}
+use Rattle.text_patterns.specs.PatternLoading.{loaded-same}
+use Rattle.text_grammar.specs.Grammar.{readPatterns}
+use Rattle.text_writer.specs.Page.{overlay}
 use Rattle.notation.specs.Written.{writtenOr}
 use Rattle.notation.specs.Answers.{answerFrom}
 use Rattle.notation.specs.PatternAnswers.{refusedPatterns, testedPatterns, patternsAnswer, WritesPatterns}
 use Rattle.notation.specs.declared.written.Written.{Written}
 use Rattle.notation.specs.declared.written.Written.the-variants.{Bytes, Refused}
-use Rattle.writer.proofs.FitLaws.{patterns-writable, patterns-short}
+use Rattle.text_writer.proofs.FitLaws.{patterns-writable, patterns-short}
 use Rattle.notation.proofs.AnswerLaws as any
 
 -- the text of a list that passes its tests is read as that list

@@ -17,18 +17,18 @@ use Rattle.scheme.specs.declared.memory.Scheme.{Scheme}
 use Rattle.scheme.specs.declared.memory.Fault.{Fault}
 use Rattle.scheme.specs.declared.memory.Fault.the-variants.{Clean, At}
 use Rattle.word.specs.Word.{isPerm}
-use Rattle.grammar.specs.Tokens.{tokens}
-use Rattle.grammar.specs.Spelling.{SpellsScheme, writtenScheme}
+use Rattle.text_grammar.specs.Tokens.{tokens}
+use Rattle.text_grammar.specs.Spelling.{SpellsScheme, writtenScheme}
 use Rattle.notation.specs.Answers.{answerFrom}
-use Rattle.grammar.specs.Grammar.{readEntries}
-use Rattle.scheme_text.specs.SchemeLoaded.{loadedScheme}
-use Rattle.scheme_text.specs.SchemeReading.{schemeText}
-use Rattle.scheme_text.specs.SchemeLoading.{loaded-scheme-same, loaded-scheme-faults}
-use Rattle.grammar.specs.SpellingLaws.{scheme-sound, scheme-complete, scheme-unique, scheme-written-read}
-use Rattle.scheme_text.specs.declared.parts.SchemeText.{SchemeText}
+use Rattle.text_grammar.specs.Grammar.{readEntries}
+use Rattle.text_schemes.specs.SchemeLoaded.{loadedScheme}
+use Rattle.text_schemes.specs.SchemeReading.{schemeText}
+use Rattle.text_schemes.specs.SchemeLoading.{loaded-scheme-same, loaded-scheme-faults}
+use Rattle.text_grammar.specs.SpellingLaws.{scheme-sound, scheme-complete, scheme-unique, scheme-written-read}
+use Rattle.text_schemes.specs.declared.parts.SchemeText.{SchemeText}
 use Rattle.notation.specs.declared.schemes.SchemeRead.{SchemeRead}
 use Rattle.notation.specs.SchemeAnswers.{refusedScheme, readSchemeOr, testedScheme, schemeAnswer, ReadsScheme}
-use Rattle.notation.proofs.FindingLaws.{notOne, test-not-one, first-not-one, twin-not-one, all-not-one}
+use Rattle.notation.proofs.ReadingFaultLaws.{notOne, test-not-one, first-not-one, twin-not-one, all-not-one}
 use Rattle.notation.proofs.AnswerLaws as any
 
 -- the tests never refuse with 1

@@ -12,18 +12,18 @@ use Rattle.scheme.specs.SchemeList.{EntryList}
 use Rattle.scheme.specs.SchemeMemory.{schemeIn, faultOf, faulty}
 use Rattle.scheme.specs.declared.memory.Fault.{Fault}
 use Rattle.scheme.specs.declared.memory.Fault.the-variants.{Clean}
-use Rattle.grammar.specs.Spelling.{SpellsScheme, writtenScheme}
-use Rattle.grammar.specs.SpellingLaws.{scheme-written-spells, scheme-read-written}
-use Rattle.scheme_text.specs.SchemeLoaded.{loadedScheme}
-use Rattle.scheme_text.specs.SchemeLoading.{loaded-scheme-same}
-use Rattle.grammar.specs.Grammar.{readEntries}
-use Rattle.writer.specs.Page.{overlay}
+use Rattle.text_grammar.specs.Spelling.{SpellsScheme, writtenScheme}
+use Rattle.text_grammar.specs.SpellingLaws.{scheme-written-spells, scheme-read-written}
+use Rattle.text_schemes.specs.SchemeLoaded.{loadedScheme}
+use Rattle.text_schemes.specs.SchemeLoading.{loaded-scheme-same}
+use Rattle.text_grammar.specs.Grammar.{readEntries}
+use Rattle.text_writer.specs.Page.{overlay}
 use Rattle.notation.specs.Written.{writtenOr}
 use Rattle.notation.specs.Answers.{answerFrom}
 use Rattle.notation.specs.SchemeAnswers.{refusedScheme, testedScheme, schemeAnswer, WritesScheme}
 use Rattle.notation.specs.declared.written.Written.{Written}
 use Rattle.notation.specs.declared.written.Written.the-variants.{Bytes, Refused}
-use Rattle.writer.proofs.SchemeFitLaws.{scheme-writable, scheme-short}
+use Rattle.text_writer.proofs.SchemeFitLaws.{scheme-writable, scheme-short}
 use Rattle.notation.proofs.AnswerLaws as any
 
 -- the text of a list that passes its tests is read as that list

@@ -14,8 +14,8 @@ use Rattle.word.specs.declared.refusal.Refusal.the-variants.{Misspelt, Oversize
 use Rattle.scheme.specs.SchemeMemory.{toldOr}
 use Rattle.scheme.specs.declared.memory.Fault.{Fault}
 use Rattle.scheme.specs.declared.memory.Fault.the-variants.{Clean, At}
-use Rattle.grammar.specs.Spelling.{Token, spaceless}
-use Rattle.grammar.specs.Tokens.{tokens}
+use Rattle.text_grammar.specs.Spelling.{Token, spaceless}
+use Rattle.text_grammar.specs.Tokens.{tokens}
 use Rattle.notation.specs.Written.{Writing}
 use Rattle.notation.specs.declared.written.Written.{Written}
 use Rattle.notation.specs.declared.written.Written.the-variants.{Bytes}

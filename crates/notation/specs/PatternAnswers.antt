@@ -8,9 +8,9 @@ use Rattle.scheme.specs.SchemeMemory.{patternsIn, faultOf}
 use Rattle.scheme.specs.declared.memory.Patterns.{Patterns}
 use Rattle.scheme.specs.declared.memory.Fault.{Fault}
 use Rattle.scheme.specs.declared.memory.Fault.the-variants.{Clean, At}
-use Rattle.grammar.specs.Spelling.{SpellsPatterns, writtenPatterns}
-use Rattle.grammar.specs.Grammar.{readPatterns}
-use Rattle.pattern_text.specs.PatternMemory.{loadedPatterns}
+use Rattle.text_grammar.specs.Spelling.{SpellsPatterns, writtenPatterns}
+use Rattle.text_grammar.specs.Grammar.{readPatterns}
+use Rattle.text_patterns.specs.PatternMemory.{loadedPatterns}
 use Rattle.notation.specs.Answers.{answerTo, ReadsList, WritesList}
 use Rattle.notation.specs.declared.patterns.PatternsRead.{PatternsRead}
 use Rattle.notation.specs.declared.written.Written.{Written}

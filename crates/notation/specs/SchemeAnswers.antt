@@ -9,9 +9,9 @@ use Rattle.scheme.specs.SchemeMemory.{schemeIn, faultOf}
 use Rattle.scheme.specs.declared.memory.Scheme.{Scheme}
 use Rattle.scheme.specs.declared.memory.Fault.{Fault}
 use Rattle.scheme.specs.declared.memory.Fault.the-variants.{Clean, At}
-use Rattle.grammar.specs.Spelling.{SpellsScheme, writtenScheme}
-use Rattle.grammar.specs.Grammar.{readEntries}
-use Rattle.scheme_text.specs.SchemeLoaded.{loadedScheme}
+use Rattle.text_grammar.specs.Spelling.{SpellsScheme, writtenScheme}
+use Rattle.text_grammar.specs.Grammar.{readEntries}
+use Rattle.text_schemes.specs.SchemeLoaded.{loadedScheme}
 use Rattle.notation.specs.Answers.{answerTo, ReadsList, WritesList}
 use Rattle.notation.specs.declared.schemes.SchemeRead.{SchemeRead}
 use Rattle.notation.specs.declared.written.Written.{Written}

@@ -1,14 +1,14 @@
 // Reading and writing a set of patterns.
 use crate::written::Written;
 use crate::written::written_or;
-use pattern_text::pattern_reader::load_patterns;
-use pattern_text::pattern_reader::no_patterns;
 use scheme::memory::Fault;
 use scheme::memory::Patterns;
 use scheme::order::is_fault;
+use text_patterns::pattern_reader::load_patterns;
+use text_patterns::pattern_reader::no_patterns;
+use text_writer::writing::put_patterns;
 use wellformed::pattern_tests::patterns_fault;
 use word::refusal::Refusal;
-use writer::writing::put_patterns;
 ghost use mathlib.Core.Path.{_≡_};
 ghost use Rattle.scheme.specs.SchemeMemory.{patternsIn};
 ghost use Rattle.notation.specs.PatternAnswers.{readOr, refusedPatterns, patternsAnswer, ReadsPatterns, WritesPatterns};

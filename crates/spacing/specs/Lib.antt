@@ -3,3 +3,8 @@ pub mod GapRows
 pub mod Following
 pub mod SpacingOrder
 pub mod LexLaws
+pub mod Rank
+pub mod Pascal
+pub mod RankLaws
+pub mod PascalLaws
+pub mod TotalLaws

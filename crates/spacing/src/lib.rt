@@ -1,4 +1,8 @@
-// The spacings of one total in lexicographic order, and the number of compared spacings of an entry.
+// The spacings of one total in lexicographic order, and the number of compared spacings of an entry;
+// binomials, the rank of a spacing, and the spacing that comes next by rank.
+pub mod binomials;
+pub mod walk;
+
 ghost use mathlib.Core.Path.{_≡_};
 ghost use Prim.Native.Nat.{suc, _+_, _<_, _≤_};
 ghost use lib.ListN.{length, take};

@@ -1,16 +1,16 @@
 // The table program: reads a set, a scheme and the largest length from standard input, and prints a
 // b-file or the line of a refusal. Where reading or writing fails it says so on standard error.
-use bfile::printing::PAGE;
-use bfile::printing::print;
 use libc::STDIN_FILENO;
 use libc::STDOUT_FILENO;
-use lines::input::Lines;
-use lines::input::nothing;
-use lines::reading::Reading;
-use lines::reading::State;
-use lines::reading::has_more;
-use lines::reading::taken;
-ghost use Rattle.lines.specs.Reads.{ReadsSome, ReadsAll};
+use table_lines::input::Lines;
+use table_lines::input::nothing;
+use table_lines::reading::Reading;
+use table_lines::reading::State;
+use table_lines::reading::has_more;
+use table_lines::reading::taken;
+use table_print::printing::PAGE;
+use table_print::printing::print;
+ghost use Rattle.table_lines.specs.Reads.{ReadsSome, ReadsAll};
 
 fn main() {
     let reading = read_all();

@@ -1,7 +1,10 @@
--- The definition of the verdict, and the theorem on it.
+-- The verdict and the values of a scheme, and the theorems on them.
 pub mod Verdict
 pub mod Truth
 pub mod FindingLaws
 pub mod Proper
 pub mod ProperLaws
 pub mod VerdictLaws
+pub mod Value
+pub mod Size
+pub mod ValueLaws

@@ -20,7 +20,7 @@ ghost use Rattle.cell.specs.Cell.{same};
 ghost use Rattle.scheme.specs.WellFormed.{firstAt, firstTwin, listed, patternTests};
 ghost use Rattle.scheme.specs.SchemeMemory.{patternIn, patternsIn, faultOf};
 ghost use Rattle.scheme.specs.TestOrder.{placeIn};
-ghost use Rattle.entry_tests.specs.Twin.{nearestTwin};
+ghost use Rattle.wellformed.specs.Twin.{nearestTwin};
 
 // What the tests 2 to 4 find in a pattern list: the first fault in their order.
 pub fn patterns_fault(s: Patterns) -> Fault

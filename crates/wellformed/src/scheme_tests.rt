@@ -1,10 +1,10 @@
 // The tests 2 to 9 of a scheme list in memory, in their order.
-use entry_tests::large_fault;
-use entry_tests::permutation_fault;
-use entry_tests::position_fault;
-use entry_tests::root_fault;
-use entry_tests::twin_fault;
-use entry_tests::width_fault;
+use crate::entry_tests::large_fault;
+use crate::entry_tests::permutation_fault;
+use crate::entry_tests::position_fault;
+use crate::entry_tests::root_fault;
+use crate::entry_tests::twin_fault;
+use crate::entry_tests::width_fault;
 use scheme::links::child_fault;
 use scheme::links::target_fault;
 use scheme::memory::Fault;

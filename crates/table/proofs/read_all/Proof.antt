@@ -3,8 +3,8 @@
 -- Assumes nothing.
 use native.Mathlib.Omega.{arith}
 use mathlib.Core.List.{[]}
-use Rattle.lines.specs.Reads.{ReadsAll}
-use Rattle.lines.specs.ReadLaws.{reads-on}
+use Rattle.table_lines.specs.Reads.{ReadsAll}
+use Rattle.table_lines.specs.ReadLaws.{reads-on}
 use borrow.Author.Needs.{needs}
 use Rattle.table.proofs.read_all.Statement.{statement}
 use Rattle.table.proofs.read_all.Tie as tie

@@ -1,6 +1,6 @@
 -- `table::read_some` meets its contract: what is taken of some chunk.
 -- Assumes nothing.
-use Rattle.lines.specs.ReadLaws.{reads-some}
+use Rattle.table_lines.specs.ReadLaws.{reads-some}
 use borrow.Author.Needs.{needs}
 use Rattle.table.proofs.read_some.Statement.{statement}
 use Rattle.table.proofs.read_some.Tie as tie

@@ -7,7 +7,7 @@ use native.Mathlib.Omega.{arith}
 use borrow.Author.Needs.{needs}
 use lib.ListN.{length, take, drop}
 use Rattle.word.specs.Word.{under}
-use Rattle.candidate.proofs.TableLaws.{under-counted, under-passed, under-end}
+use Rattle.candidate.proofs.LookupLaws.{under-counted, under-passed, under-end}
 use Rattle.candidate.proofs.tables.at_most.Statement.{statement}
 use Rattle.candidate.proofs.tables.at_most.Tie as tie
 

@@ -9,7 +9,7 @@ use borrow.Author.Needs.{needs}
 use lib.ListN.{length, getD, take, drop}
 use Rattle.word.specs.Word.{has, entry}
 use Rattle.candidate.specs.Lookup.{flagged}
-use Rattle.candidate.proofs.TableLaws.{position-bounds, position-small, flag-none, flag-next, flag-end}
+use Rattle.candidate.proofs.LookupLaws.{position-bounds, position-small, flag-none, flag-next, flag-end}
 use Rattle.candidate.proofs.tables.deleted_values.Statement.{statement}
 use Rattle.candidate.proofs.tables.deleted_values.Tie as tie
 

@@ -8,7 +8,7 @@ use lib.ListN.{length, getD, take, replicate}
 use Rattle.cell.specs.Built.{level}
 use Rattle.cell.specs.BuiltWords.{level-at-most}
 use Rattle.candidate.specs.Lookup.{Says}
-use Rattle.candidate.proofs.TableLaws.{says-more, says-first, level-more, level-zero}
+use Rattle.candidate.proofs.LookupLaws.{says-more, says-first, level-more, level-zero}
 use Rattle.candidate.proofs.tables.levels_of.Statement.{statement}
 use Rattle.candidate.proofs.tables.levels_of.Tie as tie
 

@@ -6,7 +6,7 @@ use mathlib.Core.Logic.{⊎-elim}
 use native.Mathlib.Omega.{arith}
 use borrow.Author.Needs.{needs}
 use Rattle.candidate.specs.Lookup.{entryOf}
-use Rattle.candidate.proofs.TableLaws.{lower, lower-counted, lower-passed, lower-end, lower-lifts}
+use Rattle.candidate.proofs.LookupLaws.{lower, lower-counted, lower-passed, lower-end, lower-lifts}
 use Rattle.candidate.proofs.tables.lifted.Statement.{statement}
 use Rattle.candidate.proofs.tables.lifted.Tie as tie
 

@@ -8,7 +8,7 @@ use borrow.Author.Needs.{needs}
 use lib.ListN.{length, take, drop}
 use Rattle.word.specs.Word.{under}
 use Rattle.candidate.specs.Lookup.{Says}
-use Rattle.candidate.proofs.TableLaws.{says-more}
+use Rattle.candidate.proofs.LookupLaws.{says-more}
 use Rattle.candidate.proofs.tables.needed.Statement.{statement}
 use Rattle.candidate.proofs.tables.needed.Tie as tie
 

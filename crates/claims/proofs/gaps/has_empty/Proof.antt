@@ -13,7 +13,7 @@ use Rattle.spacing.specs.Following.{later}
 use Rattle.spacing.specs.SpacingOrder.{first-total}
 use Rattle.spacing.proofs.SpacingCount.{less-later}
 use Rattle.candidate.proofs.CandidateWalk.{walk-start, walk-here, walk-last, walk-next}
-use Rattle.claims.proofs.GapLaws.{shows}
+use Rattle.claims.proofs.GapClaimLaws.{shows}
 use Rattle.claims.proofs.gaps.has_empty.Statement.{statement}
 use Rattle.claims.proofs.gaps.has_empty.Tie as tie
 

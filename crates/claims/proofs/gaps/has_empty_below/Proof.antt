@@ -10,7 +10,7 @@ use Rattle.word.specs.Containment.{patternsOf}
 use Rattle.cell.specs.Cell.{total}
 use Rattle.candidate.proofs.CandidateWalk.{from-total, totals-start, totals-end, totals-here, totals-later}
 use Rattle.claims.specs.EmptyBelow.{emptyBelow}
-use Rattle.claims.proofs.GapLaws.{shows}
+use Rattle.claims.proofs.GapClaimLaws.{shows}
 use Rattle.claims.proofs.gaps.has_empty_below.Statement.{statement}
 use Rattle.claims.proofs.gaps.has_empty_below.Tie as tie
 

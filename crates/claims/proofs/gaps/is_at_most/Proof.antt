@@ -5,8 +5,8 @@ use lib.ListN.{length, take}
 use lib.Seq.{length-take-le}
 use lib.Dec.{leb}
 use Rattle.cell.specs.Built.{level}
-use Rattle.candidate.proofs.TableLaws.{level-zero, level-more}
-use Rattle.claims.proofs.GapLaws.{level-whole}
+use Rattle.candidate.proofs.LookupLaws.{level-zero, level-more}
+use Rattle.claims.proofs.GapClaimLaws.{level-whole}
 use borrow.Author.Needs.{needs}
 use Prim.Native.Nat.{ℕ, _+_, _*_, _-_, _≤_}
 use native.Mathlib.Omega.{arith}

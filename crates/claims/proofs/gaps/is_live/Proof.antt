@@ -10,7 +10,7 @@ use Rattle.cell.specs.Cell.{cell}
 use Rattle.scheme.specs.SchemeMemory.{gapIn}
 use Rattle.verdict.specs.Verdict.{isEmpty}
 use Rattle.verdict.specs.VerdictLaws.{empty-in}
-use Rattle.claims.proofs.GapLaws.{gap-is, below-empty}
+use Rattle.claims.proofs.GapClaimLaws.{gap-is, below-empty}
 use borrow.Author.Needs.{needs}
 use Rattle.claims.proofs.gaps.is_live.Statement.{statement}
 use Rattle.claims.proofs.gaps.is_live.Tie as tie

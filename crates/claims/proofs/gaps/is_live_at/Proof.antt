@@ -5,7 +5,7 @@ use mathlib.Core.Path.{_≡_, sym, ap, ap₂, _∙_}
 use native.Mathlib.Omega.{arith}
 use lib.ListN.{length, getD}
 use Rattle.word.specs.Containment.{patternsOf}
-use Rattle.claims.proofs.GapLaws.{cell-length, live-is}
+use Rattle.claims.proofs.GapClaimLaws.{cell-length, live-is}
 use borrow.Author.Needs.{needs}
 use Rattle.claims.proofs.gaps.is_live_at.Statement.{statement}
 use Rattle.claims.proofs.gaps.is_live_at.Tie as tie

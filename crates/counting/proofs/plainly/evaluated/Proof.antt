@@ -6,7 +6,7 @@ use mathlib.Core.List.{List}
 use lib.ListN.{length}
 use Rattle.scheme.specs.SchemeMemory.{schemeIn}
 use Rattle.judge.specs.SetLaws.{set-holds}
-use Rattle.value.specs.Value.{countOf}
+use Rattle.verdict.specs.Value.{countOf}
 use borrow.Author.Needs.{needs}
 use Rattle.counting.proofs.plainly.evaluated.Statement.{statement}
 use Rattle.counting.proofs.plainly.evaluated.Tie as tie

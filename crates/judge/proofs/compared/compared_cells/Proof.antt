@@ -8,7 +8,7 @@ use native.Mathlib.Omega.{arith}
 use Rattle.cell.specs.Cell.{mOf}
 use Rattle.scheme.specs.SchemeMemory.{schemeIn}
 use Rattle.verdict.specs.Verdict.{comparedCells}
-use Rattle.judge.proofs.EntriesLaws.{cellsFrom, cells-start, cells-next, cells-end}
+use Rattle.judge.proofs.EntryWalkLaws.{cellsFrom, cells-start, cells-next, cells-end}
 use Rattle.judge.proofs.compared.compared_cells.Statement.{statement}
 use Rattle.judge.proofs.compared.compared_cells.Tie as tie
 

@@ -10,7 +10,7 @@ use Rattle.scheme.specs.WellFormed.{firstAt}
 use Rattle.scheme.specs.SchemeMemory.{schemeIn, faultOf}
 use Rattle.scheme.specs.TestLaws.{from, first-start, first-here, first-later, first-end}
 use Rattle.scheme.specs.SchemeMemory.{entryAt}
-use Rattle.judge.proofs.EntriesLaws.{differingEntry}
+use Rattle.judge.proofs.EntryWalkLaws.{differingEntry}
 use Rattle.judge.proofs.deletions.irreversible_fault.Statement.{statement}
 use Rattle.judge.proofs.deletions.irreversible_fault.Tie as tie
 

@@ -10,7 +10,7 @@ use Rattle.scheme.specs.WellFormed.{firstAt}
 use Rattle.scheme.specs.SchemeMemory.{schemeIn, faultOf}
 use Rattle.scheme.specs.TestLaws.{from, first-start, first-here, first-later, first-end}
 use Rattle.scheme.specs.SchemeMemory.{entryAt}
-use Rattle.judge.proofs.EntriesLaws.{liveEntry}
+use Rattle.judge.proofs.EntryWalkLaws.{liveEntry}
 use Rattle.judge.proofs.live_gaps.live_fault.Statement.{statement}
 use Rattle.judge.proofs.live_gaps.live_fault.Tie as tie
 

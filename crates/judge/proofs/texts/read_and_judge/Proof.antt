@@ -1,7 +1,7 @@
 -- `judge::texts::read_and_judge` meets its contract: what reading found decides, and then the claims.
 -- Assumes nothing.
 use mathlib.Core.Path.{sym, _∙_}
-use Rattle.judge.specs.TextLaws.{refused-texts, texts-formed, judged-texts}
+use Rattle.judge.specs.TextVerdictLaws.{refused-texts, texts-formed, judged-texts}
 use borrow.Author.Needs.{needs}
 use Rattle.judge.proofs.texts.read_and_judge.Statement.{statement}
 use Rattle.judge.proofs.texts.read_and_judge.Tie as tie

@@ -8,10 +8,10 @@ use lib.ListN.{length}
 use Rattle.word.specs.Finding.{firstFault}
 use Rattle.scheme.specs.WellFormed.{patternTests}
 use Rattle.scheme.specs.SchemeMemory.{patternsIn}
-use Rattle.grammar.specs.Spelling.{writtenPatterns}
-use Rattle.writer.specs.Page.{overlay}
-use Rattle.writer.specs.PageLaws.{length-after}
-use Rattle.writer.proofs.FitLaws.{patterns-fit}
+use Rattle.text_grammar.specs.Spelling.{writtenPatterns}
+use Rattle.text_writer.specs.Page.{overlay}
+use Rattle.text_writer.specs.PageLaws.{length-after}
+use Rattle.text_writer.proofs.FitLaws.{patterns-fit}
 use Rattle.notation.proofs.WritingLaws.{clean-finding}
 use Rattle.notation.proofs.PatternWritingLaws.{patterns-refused, patterns-page-short, patterns-done}
 use borrow.Author.Needs.{needs}

@@ -9,8 +9,8 @@ use native.Mathlib.Omega.{arith}
 use Rattle.cell.specs.Cell.{same}
 use Rattle.scheme.specs.TestOrder.{placeIn}
 use Rattle.scheme.specs.declared.memory.Patterns.{Patterns}
-use Rattle.entry_tests.specs.Twin.{nearestBelow, nearestTwin}
-use Rattle.entry_tests.specs.TwinLaws.{nearest-here, nearest-later, nearest-none, nearest-start}
+use Rattle.wellformed.specs.Twin.{nearestBelow, nearestTwin}
+use Rattle.wellformed.specs.TwinLaws.{nearest-here, nearest-later, nearest-none, nearest-start}
 use Rattle.wellformed.proofs.pattern_tests.earlier_twin.Statement.{statement}
 use Rattle.wellformed.proofs.pattern_tests.earlier_twin.Tie as tie
 

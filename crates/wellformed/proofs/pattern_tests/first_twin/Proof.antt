@@ -13,8 +13,8 @@ use Rattle.scheme.specs.SchemeMemory.{patternsIn, faultOf}
 use Rattle.scheme.specs.TestOrder.{placeIn, seen}
 use Rattle.scheme.specs.declared.memory.Patterns.{Patterns}
 use Rattle.scheme.specs.TestLaws.{twin-from, twin-start, twin-here, twin-later, twin-end}
-use Rattle.entry_tests.specs.Twin.{nearestTwin}
-use Rattle.entry_tests.specs.TwinLaws.{nearest-seen}
+use Rattle.wellformed.specs.Twin.{nearestTwin}
+use Rattle.wellformed.specs.TwinLaws.{nearest-seen}
 use Rattle.wellformed.proofs.pattern_tests.first_twin.Statement.{statement}
 use Rattle.wellformed.proofs.pattern_tests.first_twin.Tie as tie
 

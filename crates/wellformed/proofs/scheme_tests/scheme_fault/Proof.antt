@@ -2,7 +2,7 @@
 -- Assumes nothing.
 use mathlib.Core.Path.{sym, _∙_}
 use Rattle.scheme.specs.SchemeMemory.{schemeIn}
-use Rattle.entry_tests.proofs.EntryLaws.{sized-of-clean}
+use Rattle.wellformed.proofs.EntryTestLaws.{sized-of-clean}
 use Rattle.wellformed.proofs.OrderLaws.{scheme-by-size, scheme-by-entry, scheme-by-links, not-faulty, linked-of-clean}
 use borrow.Author.Needs.{needs}
 use Rattle.wellformed.proofs.scheme_tests.scheme_fault.Statement.{statement}

@@ -1,3 +1,0 @@
--- What the table program prints, and the laws of it.
-pub mod TableText
-pub mod TableLaws

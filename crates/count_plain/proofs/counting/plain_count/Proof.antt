@@ -1,0 +1,53 @@
+-- `count_plain::counting::plain_count` meets its contract.
+-- Assumes nothing.
+use mathlib.Core.Path.{refl}
+use Rattle.word.specs.Containment.{patternsOf}
+use Rattle.count_plain.specs.ReadingLaws.{counted-cell, counted-value}
+use borrow.Author.Needs.{needs}
+use Rattle.count_plain.proofs.counting.plain_count.Statement.{statement}
+use Rattle.count_plain.proofs.counting.plain_count.Tie as tie
+
+slice-aggregate-fill-sheet : tie.Need-slice-aggregate-fill-sheet
+slice-aggregate-fill-sheet c = search needs
+
+fill-sheet-requires : tie.Need-fill-sheet-requires
+fill-sheet-requires c κs = search needs
+
+root-of-requires : tie.Need-root-of-requires
+root-of-requires c κs = search needs
+
+cast-g : tie.Need-cast-g
+cast-g c = search needs
+
+array-write-g : tie.Need-array-write-g
+array-write-g c = search needs
+
+slice-aggregate-cell : tie.Need-slice-aggregate-cell
+slice-aggregate-cell c = search needs
+
+cell-requires : tie.Need-cell-requires
+cell-requires c κs =
+    let a = c .before .before .before .before .before .args in
+    let p = c .before .before .before .before .before .pre in
+    counted-cell (patternsOf (a .set) (a .lengths) (a .count)) (a .s) (c .before .before .before .fill-sheet .last .0) (p .1 .scheme) (c .before .before .before .fill-sheet .ensures)
+    (c .before .root-of .result) (a .n) _ (c .before .root-of .ensures) (p .0) refl refl
+
+returns : tie.Need-returns
+returns c =
+    let a = c .before .before .before .before .before .before .args in
+    let p = c .before .before .before .before .before .before .pre in
+    counted-value (patternsOf (a .set) (a .lengths) (a .count)) (a .s) (c .before .before .before .before .fill-sheet .last .0) (p .1 .scheme) (c .before .before .before .before .fill-sheet .ensures)
+    (c .before .before .root-of .result) (a .n) _ (c .before .before .root-of .ensures) (p .0) refl refl (p .1) (p .2) (c .cell .result) (c .cell .ensures)
+
+pub plain-count-spec : {M : Type 1} → statement M
+plain-count-spec =
+    tie.close
+    (tie.spec
+    slice-aggregate-fill-sheet
+    fill-sheet-requires
+    root-of-requires
+    cast-g
+    array-write-g
+    slice-aggregate-cell
+    cell-requires
+    returns)

@@ -1,0 +1,43 @@
+-- `count_plain::sheet::put_card` meets its contract.
+-- Assumes nothing.
+use denote.Ref.{now}
+use Rattle.count_plain.proofs.SheetLaws.{card-made}
+use borrow.Author.Needs.{needs}
+use Rattle.count_plain.proofs.sheet.put_card.Statement.{statement}
+use Rattle.count_plain.proofs.sheet.put_card.Tie as tie
+
+head-of-requires : tie.Need-head-of-requires
+head-of-requires c κs = search needs
+
+slice-aggregate-put : tie.Need-slice-aggregate-put
+slice-aggregate-put c = search needs
+
+put-requires : tie.Need-put-requires
+put-requires c κs = search needs
+
+add-put-gaps : tie.Need-add-put-gaps
+add-put-gaps c = search needs
+
+put-gaps-requires : tie.Need-put-gaps-requires
+put-gaps-requires c κs = search needs
+
+same-length : tie.Need-same-length
+same-length c = search needs
+
+returns : tie.Need-returns
+returns c =
+    let a = c .before .before .before .before .before .before .before .before .before .before .before .args in
+    card-made (a .e) (a .item) (a .at) (now (a .sheet)) (c .before .before .before .before .before .before .put .last .0) (c .before .before .put-gaps .last .0) (c .before .before .before .before .before .before .before .before .before .head-of .result) (c .before .before .before .before .before .before .before .before .before .head-of .ensures)
+    (c .before .before .before .before .before .before .put .ensures) (c .before .before .put-gaps .ensures)
+
+pub put-card-spec : {M : Type 1} → statement M
+put-card-spec =
+    tie.close
+    (tie.spec
+    head-of-requires
+    slice-aggregate-put
+    put-requires
+    add-put-gaps
+    put-gaps-requires
+    same-length
+    returns)

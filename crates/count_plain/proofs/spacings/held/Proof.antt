@@ -1,0 +1,83 @@
+-- `count_plain::spacings::held` meets its contract.
+-- Assumes nothing.
+use borrow.Author.Needs.{needs}
+use native.Mathlib.Omega.{arith}
+use Prim.Native.Nat.{suc, _+_, _-_}
+use native.Mathlib.Numerals.{add-one}
+use mathlib.Core.Path.{_≡_, refl, sym, _∙_}
+use lib.ListN.{length, getD, take}
+use lib.Seq.{length-take-le, getD-take}
+use Rattle.count_plain.specs.PieceLaws.{Walk, walk-start, walk-more, walk-end, walk-last}
+use Rattle.count_plain.proofs.spacings.held.Statement.{statement}
+use Rattle.count_plain.proofs.spacings.held.Tie as tie
+
+abbrev Inv-loop : tie.InvT-loop
+Inv-loop k s g left₀ i₀ left i = Walk (take (k + 1) g) k s i left
+
+abbrev μ-loop : tie.MeasureT-loop
+μ-loop k s g left₀ i₀ left i = k - i
+
+loop-holds : tie.Need-loop-holds Inv-loop μ-loop
+loop-holds c =
+    let a = c .args in
+    walk-start (take (a .k + 1) (a .t1)) (a .k) (a .s) (c .pre .1) (c .pre .2)
+
+array-read-wide : tie.Need-array-read-wide Inv-loop μ-loop
+array-read-wide c = search needs
+
+wide-requires : tie.Need-wide-requires Inv-loop μ-loop
+wide-requires c κs = search needs
+
+returns : tie.Need-returns Inv-loop μ-loop
+returns c =
+    let a = c .before .before .before .before .args in
+    let l = c .before .before .before .loop in
+    let seven : length (a .t1) ≡ 7 = (let o = c .before .before .before .before in search needs) in
+    let size : length (take (a .k + 1) (a .t1)) ≡ suc (a .k) = length-take-le (a .k + 1) (a .t1) (omega arith) ∙ add-one (a .k) in
+    walk-end (take (a .k + 1) (a .t1)) (a .k) (a .s) (l .i) (l .left) size (l .inv) (c .before .wide .result)
+    (c .before .wide .ensures ∙ sym (getD-take (a .k + 1) (a .t1) (l .i) 0 (omega arith))) (c .if1 .taken)
+
+sub-left : tie.Need-sub-left Inv-loop μ-loop
+sub-left c = search needs
+
+add-i : tie.Need-add-i Inv-loop μ-loop
+add-i c = search needs
+
+loop-less : tie.Need-loop-less Inv-loop μ-loop
+loop-less c = search needs
+
+loop-again : tie.Need-loop-again Inv-loop μ-loop
+loop-again c =
+    let a = c .before .before .before .before .args in
+    let l = c .before .before .before .loop in
+    let seven : length (a .t1) ≡ 7 = (let o = c .before .before .before .before in search needs) in
+    let size : length (take (a .k + 1) (a .t1)) ≡ suc (a .k) = length-take-le (a .k + 1) (a .t1) (omega arith) ∙ add-one (a .k) in
+    walk-more (take (a .k + 1) (a .t1)) (a .k) (a .s) (l .i) (l .left) size (l .inv) (c .before .wide .result)
+    (c .before .wide .ensures ∙ sym (getD-take (a .k + 1) (a .t1) (l .i) 0 (omega arith))) (omega arith) (omega arith)
+
+returns-2 : tie.Need-returns-2 Inv-loop μ-loop
+returns-2 c =
+    let a = c .before .before .args in
+    let l = c .before .loop in
+    let seven : length (a .t1) ≡ 7 = (let o = c .before .before in search needs) in
+    let size : length (take (a .k + 1) (a .t1)) ≡ suc (a .k) = length-take-le (a .k + 1) (a .t1) (omega arith) ∙ add-one (a .k) in
+    let e : l .i ≡ a .k = omega (arith, l .inv .reach) in
+    let w : Walk (take (a .k + 1) (a .t1)) (a .k) (a .s) (a .k) (l .left) = rw e at (l .inv) in
+    walk-end (take (a .k + 1) (a .t1)) (a .k) (a .s) (a .k) (l .left) size w (getD (take (a .k + 1) (a .t1)) (a .k) 0) refl
+    (walk-last (take (a .k + 1) (a .t1)) (a .k) (a .s) (a .k) (l .left) size w (omega arith))
+
+pub held-spec : {M : Type 1} → statement M
+held-spec =
+    tie.close
+    (tie.spec
+    Inv-loop
+    μ-loop
+    loop-holds
+    array-read-wide
+    wide-requires
+    returns
+    sub-left
+    add-i
+    loop-less
+    loop-again
+    returns-2)

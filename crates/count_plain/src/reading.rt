@@ -1,0 +1,49 @@
+// Reading the sheet.
+use spacing::at_least;
+use spacing::walk::wide;
+ghost use mathlib.Core.Path.{_≡_};
+ghost use Prim.Native.Nat.{_+_, _≤_, _<_};
+ghost use lib.ListN.{length, take};
+ghost use Rattle.cell.specs.Cell.{free};
+ghost use Rattle.count_plain.specs.Reading.{fieldOf, vectorOf, gapsAt};
+
+// Byte f of the entry with index e.
+pub fn field(sheet: &[u8], e: usize, f: usize) -> usize
+    requires { ⌜ (e < 128) × (f < 80) × (length (now sheet) ≡ 10240) ⌝ }
+    ensures { λ r. ⌜ r ≡ fieldOf (now (sheet .entry)) e f ⌝ }
+{
+    wide(sheet[80 * e + f])
+}
+
+// Seven bytes from `at` on.
+fn vector(sheet: &[u8], at: usize) -> [u8; 7]
+    requires { ⌜ at + 7 ≤ length (now sheet) ⌝ }
+    ensures { λ r. ⌜ r ≡ vectorOf (now (sheet .entry)) at ⌝ }
+{
+    [
+        sheet[at],
+        sheet[at + 1],
+        sheet[at + 2],
+        sheet[at + 3],
+        sheet[at + 4],
+        sheet[at + 5],
+        sheet[at + 6],
+    ]
+}
+
+// Whether a spacing is at least none of the gap vectors of the entry with index e.
+pub fn is_free_at(sheet: &[u8], e: usize, k: usize, g: [u8; 7]) -> bool
+    requires { ⌜ (e < 128) × (k ≤ 6) × (length (now sheet) ≡ 10240) × (fieldOf (now sheet) e 3 ≤ 8) ⌝ }
+    ensures { λ r. ⌜ r ≡ free (gapsAt (now (sheet .entry)) e k) (take (k + 1) g) ⌝ }
+{
+    let n = field(sheet, e, 3);
+    let mut v: usize = 0;
+    while v < n {
+        let b = vector(sheet, 80 * e + 16 + 7 * v);
+        if at_least(g, b, k) {
+            return false;
+        }
+        v += 1;
+    }
+    true
+}

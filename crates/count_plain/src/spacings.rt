@@ -1,0 +1,107 @@
+// The spacings of a child and of a target.
+use spacing::walk::wide;
+ghost use mathlib.Core.Path.{_≡_};
+ghost use mathlib.Core.List.{[], _∷_};
+ghost use Prim.Native.Nat.{_+_, _≤_, _<_};
+ghost use lib.ListN.{getD, take};
+ghost use Rattle.cell.specs.Cell.{total, mergeValues};
+ghost use Rattle.count_plain.specs.Pieces.{splitAt, mergeAt, HeldAt};
+
+// The component that holds a value, and its number there, from 1.
+pub struct Place {
+    pub index: usize,
+    pub left: usize,
+}
+
+// Where the s-th of the values that the first entries leave is held.
+pub fn held(g: [u8; 7], k: usize, s: usize) -> Place
+    requires { ⌜ (k ≤ 6) × (1 ≤ s) × (s ≤ total (take (k + 1) g)) ⌝ }
+    ensures { λ r. ⌜ HeldAt (take (k + 1) g) k s (r .index) (r .left) ⌝ }
+{
+    let mut left = s;
+    let mut i: usize = 0;
+    while i < k {
+        let x = wide(g[i]);
+        if left <= x {
+            return Place {
+                index: i,
+                left: left,
+            };
+        }
+        left -= x;
+        i += 1;
+    }
+    Place {
+        index: k,
+        left: left,
+    }
+}
+
+// One component of the child's spacing.
+fn split_piece(g: [u8; 7], i: usize, left: usize, j: usize) -> u8
+    requires { ⌜ (i < 7) × (j < 7) × (1 ≤ left) × (left ≤ getD g i 0) × (getD g i 0 ≤ 20) ⌝ }
+    ensures { λ r. ⌜ r ≡ getD (splitAt g i left) j 0 ⌝ }
+{
+    if j < i {
+        return g[j];
+    }
+    if j == i {
+        return narrow(left - 1);
+    }
+    if j == i + 1 {
+        return g[i] - narrow(left);
+    }
+    g[j - 1]
+}
+
+// The same number, of at most 255.
+fn narrow(x: usize) -> u8
+    requires { ⌜ x ≤ 255 ⌝ }
+    ensures { λ r. ⌜ r ≡ x ⌝ }
+{
+    x as u8
+}
+
+// The spacing of the child whose new value is the one with number `left` in component i.
+pub fn split_spacing(g: [u8; 7], k: usize, i: usize, left: usize) -> [u8; 7]
+    requires { ⌜ (k ≤ 5) × (i ≤ k) × (1 ≤ left) × (left ≤ getD (take (k + 1) g) i 0) × (total (take (k + 1) g) ≤ 20) ⌝ }
+    ensures { λ r. ⌜ take (k + 2) r ≡ splitAt (take (k + 1) g) i left ⌝ }
+{
+    let mut r = g;
+    let mut j: usize = 0;
+    while j <= k + 1 {
+        let x = split_piece(g, i, left, j);
+        r[j] = x;
+        j += 1;
+    }
+    r
+}
+
+// One component of the target's spacing.
+fn merged_piece(g: [u8; 7], v: usize, j: usize) -> u8
+    requires { ⌜ (j < 6) × (v < 7) × (1 ≤ v) × (getD g j 0 + getD g (j + 1) 0 ≤ 255) ⌝ }
+    ensures { λ r. ⌜ r ≡ getD (mergeAt g v) j 0 ⌝ }
+{
+    if j + 1 < v {
+        return g[j];
+    }
+    if j + 1 == v {
+        return g[j] + g[j + 1];
+    }
+    g[j + 1]
+}
+
+// The spacing of the target: components v - 1 and v added into one.
+pub fn merged_spacing(g: [u8; 7], k: usize, v: usize) -> [u8; 7]
+    requires { ⌜ (k ≤ 6) × (1 ≤ v) × (v ≤ k) × (total (take (k + 1) g) ≤ 20) ⌝ }
+    ensures { λ r. ⌜ take k r ≡ mergeValues (v ∷ []) (take (k + 1) g) ⌝ }
+{
+    let mut r = g;
+    let mut j: usize = 0;
+    while j < k {
+        let x = merged_piece(g, v, j);
+        r[j] = x;
+        j += 1;
+    }
+    r
+}

@@ -1,0 +1,32 @@
+-- `count_plan::items::expanding` meets its contract.
+-- Assumes nothing.
+use native.Mathlib.Omega.{arith}
+use mathlib.Core.Path.{_≡_, refl, sym}
+use lib.ListN.{length, take}
+use lib.Seq.{length-take-le}
+use Rattle.count_plan.proofs.PlanItemLaws.{links-sized}
+use borrow.Author.Needs.{needs}
+use Rattle.count_plan.proofs.items.expanding.Statement.{statement}
+use Rattle.count_plan.proofs.items.expanding.Tie as tie
+
+alone-value-requires : tie.Need-alone-value-requires
+alone-value-requires c κs = search needs
+
+child-links-requires : tie.Need-child-links-requires
+child-links-requires c κs = search needs
+
+returns : tie.Need-returns
+returns c =
+    let a = c .before .before .args in
+    let six : length (a .prefix) ≡ 6 = search needs in
+    let size : length (take (a .k) (a .prefix)) ≡ a .k = length-take-le (a .k) (a .prefix) (omega arith) in
+    record {
+      size = sym size;
+      placed = refl;
+      none = refl;
+      alone = c .before .alone-value .ensures;
+      links = links-sized (a .s) (take (a .k) (a .prefix)) (a .places) (c .child-links .result) (a .k) size (c .child-links .ensures);
+    }
+
+pub expanding-spec : {M : Type 1} → statement M
+expanding-spec = tie.close (tie.spec alone-value-requires child-links-requires returns)

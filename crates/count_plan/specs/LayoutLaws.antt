@@ -1,0 +1,151 @@
+-- Laws of a scheme in which the tests find nothing, and of the places of its entries.
+use Prim.Native.Nat.{ℕ, zero, suc, _+_, _*_, _-_, _≤_, _<_}
+use native.Mathlib.Numerals.{add-one}
+use native.Mathlib.Omega.{arith}
+use mathlib.Core.Path.{_≡_, refl, sym, ap, _∙_, fun-ext}
+use mathlib.Core.Logic.{_⊎_, inl, inr}
+use mathlib.Core.List.{List, [], _∷_, map, map-append, map-map, List·Memᴰ, Memᴰ·map}
+use lib.ListN.{length, getD, set, replicate, length-map, length-set, length-replicate}
+use lib.Seq.{getD-set-same, getD-set-other}
+use Rattle.word.specs.Lists.{row}
+use Rattle.word.specs.ListLaws.{below-or-not, same-or-not, length-row, row-in}
+use Rattle.cell.specs.Cell.{total}
+use Rattle.cell.specs.Binomial.{binomial}
+use Rattle.spacing.specs.TotalLaws.{total-append, row-cut}
+use Rattle.spacing.specs.PascalLaws.{binomial-small}
+use Rattle.scheme.specs.SchemeList.{EntryList}
+use Rattle.scheme.specs.SchemeMemory.{noGap, noEntry, gapIn, schemeIn}
+use Rattle.scheme.specs.MemoryLaws.{length-padded}
+use Rattle.scheme.specs.declared.memory.Scheme.{Scheme}
+use Rattle.verdict.specs.Proper.{ProperEntry}
+use Rattle.verdict.specs.ProperLaws.{proper-entry, few-entries}
+use Rattle.count_plan.specs.Layout.{entryAt, prefixAt, lengthAt, placeAt, widthOf}
+use Rattle.count_plan.specs.Plan.{Proper, Places, NearPlaces}
+
+-- the length of a prefix
+pub prefix-length : (s : Scheme) (i : ℕ) → length (prefixAt s i) ≡ lengthAt s i
+prefix-length s i = length-padded (lengthAt s i) ((getD (s .entries) i noEntry) .prefix)
+
+-- the entry with index i is one of the entries
+pub entry-member : (s : Scheme) (i : ℕ) → i < s .count → List·Memᴰ (entryAt s i) (schemeIn s)
+entry-member s i h = Memᴰ·map (entryAt s) (row-in 0 (s .count) i (omega arith) (omega arith))
+
+module _ (s : Scheme) (proper : Proper s) where
+  pub count-few : s .count ≤ 128
+  count-few = omega (arith, few-entries (schemeIn s) proper, length-map (row 0 (s .count)) (entryAt s), length-row 0 (s .count))
+
+  pub entry-proper : (i : ℕ) → i < s .count → ProperEntry (entryAt s i)
+  entry-proper i h = proper-entry (schemeIn s) proper (entryAt s i) (entry-member s i h)
+
+  pub entry-short : (i : ℕ) → i < s .count → lengthAt s i ≤ 6
+  entry-short i h = omega (arith, entry-proper i h .short, prefix-length s i)
+
+  -- the gap vectors in memory
+  pub gaps-few : (i : ℕ) → i < s .count → (getD (s .entries) i noEntry) .«gap_count» ≤ 8
+  gaps-few i h =
+      omega (
+        arith,
+        entry-proper i h .few,
+        length-map (row 0 ((getD (s .entries) i noEntry) .«gap_count»)) (λ v. gapIn (getD ((getD (s .entries) i noEntry) .gaps) v noGap)),
+        length-row 0 ((getD (s .entries) i noEntry) .«gap_count»),
+      )
+
+  pub gap-width : (i : ℕ) → i < s .count → (v : ℕ) → v < (getD (s .entries) i noEntry) .«gap_count» →
+      (getD ((getD (s .entries) i noEntry) .gaps) v noGap) .width ≡ lengthAt s i + 1
+  gap-width i h v l =
+      let b = getD ((getD (s .entries) i noEntry) .gaps) v noGap in
+      let m : List·Memᴰ (gapIn (getD ((getD (s .entries) i noEntry) .gaps) v noGap)) ((entryAt s i) .gaps) =
+      Memᴰ·map (λ (x : ℕ). gapIn (getD ((getD (s .entries) i noEntry) .gaps) x noGap)) (row-in 0 ((getD (s .entries) i noEntry) .«gap_count») v (omega arith) (omega arith)) in
+      omega (arith, sym (length-padded (b .width) (b .parts)), entry-proper i h .wide (gapIn b) m, prefix-length s i)
+
+-- Places
+
+pub place-next : (n : ℕ) (s : Scheme) (i : ℕ) → placeAt n s (i + 1) ≡ placeAt n s i + binomial n (lengthAt s i)
+unfolding placeAt
+place-next n s i = rw (add-one i) refl
+
+place-step : (n : ℕ) (s : Scheme) (i : ℕ) → placeAt n s (suc i) ≡ placeAt n s i + binomial n (lengthAt s i)
+unfolding placeAt
+place-step n s i = refl
+
+pub place-small : (n : ℕ) (s : Scheme) (i : ℕ) → n ≤ 20 → placeAt n s i ≤ i * 1048576
+unfolding placeAt
+place-small n s zero h = omega arith
+place-small n s (suc i) h = omega (arith, place-small n s i h, binomial-small n (lengthAt s i) h)
+
+-- the cells of an entry end before those of a later one begin
+place-later : (n : ℕ) (s : Scheme) (d m : ℕ) → placeAt n s d + binomial n (lengthAt s d) ≤ placeAt n s (suc d + m)
+place-later n s d zero = let e : suc d + 0 ≡ suc d = omega arith in rw e (omega (arith, place-step n s d))
+place-later n s d (suc m) =
+    let e : suc d + suc m ≡ suc (suc d + m) = omega arith in
+    rw e (omega (arith, place-later n s d m, place-step n s (suc d + m)))
+
+pub place-apart : (n : ℕ) (s : Scheme) (d e : ℕ) → d < e → placeAt n s d + binomial n (lengthAt s d) ≤ placeAt n s e
+place-apart n s d e h =
+    let q : suc d + (e - suc d) ≡ e = omega arith in
+    let l : placeAt n s (suc d + (e - suc d)) ≡ placeAt n s e = ap (placeAt n s) q in
+    omega (arith, place-later n s d (e - suc d))
+
+-- the width of a row, as a sum over the entries
+
+place-sum : (n : ℕ) (s : Scheme) (i : ℕ) → placeAt n s i ≡ total (map (λ d. binomial n (lengthAt s d)) (row 0 i))
+unfolding placeAt total
+place-sum n s zero = refl
+place-sum n s (suc i) =
+    let e : 0 + i ≡ i = omega arith in
+    let l : binomial n (lengthAt s (0 + i)) ≡ binomial n (lengthAt s i) = ap (λ d. binomial n (lengthAt s d)) e in
+    omega (
+      arith,
+      place-sum n s i,
+      ap (λ (v : List ℕ). total (map (λ d. binomial n (lengthAt s d)) v)) (ap (row 0) (sym (add-one i)) ∙ row-cut 0 i 1) ∙
+          ap total (map-append (λ d. binomial n (lengthAt s d)) (row 0 i) ((0 + i) ∷ [])) ∙
+          total-append (map (λ d. binomial n (lengthAt s d)) (row 0 i)) (binomial n (lengthAt s (0 + i)) ∷ []),
+    )
+
+-- "the sum of C(n, k) over all entries, k being the entry's length" (01)
+pub width-sum : (n : ℕ) (s : Scheme) → widthOf n s ≡ total (map (λ e. binomial n (length (e .prefix))) (schemeIn s))
+width-sum n s =
+    place-sum n s (s .count) ∙
+    ap (λ (f : ℕ → ℕ). total (map f (row 0 (s .count)))) (fun-ext (λ d. ap (binomial n) (sym (prefix-length s d)))) ∙
+    ap total (sym (map-map (λ (e : EntryList). binomial n (length (e .prefix))) (entryAt s) (row 0 (s .count))))
+
+-- Filling the places in memory
+pub record PlacesTo (n : ℕ) (s : Scheme) (i : ℕ) (places : List ℕ) (at : ℕ) : Type 0 where
+  pub size : length places ≡ 128
+  pub before : (d : ℕ) → d < i → getD places d 0 ≡ placeAt n s d
+  pub here : at ≡ placeAt n s i
+  pub near : NearPlaces places
+
+pub places-start : (n : ℕ) (s : Scheme) → PlacesTo n s 0 (replicate 128 0) 0
+unfolding placeAt
+places-start n s =
+    record { size = length-replicate {A = ℕ} 128 0; before = λ (d : ℕ) (h : d < 0). absurd (omega arith); here = refl; near = λ (d : ℕ). go 128 d }
+  where
+    go : (m d : ℕ) → getD (replicate m 0) d 0 ≤ 134217728
+    go zero d = omega arith
+    go (suc m) zero = omega arith
+    go (suc m) (suc d) = go m d
+
+pub places-more : (n : ℕ) (s : Scheme) (i : ℕ) (places : List ℕ) (at c : ℕ) → PlacesTo n s i places at → i < 128 → n ≤ 20 → c ≡ binomial n (lengthAt s i) →
+    PlacesTo n s (i + 1) (set places i at) (at + c)
+places-more n s i places at c p h m e =
+    record {
+      size = length-set places i at ∙ p .size;
+      before = λ (d : ℕ) (l : d < i + 1). go d l (below-or-not d i);
+      here = omega (arith, p .here, e, place-next n s i);
+      near = λ (d : ℕ). close d (same-or-not d i);
+    }
+  where
+    close : (d : ℕ) → (d ≡ i) ⊎ (d ≡ i → ⊥) → getD (set places i at) d 0 ≤ 134217728
+    close d (inl q) =
+        omega (arith, ap (λ m. getD (set places i at) m 0) q, getD-set-same places i at 0 (omega (arith, p .size)), p .here, place-small n s i m)
+    close d (inr q) = omega (arith, getD-set-other places i d at 0 q, p .near d)
+
+    go : (d : ℕ) → d < i + 1 → (d < i) ⊎ (i ≤ d) → getD (set places i at) d 0 ≡ placeAt n s d
+    go d l (inl a) = getD-set-other places i d at 0 (λ (q : d ≡ i). omega arith) ∙ p .before d a
+    go d l (inr a) =
+        let q : d ≡ i = omega arith in
+        ap (λ m. getD (set places i at) m 0) q ∙ getD-set-same places i at 0 (omega (arith, p .size)) ∙ p .here ∙ ap (placeAt n s) (sym q)
+
+pub places-end : (n : ℕ) (s : Scheme) (i : ℕ) (places : List ℕ) (at : ℕ) → PlacesTo n s i places at → s .count ≤ i → Places n s places × NearPlaces places
+places-end n s i places at p h = (record { size = p .size; at = λ (d : ℕ) (l : d < s .count). p .before d (omega arith) }, p .near)

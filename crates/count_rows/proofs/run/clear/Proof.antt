@@ -1,0 +1,61 @@
+-- `count_rows::run::clear` meets its contract.
+-- Assumes nothing.
+use borrow.Author.Needs.{needs}
+use native.Mathlib.Omega.{arith}
+use denote.Ref.{now}
+use Prim.Native.Nat.{ℕ, _-_, _≤_}
+use mathlib.Core.Path.{_≡_, ap, _∙_}
+use lib.ListN.{length}
+use Rattle.count_rows.specs.Run.{cleared}
+use Rattle.count_rows.specs.RunLaws.{cleared-more}
+use Rattle.count_rows.proofs.run.clear.Statement.{statement}
+use Rattle.count_rows.proofs.run.clear.Tie as tie
+
+abbrev Inv-loop : tie.InvT-loop
+Inv-loop table₀ m i₀ table i = (length table ≡ length table₀) × (i ≤ m) × (table ≡ cleared i table₀)
+
+abbrev μ-loop : tie.MeasureT-loop
+μ-loop table₀ m i₀ table i = m - i
+
+loop-holds : tie.Need-loop-holds Inv-loop μ-loop
+loop-holds c = search needs
+
+store-requires : tie.Need-store-requires Inv-loop μ-loop
+store-requires c κs = search needs
+
+add-i : tie.Need-add-i Inv-loop μ-loop
+add-i c = search needs
+
+loop-less : tie.Need-loop-less Inv-loop μ-loop
+loop-less c = search needs
+
+loop-again : tie.Need-loop-again Inv-loop μ-loop
+loop-again c =
+    let a = c .before .before .before .before .before .before .before .args in
+    let l = c .before .before .before .before .before .loop in
+    let len : length (c .before .before .store .last .0) ≡ length (l .table) = search needs in
+    (len ∙ l .inv .0, omega arith, c .before .before .store .ensures ∙ cleared-more (l .i) (now (a .table)) (l .table) (omega (arith, c .before .before .before .before .before .before .before .pre)) (l .inv .2))
+
+same-length : tie.Need-same-length Inv-loop μ-loop
+same-length c = search needs
+
+returns : tie.Need-returns Inv-loop μ-loop
+returns c =
+    let a = c .before .before .before .args in
+    let l = c .before .loop in
+    let e : l .i ≡ a .m = omega arith in
+    l .inv .2 ∙ ap (λ (m : ℕ). cleared m (now (a .table))) e
+
+pub clear-spec : {M : Type 1} → statement M
+clear-spec =
+    tie.close
+    (tie.spec
+    Inv-loop
+    μ-loop
+    loop-holds
+    store-requires
+    add-i
+    loop-less
+    loop-again
+    same-length
+    returns)

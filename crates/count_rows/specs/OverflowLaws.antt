@@ -1,0 +1,111 @@
+-- "with no sum overflowing" (demand 3). The step and the plain evaluation add the values at next entries
+-- one after the other: each sum that they make is a sum over n next entries from the q-th on. In an accepted
+-- scheme it is at most the size of the cell, so at most 20!, and 20! is below 2 ^ 64: no sum meets its cap.
+use Prim.Native.Nat.{ℕ, zero, suc, _+_, _-_, _≤_, _<_}
+use native.Mathlib.Omega.{arith}
+use mathlib.Core.Path.{_≡_, refl, sym, ap, _∙_}
+use mathlib.Core.Bool.{true, cond}
+use mathlib.Core.List.{List, _++_, map, map-append, List·Memᴰ}
+use mathlib.Core.Option.{some}
+use lib.ListN.{length, getD}
+use lib.Dec.{eqb}
+use borrow.Author.Tests.{ne-eqb}
+use Rattle.word.specs.Lists.{row, oneTo}
+use Rattle.word.specs.Word.{avoids}
+use Rattle.cell.specs.Cell.{total, free}
+use Rattle.cell.specs.BuiltCells.{cell-at-most}
+use Rattle.cell.specs.Child.{childAt, slot, split}
+use Rattle.spacing.specs.TotalLaws.{total-append, row-cut}
+use Rattle.scheme.specs.SchemeList.{EntryList, expands}
+use Rattle.scheme.specs.SchemeMemory.{schemeIn}
+use Rattle.scheme.specs.declared.memory.Scheme.{Scheme}
+use Rattle.verdict.specs.Truth.{WellFormed, AllTrue}
+use Rattle.verdict.specs.Value.{ruleValue, entryValue}
+use Rattle.verdict.specs.Size.{size}
+use Rattle.verdict.specs.ValueLaws.{factorial-at-most, entry-solves}
+use Rattle.count_step.specs.Step.{capped, childrenOf}
+use Rattle.count_step.specs.StepLaws.{nextCell, child-sum, below-cap}
+use Rattle.count_plan.specs.Layout.{entryAt, prefixAt, lengthAt}
+use Rattle.count_plan.specs.LayoutLaws.{prefix-length, entry-member}
+use Rattle.count_plan.specs.Plan.{noItem}
+use Rattle.count_plan.specs.declared.items.Item.{Item}
+use Rattle.count_rows.specs.Rows.{readsFrom, Solves, sumFrom, State, Setting}
+use Rattle.count_rows.specs.RowLaws.{cells-are}
+use Rattle.count_rows.specs.RunLaws.{sizes-solved}
+
+-- a sum that is made for the cell at the prefix p and the spacing g
+pub record SumFits (P : List (List ℕ)) (p g : List ℕ) (sum : ℕ) : Type 0 where
+  pub cell : sum ≤ size P p g
+  -- 20!
+  pub most : sum ≤ 2432902008176640000
+  pub fits : sum < 18446744073709551616
+  -- so the sum with the cap is the sum
+  pub same : capped sum ≡ sum
+
+-- a sum over some of the numbers from 1 to t in a row is at most the sum over all of them
+run-at-most : (f : ℕ → ℕ) (q n t : ℕ) → 1 ≤ q → q + n ≤ suc t → total (map f (row q n)) ≤ total (map f (oneTo t))
+run-at-most f q n t low high =
+    let d : ℕ = q - 1 in
+    let r : ℕ = suc t - (q + n) in
+    let e : t ≡ d + (n + r) = omega arith in
+    let o : 1 + d ≡ q = omega arith in
+    let cut : row 1 t ≡ row 1 d ++ (row q n ++ row (q + n) r) =
+    ap (row 1) e ∙ row-cut 1 d (n + r) ∙ ap (λ a. row 1 d ++ row a (n + r)) o ∙ ap (λ (l : List ℕ). row 1 d ++ l) (row-cut q n r) in
+    let sums : total (map f (row 1 t)) ≡ total (map f (row 1 d)) + (total (map f (row q n)) + total (map f (row (q + n) r))) =
+    ap (λ (l : List ℕ). total (map f l)) cut ∙ ap total (map-append f (row 1 d) (row q n ++ row (q + n) r)) ∙
+    total-append (map f (row 1 d)) (map f (row q n ++ row (q + n) r)) ∙
+    ap (λ m. total (map f (row 1 d)) + m) (ap total (map-append f (row q n) (row (q + n) r)) ∙ total-append (map f (row q n)) (map f (row (q + n) r))) in
+    omega (arith, sums)
+
+-- what is at most the size of a cell with a total of at most 20
+sum-fits : (P : List (List ℕ)) (p g : List ℕ) (sum : ℕ) → total g ≤ 20 → sum ≤ size P p g → SumFits P p g sum
+unfolding size
+sum-fits P p g sum h k =
+    let m : sum ≤ 2432902008176640000 = omega (arith, cell-at-most P p g, factorial-at-most (total g) h) in
+    record { cell = k; most = m; fits = omega arith; same = below-cap sum (omega arith) }
+
+-- A sum over next entries of the values of an accepted scheme, as the plain evaluation makes it
+module _ (P : List (List ℕ)) (E : List EntryList) (formed : WellFormed P E) (truth : AllTrue P E) (e : EntryList) (m : List·Memᴰ e E)
+    (r : e .rule ≡ expands) (g : List ℕ) (wide : length g ≡ suc (length (e .prefix))) (f : free (e .gaps) g ≡ true) where
+  whole-sum : (total g ≡ 0 → ⊥) → size P (e .prefix) g ≡ sumFrom (size P) (e .prefix) g 1 (total g)
+  unfolding entryValue ruleValue
+  whole-sum n =
+      entry-solves P E formed truth e m g wide ∙ ap (λ b. cond b (ruleValue (size P) P (e .prefix) g (e .rule)) 0) f ∙
+      ap (ruleValue (size P) P (e .prefix) g) r ∙
+      ap (λ b. cond b (cond (avoids P (e .prefix)) 1 0) (sumFrom (size P) (e .prefix) g 1 (total g))) (ne-eqb (total g) 0 n)
+
+  pub value-sums-fit : total g ≤ 20 → (q n : ℕ) → 1 ≤ q → q + n ≤ suc (total g) → SumFits P (e .prefix) g (sumFrom (size P) (e .prefix) g q n)
+  unfolding total
+  value-sums-fit h q n low high = sum-fits P (e .prefix) g (sumFrom (size P) (e .prefix) g q n) h (go (total g) refl)
+    where
+      go : (t : ℕ) → total g ≡ t → sumFrom (size P) (e .prefix) g q n ≤ size P (e .prefix) g
+      go zero z = let n0 : n ≡ 0 = omega arith in rw n0 (omega arith)
+      go (suc t) z =
+          omega (
+            arith,
+            whole-sum (λ (y : total g ≡ 0). omega arith),
+            run-at-most (λ s. size P (childAt (e .prefix) (slot g s)) (split g s)) q n (total g) low high,
+          )
+
+-- A sum of cells of the table, as the step makes it, where the table holds the sizes
+module _ (s : Scheme) (items : List Item) (j here before : ℕ) (r : Setting s items j here before) (formed : WellFormed (r .P) (schemeIn s))
+    (truth : AllTrue (r .P) (schemeIn s)) (e : ℕ) (inside : e < s .count) (rule : (entryAt s e) .rule ≡ expands) (T : List ℕ)
+    (state : State (size (r .P)) (r .n) s j (lengthAt s e) e T) (g : List ℕ) (wide : length g ≡ suc (lengthAt s e))
+    (whole : lengthAt s e + total g ≡ j) (f : free ((entryAt s e) .gaps) g ≡ true) where
+  pub step-sums-fit : (q n : ℕ) → 1 ≤ q → q + n ≤ suc (total g) →
+      SumFits (r .P) (prefixAt s e) g
+      (total (map (nextCell T (map (λ x. readsFrom (getD items e noItem) here before + x) ((getD items e noItem) .links)) 0 0 0 g) (row q n)))
+  step-sums-fit q n low high =
+      rw (cells-are (size (r .P)) (r .P) s (r .n) (sizes-solved (r .P) s formed truth) (r .proper) e inside (getD items e noItem) (r .plan e inside) j here before
+      (omega (arith, r .low, r .small)) (r .here-is) (r .before-is) T (state .longer) (state .before) g wide whole rule q n low high)
+      (value-sums-fit (r .P) (schemeIn s) formed truth (entryAt s e) (entry-member s e inside) rule g (wide ∙ ap suc (sym (prefix-length s e))) f
+      (omega (arith, r .low, r .small)) q n low high)
+
+  -- The whole sum of a step. What a loop of the step has summed and what is still to come make this
+  -- sum together (Part and Sums in count_step/proofs/SumLaws.antt), so no sum in between is larger.
+  pub children-fit : SumFits (r .P) (prefixAt s e) g
+      (childrenOf T (map (λ x. readsFrom (getD items e noItem) here before + x) ((getD items e noItem) .links)) g)
+  unfolding childrenOf
+  children-fit =
+      rw (child-sum T (map (λ x. readsFrom (getD items e noItem) here before + x) ((getD items e noItem) .links)) 0 0 0 g)
+      (step-sums-fit 1 (total g) (omega arith) (omega arith))

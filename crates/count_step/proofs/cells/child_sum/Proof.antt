@@ -1,0 +1,247 @@
+-- `count_step::cells::child_sum` meets its contract.
+-- Assumes nothing.
+use borrow.Author.Needs.{needs}
+use native.Mathlib.Omega.{arith}
+use denote.Ref.{now}
+use Prim.Native.Nat.{_+_, _-_}
+use mathlib.Core.Path.{_≡_, sym, ap, _∙_}
+use lib.ListN.{length, getD, take}
+use lib.Seq.{length-take-le, getD-take}
+use Rattle.count_step.proofs.SumLaws.{Sums, sums-start, above-small, component-small, above-enough, sums-more, sums-end}
+use Rattle.count_step.specs.Step.{LARGEST}
+use Rattle.spacing.specs.PascalLaws.{binomial-small}
+use Rattle.count_step.proofs.cells.child_sum.Statement.{statement}
+use Rattle.count_step.proofs.cells.child_sum.Tie as tie
+
+abbrev Inv-loop : tie.InvT-loop
+Inv-loop table k b links g above₀ below₀ z₀ sum₀ i₀ above below z sum i = Sums LARGEST table links (take (k + 1) g) k above below z sum i
+
+abbrev μ-loop : tie.MeasureT-loop
+μ-loop table k b links g above₀ below₀ z₀ sum₀ i₀ above below z sum i = k - i
+
+rank-without-requires : tie.Need-rank-without-requires Inv-loop μ-loop
+rank-without-requires c κs = search needs
+
+loop-holds : tie.Need-loop-holds Inv-loop μ-loop
+loop-holds c =
+    let a = c .before .before .before .args in
+    let seven : length (a .t3) ≡ 7 = (let o = c .before .before .before in search needs) in
+    let s = length-take-le (a .k + 1) (a .t3) (omega arith) in
+    sums-start LARGEST (now (a .table)) (a .t2) (take (a .k + 1) (a .t3)) (a .k) s (c .rank-without .result) (c .rank-without .ensures .0) (c .before .before .before .pre .1)
+
+array-read-wide : tie.Need-array-read-wide Inv-loop μ-loop
+array-read-wide c = search needs
+
+wide-requires : tie.Need-wide-requires Inv-loop μ-loop
+wide-requires c κs = search needs
+
+mul-part-sum : tie.Need-mul-part-sum Inv-loop μ-loop
+mul-part-sum c = search needs
+
+array-read-part-sum : tie.Need-array-read-part-sum Inv-loop μ-loop
+array-read-part-sum c = search needs
+
+add-part-sum : tie.Need-add-part-sum Inv-loop μ-loop
+add-part-sum c =
+    let a = c .before .before .before .before .before .before .args in
+    let l = c .before .before .loop in
+    let seven : length (a .t3) ≡ 7 = (let o = c .before .before .before .before .before .before in search needs) in
+    let s = length-take-le (a .k + 1) (a .t3) (omega arith) in
+    let G = take (a .k + 1) (a .t3) in
+    omega (arith, above-small LARGEST (now (a .table)) (a .t2) G (a .k) s (l .above) (l .below) (l .z) (l .sum) (l .i) (l .inv), l .inv .low, l .inv .reach)
+
+add-part-sum-2 : tie.Need-add-part-sum-2 Inv-loop μ-loop
+add-part-sum-2 c =
+    let a = c .before .before .before .before .before .before .args in
+    let l = c .before .before .loop in
+    let seven : length (a .t3) ≡ 7 = (let o = c .before .before .before .before .before .before in search needs) in
+    let s = length-take-le (a .k + 1) (a .t3) (omega arith) in
+    let G = take (a .k + 1) (a .t3) in
+    omega (arith, above-small LARGEST (now (a .table)) (a .t2) G (a .k) s (l .above) (l .below) (l .z) (l .sum) (l .i) (l .inv), l .inv .low, l .inv .reach, c .before .before .before .before .before .before .pre .2 (l .i))
+
+add-part-sum-3 : tie.Need-add-part-sum-3 Inv-loop μ-loop
+add-part-sum-3 c = search needs
+
+part-sum-requires : tie.Need-part-sum-requires Inv-loop μ-loop
+part-sum-requires c κs =
+    let a = c .before .before .before .before .before .before .args in
+    let l = c .before .before .loop in
+    let seven : length (a .t3) ≡ 7 = (let o = c .before .before .before .before .before .before in search needs) in
+    let s = length-take-le (a .k + 1) (a .t3) (omega arith) in
+    let G = take (a .k + 1) (a .t3) in (
+      omega (arith, above-small LARGEST (now (a .table)) (a .t2) G (a .k) s (l .above) (l .below) (l .z) (l .sum) (l .i) (l .inv), l .inv .low, l .inv .reach, c .before .before .before .before .before .before .pre .2 (l .i)),
+      omega arith,
+      omega (arith, component-small LARGEST (now (a .table)) (a .t2) G (a .k) s (l .above) (l .below) (l .z) (l .sum) (l .i) (l .inv) (c .wide .result) (c .wide .ensures ∙ sym (getD-take (a .k + 1) (a .t3) (l .i) 0 (omega (arith, l .inv .reach))))),
+      c .before .before .before .before .before .before .pre .3,
+    )
+
+capped-sum-requires : tie.Need-capped-sum-requires Inv-loop μ-loop
+capped-sum-requires c κs = search needs
+
+add-z : tie.Need-add-z Inv-loop μ-loop
+add-z c =
+    let a = c .before .before .before .before .before .before .before .before .args in
+    let l = c .before .before .before .before .loop in
+    let seven : length (a .t3) ≡ 7 = (let o = c .before .before .before .before .before .before .before .before in search needs) in
+    let s = length-take-le (a .k + 1) (a .t3) (omega arith) in
+    let G = take (a .k + 1) (a .t3) in
+    omega (arith, component-small LARGEST (now (a .table)) (a .t2) G (a .k) s (l .above) (l .below) (l .z) (l .sum) (l .i) (l .inv) (c .before .before .wide .result) (c .before .before .wide .ensures ∙ sym (getD-take (a .k + 1) (a .t3) (l .i) 0 (omega (arith, l .inv .reach)))))
+
+add-choose : tie.Need-add-choose Inv-loop μ-loop
+add-choose c = search needs
+
+choose-requires : tie.Need-choose-requires Inv-loop μ-loop
+choose-requires c κs =
+    let a = c .before .before .before .before .before .before .before .before .args in
+    let l = c .before .before .before .before .loop in
+    let seven : length (a .t3) ≡ 7 = (let o = c .before .before .before .before .before .before .before .before in search needs) in
+    let s = length-take-le (a .k + 1) (a .t3) (omega arith) in
+    let G = take (a .k + 1) (a .t3) in
+    (omega (arith, component-small LARGEST (now (a .table)) (a .t2) G (a .k) s (l .above) (l .below) (l .z) (l .sum) (l .i) (l .inv) (c .before .before .wide .result) (c .before .before .wide .ensures ∙ sym (getD-take (a .k + 1) (a .t3) (l .i) 0 (omega (arith, l .inv .reach))))), omega arith, c .before .before .before .before .before .before .before .before .pre .3)
+
+add-below : tie.Need-add-below Inv-loop μ-loop
+add-below c =
+    let a = c .before .before .before .before .before .before .before .before .before .args in
+    let l = c .before .before .before .before .before .loop in
+    let seven : length (a .t3) ≡ 7 = (let o = c .before .before .before .before .before .before .before .before .before in search needs) in
+    let s = length-take-le (a .k + 1) (a .t3) (omega arith) in
+    let G = take (a .k + 1) (a .t3) in
+    let cs = component-small LARGEST (now (a .table)) (a .t2) G (a .k) s (l .above) (l .below) (l .z) (l .sum) (l .i) (l .inv) (c .before .before .before .wide .result) (c .before .before .before .wide .ensures ∙ sym (getD-take (a .k + 1) (a .t3) (l .i) 0 (omega (arith, l .inv .reach)))) in
+    omega (arith, l .inv .low, c .choose .ensures, binomial-small (l .z + c .before .before .before .wide .result) (l .i + 1) cs)
+
+add-choose-2 : tie.Need-add-choose-2 Inv-loop μ-loop
+add-choose-2 c = search needs
+
+choose-requires-2 : tie.Need-choose-requires-2 Inv-loop μ-loop
+choose-requires-2 c κs =
+    let a = c .before .before .before .before .before .before .before .before .before .args in
+    let l = c .before .before .before .before .before .loop in
+    let seven : length (a .t3) ≡ 7 = (let o = c .before .before .before .before .before .before .before .before .before in search needs) in
+    let s = length-take-le (a .k + 1) (a .t3) (omega arith) in
+    let G = take (a .k + 1) (a .t3) in
+    (omega (arith, component-small LARGEST (now (a .table)) (a .t2) G (a .k) s (l .above) (l .below) (l .z) (l .sum) (l .i) (l .inv) (c .before .before .before .wide .result) (c .before .before .before .wide .ensures ∙ sym (getD-take (a .k + 1) (a .t3) (l .i) 0 (omega (arith, l .inv .reach))))), omega arith, c .before .before .before .before .before .before .before .before .before .pre .3)
+
+sub-above : tie.Need-sub-above Inv-loop μ-loop
+sub-above c =
+    let a = c .before .before .before .before .before .before .before .before .before .before .args in
+    let l = c .before .before .before .before .before .before .loop in
+    let seven : length (a .t3) ≡ 7 = (let o = c .before .before .before .before .before .before .before .before .before .before in search needs) in
+    let s = length-take-le (a .k + 1) (a .t3) (omega arith) in
+    let G = take (a .k + 1) (a .t3) in
+    above-enough LARGEST (now (a .table)) (a .t2) G (a .k) s (l .above) (l .below) (l .z) (l .sum) (l .i) (l .inv) (c .before .before .before .before .wide .result) (c .before .before .before .before .wide .ensures ∙ sym (getD-take (a .k + 1) (a .t3) (l .i) 0 (omega (arith, l .inv .reach)))) (omega arith) (c .choose2 .result) (c .choose2 .ensures)
+
+add-z-2 : tie.Need-add-z-2 Inv-loop μ-loop
+add-z-2 c =
+    let a = c .before .before .before .before .before .before .before .before .before .before .args in
+    let l = c .before .before .before .before .before .before .loop in
+    let seven : length (a .t3) ≡ 7 = (let o = c .before .before .before .before .before .before .before .before .before .before in search needs) in
+    let s = length-take-le (a .k + 1) (a .t3) (omega arith) in
+    let G = take (a .k + 1) (a .t3) in
+    omega (arith, component-small LARGEST (now (a .table)) (a .t2) G (a .k) s (l .above) (l .below) (l .z) (l .sum) (l .i) (l .inv) (c .before .before .before .before .wide .result) (c .before .before .before .before .wide .ensures ∙ sym (getD-take (a .k + 1) (a .t3) (l .i) 0 (omega (arith, l .inv .reach)))))
+
+add-i : tie.Need-add-i Inv-loop μ-loop
+add-i c = search needs
+
+loop-less : tie.Need-loop-less Inv-loop μ-loop
+loop-less c = search needs
+
+loop-again : tie.Need-loop-again Inv-loop μ-loop
+loop-again c =
+    let a = c .before .before .before .before .before .before .before .before .before .before .args in
+    let l = c .before .before .before .before .before .before .loop in
+    let seven : length (a .t3) ≡ 7 = (let o = c .before .before .before .before .before .before .before .before .before .before in search needs) in
+    let s = length-take-le (a .k + 1) (a .t3) (omega arith) in
+    let G = take (a .k + 1) (a .t3) in
+    sums-more LARGEST (now (a .table)) (a .t2) G (a .k) s (l .above) (l .below) (l .z) (l .sum) (l .i) (l .inv) (c .before .before .before .before .wide .result) (c .before .before .before .before .wide .ensures ∙ sym (getD-take (a .k + 1) (a .t3) (l .i) 0 (omega (arith, l .inv .reach)))) (omega arith)
+    (c .before .before .before .part-sum .result) (c .before .before .capped-sum .result) (c .before .choose .result) (c .choose2 .result)
+    (c .before .before .before .part-sum .ensures) (c .before .before .capped-sum .ensures) (c .before .choose .ensures) (c .choose2 .ensures)
+
+array-read-wide-2 : tie.Need-array-read-wide-2 Inv-loop μ-loop
+array-read-wide-2 c = search needs
+
+wide-requires-2 : tie.Need-wide-requires-2 Inv-loop μ-loop
+wide-requires-2 c κs = search needs
+
+mul-part-sum-2 : tie.Need-mul-part-sum-2 Inv-loop μ-loop
+mul-part-sum-2 c = search needs
+
+array-read-part-sum-2 : tie.Need-array-read-part-sum-2 Inv-loop μ-loop
+array-read-part-sum-2 c = search needs
+
+add-part-sum-4 : tie.Need-add-part-sum-4 Inv-loop μ-loop
+add-part-sum-4 c =
+    let a = c .before .before .before .before .before .before .args in
+    let l = c .before .before .loop in
+    let seven : length (a .t3) ≡ 7 = (let o = c .before .before .before .before .before .before in search needs) in
+    let s = length-take-le (a .k + 1) (a .t3) (omega arith) in
+    let G = take (a .k + 1) (a .t3) in
+    omega (arith, l .inv .low, l .inv .reach, c .before .before .before .before .before .before .pre .2 (a .k))
+
+add-part-sum-5 : tie.Need-add-part-sum-5 Inv-loop μ-loop
+add-part-sum-5 c = search needs
+
+part-sum-requires-2 : tie.Need-part-sum-requires-2 Inv-loop μ-loop
+part-sum-requires-2 c κs =
+    let a = c .before .before .before .before .before .before .args in
+    let l = c .before .before .loop in
+    let seven : length (a .t3) ≡ 7 = (let o = c .before .before .before .before .before .before in search needs) in
+    let s = length-take-le (a .k + 1) (a .t3) (omega arith) in
+    let G = take (a .k + 1) (a .t3) in
+    let q : a .k ≡ l .i = omega (arith, l .inv .reach) in (
+      omega (arith, l .inv .low, l .inv .reach, c .before .before .before .before .before .before .pre .2 (a .k)),
+      omega arith,
+      omega (arith, component-small LARGEST (now (a .table)) (a .t2) G (a .k) s (l .above) (l .below) (l .z) (l .sum) (l .i) (l .inv) (c .wide2 .result) (c .wide2 .ensures ∙ sym (getD-take (a .k + 1) (a .t3) (a .k) 0 (omega arith)) ∙ ap (λ j. getD G j 0) q)),
+      c .before .before .before .before .before .before .pre .3,
+    )
+
+capped-sum-requires-2 : tie.Need-capped-sum-requires-2 Inv-loop μ-loop
+capped-sum-requires-2 c κs = search needs
+
+returns : tie.Need-returns Inv-loop μ-loop
+returns c =
+    let a = c .before .before .before .before .before .before .before .before .args in
+    let l = c .before .before .before .before .loop in
+    let seven : length (a .t3) ≡ 7 = (let o = c .before .before .before .before .before .before .before .before in search needs) in
+    let s = length-take-le (a .k + 1) (a .t3) (omega arith) in
+    let G = take (a .k + 1) (a .t3) in
+    let q : a .k ≡ l .i = omega (arith, l .inv .reach) in
+    sums-end LARGEST (now (a .table)) (a .t2) G (a .k) s (l .above) (l .below) (l .z) (l .sum) (l .i) (l .inv) (c .before .before .wide2 .result) (c .before .before .wide2 .ensures ∙ sym (getD-take (a .k + 1) (a .t3) (a .k) 0 (omega arith)) ∙ ap (λ j. getD G j 0) q) (c .before .part-sum2 .result) (c .capped-sum2 .result) (omega arith)
+    (c .before .part-sum2 .ensures) (c .capped-sum2 .ensures)
+
+pub child-sum-spec : {M : Type 1} → statement M
+child-sum-spec =
+    tie.close
+    (tie.spec
+    Inv-loop
+    μ-loop
+    rank-without-requires
+    loop-holds
+    array-read-wide
+    wide-requires
+    mul-part-sum
+    array-read-part-sum
+    add-part-sum
+    add-part-sum-2
+    add-part-sum-3
+    part-sum-requires
+    capped-sum-requires
+    add-z
+    add-choose
+    choose-requires
+    add-below
+    add-choose-2
+    choose-requires-2
+    sub-above
+    add-z-2
+    add-i
+    loop-less
+    loop-again
+    array-read-wide-2
+    wide-requires-2
+    mul-part-sum-2
+    array-read-part-sum-2
+    add-part-sum-4
+    add-part-sum-5
+    part-sum-requires-2
+    capped-sum-requires-2
+    returns)

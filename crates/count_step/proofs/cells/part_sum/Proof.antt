@@ -1,0 +1,80 @@
+-- `count_step::cells::part_sum` meets its contract.
+-- Assumes nothing.
+use denote.Ref.{now}
+use lib.ListN.{getD}
+use borrow.Author.Needs.{needs}
+use native.Mathlib.Omega.{arith}
+use Prim.Native.Nat.{_+_, _-_, _≤_}
+use mathlib.Core.Path.{ap, _∙_}
+use Rattle.count_step.proofs.SumLaws.{Part, part-start, part-more, part-end}
+use Rattle.count_step.specs.Step.{LARGEST}
+use Rattle.spacing.specs.PascalLaws.{binomial-small}
+use Rattle.count_step.proofs.cells.part_sum.Statement.{statement}
+use Rattle.count_step.proofs.cells.part_sum.Tie as tie
+
+abbrev Inv-loop : tie.InvT-loop
+Inv-loop table at col first n b end sum₀ z₀ sum z = (end ≤ 21) × Part LARGEST table at col first n end sum z
+
+abbrev μ-loop : tie.MeasureT-loop
+μ-loop table at col first n b end sum₀ z₀ sum z = end - z
+
+add-end : tie.Need-add-end Inv-loop μ-loop
+add-end c = search needs
+
+loop-holds : tie.Need-loop-holds Inv-loop μ-loop
+loop-holds c =
+    let a = c .before .before .args in
+    (omega arith, part-start LARGEST (now (a .table)) (a .at) (a .col) (a .first) (a .n))
+
+choose-requires : tie.Need-choose-requires Inv-loop μ-loop
+choose-requires c κs = search needs
+
+add-read : tie.Need-add-read Inv-loop μ-loop
+add-read c =
+    let l = c .before .before .loop in
+    omega (arith, c .choose .ensures, binomial-small (l .z) (c .before .before .before .before .before .args .col) (omega arith))
+
+read-requires : tie.Need-read-requires Inv-loop μ-loop
+read-requires c κs = search needs
+
+capped-sum-requires : tie.Need-capped-sum-requires Inv-loop μ-loop
+capped-sum-requires c κs = search needs
+
+add-z : tie.Need-add-z Inv-loop μ-loop
+add-z c = search needs
+
+loop-less : tie.Need-loop-less Inv-loop μ-loop
+loop-less c = search needs
+
+loop-again : tie.Need-loop-again Inv-loop μ-loop
+loop-again c =
+    let a = c .before .before .before .before .before .before .before .args in
+    let l = c .before .before .before .before .loop in (
+      l .inv .0,
+      part-more LARGEST (now (a .table)) (a .at) (a .col) (a .first) (a .n) (a .first + a .n) (l .sum) (l .z) (l .inv .1)
+          (c .before .read .result) (c .capped-sum .result) (omega arith)
+          (c .before .read .ensures ∙ ap (λ i. getD (now (a .table)) (a .at + i) 0) (c .before .before .choose .ensures)) (c .capped-sum .ensures),
+    )
+
+returns : tie.Need-returns Inv-loop μ-loop
+returns c =
+    let a = c .before .before .before .before .args in
+    let l = c .before .loop in
+    part-end LARGEST (now (a .table)) (a .at) (a .col) (a .first) (a .n) (a .first + a .n) (l .sum) (l .z) (l .inv .1) (omega arith)
+
+pub part-sum-spec : {M : Type 1} → statement M
+part-sum-spec =
+    tie.close
+    (tie.spec
+    Inv-loop
+    μ-loop
+    add-end
+    loop-holds
+    choose-requires
+    add-read
+    read-requires
+    capped-sum-requires
+    add-z
+    loop-less
+    loop-again
+    returns)

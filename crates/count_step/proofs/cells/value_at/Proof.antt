@@ -1,0 +1,84 @@
+-- `count_step::cells::value_at` meets its contract.
+-- Assumes nothing.
+use denote.Ref.{now}
+use native.Mathlib.Omega.{arith}
+use Prim.Native.Nat.{_+_}
+use mathlib.Core.Path.{_≡_, sym, _∙_}
+use mathlib.Core.Bool.{true}
+use lib.ListN.{take}
+use borrow.Author.Tests.{not-true, not-false}
+use Rattle.cell.specs.Cell.{free}
+use Rattle.spacing.specs.GapRows.{gapsOf}
+use Rattle.count_step.proofs.FillLaws.{step-covered, step-deletes, step-alone, step-sums}
+use borrow.Author.Needs.{needs}
+use Rattle.count_step.proofs.cells.value_at.Statement.{statement}
+use Rattle.count_step.proofs.cells.value_at.Tie as tie
+
+is-free-requires : tie.Need-is-free-requires
+is-free-requires c κs = search needs
+
+returns : tie.Need-returns
+returns c =
+    let a = c .before .before .before .before .args in
+    let t = a .task in
+    let G = take (t .length + 1) (a .g) in
+    let B = gapsOf (a .gaps) (t .length + 1) (t .«gap_count») in
+    sym (step-covered (now (a .table)) B (t .deleted) (t .alone) (t .links) G (sym (c .before .is-free .ensures) ∙ not-true (c .before .is-free .result) (c .if1 .taken)))
+
+rank-without-requires : tie.Need-rank-without-requires
+rank-without-requires c κs = search needs
+
+array-read-read : tie.Need-array-read-read
+array-read-read c = search needs
+
+add-read : tie.Need-add-read
+add-read c =
+    omega (arith, c .rank-without .ensures .1, c .before .before .before .before .before .before .before .before .pre .0 .near 0)
+
+read-requires : tie.Need-read-requires
+read-requires c κs = search needs
+
+returns-2 : tie.Need-returns-2
+returns-2 c =
+    let a = c .before .before .before .before .before .before .before .before .before .args in
+    let t = a .task in
+    let G = take (t .length + 1) (a .g) in
+    let B = gapsOf (a .gaps) (t .length + 1) (t .«gap_count») in
+    let fr : free B G ≡ true = sym (c .before .before .before .before .before .before .is-free .ensures) ∙ not-false (c .before .before .before .before .before .before .is-free .result) (c .before .before .before .before .before .if1 .left) in
+    c .read .ensures ∙ step-deletes (now (a .table)) B (t .deleted) (t .alone) (t .links) G (c .before .rank-without .result) fr (c .before .before .if2 .taken) (c .before .rank-without .ensures .0)
+
+returns-3 : tie.Need-returns-3
+returns-3 c =
+    let a = c .before .before .before .before .before .before .before .before .before .args in
+    let t = a .task in
+    let G = take (t .length + 1) (a .g) in
+    let B = gapsOf (a .gaps) (t .length + 1) (t .«gap_count») in
+    let fr : free B G ≡ true = sym (c .before .before .before .before .before .before .is-free .ensures) ∙ not-false (c .before .before .before .before .before .before .is-free .result) (c .before .before .before .before .before .if1 .left) in
+    step-alone (now (a .table)) B (t .deleted) (t .alone) (t .links) G fr (c .before .before .if2 .left) (c .before .before .before .before .before .before .before .before .before .pre .1 ∙ c .if3 .taken)
+
+child-sum-requires : tie.Need-child-sum-requires
+child-sum-requires c κs = search needs
+
+returns-4 : tie.Need-returns-4
+returns-4 c =
+    let a = c .before .before .before .before .before .before .before .before .before .before .args in
+    let t = a .task in
+    let G = take (t .length + 1) (a .g) in
+    let B = gapsOf (a .gaps) (t .length + 1) (t .«gap_count») in
+    let fr : free B G ≡ true = sym (c .before .before .before .before .before .before .before .is-free .ensures) ∙ not-false (c .before .before .before .before .before .before .before .is-free .result) (c .before .before .before .before .before .before .if1 .left) in
+    c .child-sum .ensures ∙ step-sums (now (a .table)) B (t .deleted) (t .alone) (t .links) G fr (c .before .before .before .if2 .left) (λ e. c .before .if3 .left (sym (c .before .before .before .before .before .before .before .before .before .before .pre .1) ∙ e))
+
+pub value-at-spec : {M : Type 1} → statement M
+value-at-spec =
+    tie.close
+    (tie.spec
+    is-free-requires
+    returns
+    rank-without-requires
+    array-read-read
+    add-read
+    read-requires
+    returns-2
+    returns-3
+    child-sum-requires
+    returns-4)

@@ -1,0 +1,90 @@
+-- `count_step::filling::fill_cells` meets its contract.
+-- Assumes nothing.
+use borrow.Author.Needs.{needs}
+use native.Mathlib.Omega.{arith}
+use denote.Ref.{now}
+use Prim.Native.Nat.{_+_, _-_}
+use mathlib.Core.Path.{ap, _∙_}
+use lib.ListN.{length}
+use Rattle.spacing.specs.Following.{firstVector}
+use Rattle.spacing.specs.PascalLaws.{binomial-small}
+use Rattle.count_step.specs.Task.{spacingIn, taskStep}
+use Rattle.count_step.proofs.FillLaws.{Filling, filling-start, filling-more, filling-end}
+use Rattle.count_step.proofs.filling.fill_cells.Statement.{statement}
+use Rattle.count_step.proofs.filling.fill_cells.Tie as tie
+
+abbrev Inv-loop : tie.InvT-loop
+Inv-loop table₀ at size task gaps b k g₀ p₀ table g p =
+    Filling (taskStep task gaps) (task .length) (task .total) at size p table₀ table (spacingIn (task .length) g)
+
+abbrev μ-loop : tie.MeasureT-loop
+μ-loop table₀ at size task gaps b k g₀ p₀ table g p = size - p
+
+narrow-requires : tie.Need-narrow-requires Inv-loop μ-loop
+narrow-requires c κs = search needs
+
+first-spacing-requires : tie.Need-first-spacing-requires Inv-loop μ-loop
+first-spacing-requires c κs = search needs
+
+loop-holds : tie.Need-loop-holds Inv-loop μ-loop
+loop-holds c =
+    let a = c .before .before .before .before .args in
+    let t = a .task in
+    filling-start (taskStep t (a .gaps)) (t .length) (t .total) (a .at) (a .size) (c .before .before .before .before .pre .1) (now (a .table)) (spacingIn (t .length) (c .first-spacing .result))
+    (c .first-spacing .ensures ∙ ap (firstVector (t .length)) (c .before .narrow .ensures))
+
+add-fill-one : tie.Need-add-fill-one Inv-loop μ-loop
+add-fill-one c =
+    let a = c .before .before .before .before .before .before .before .args in
+    let t = a .task in
+    omega (arith, c .before .before .before .before .before .before .before .pre .1, c .before .before .before .before .before .before .before .pre .2, binomial-small (t .length + t .total) (t .length) (c .before .before .before .before .before .before .before .pre .0 .sum), c .before .before .loop .inv .reach)
+
+fill-one-requires : tie.Need-fill-one-requires Inv-loop μ-loop
+fill-one-requires c κs = search needs
+
+next-cell-requires : tie.Need-next-cell-requires Inv-loop μ-loop
+next-cell-requires c κs = search needs
+
+add-p : tie.Need-add-p Inv-loop μ-loop
+add-p c = search needs
+
+loop-less : tie.Need-loop-less Inv-loop μ-loop
+loop-less c = search needs
+
+loop-again : tie.Need-loop-again Inv-loop μ-loop
+loop-again c =
+    let a = c .before .before .before .before .before .before .before .before .before .before .before .args in
+    let t = a .task in
+    let l = c .before .before .before .before .before .before .loop in
+    filling-more (taskStep t (a .gaps)) (t .length) (t .total) (a .at) (a .size) (c .before .before .before .before .before .before .before .before .before .before .before .pre .1) (now (a .table)) (l .p) (l .table)
+    (spacingIn (t .length) (l .g)) (l .inv) (omega arith) (c .before .before .before .fill-one .last .0) (spacingIn (t .length) (c .next-cell .result))
+    (c .before .before .before .fill-one .ensures) (c .next-cell .ensures)
+
+same-length : tie.Need-same-length Inv-loop μ-loop
+same-length c = search needs
+
+returns : tie.Need-returns Inv-loop μ-loop
+returns c =
+    let a = c .before .before .before .before .before .before .args in
+    let t = a .task in
+    let l = c .before .loop in
+    filling-end (taskStep t (a .gaps)) (t .length) (t .total) (a .at) (a .size) (c .before .before .before .before .before .before .pre .1) (now (a .table)) (l .p) (l .table)
+    (spacingIn (t .length) (l .g)) (l .inv) (omega arith)
+
+pub fill-cells-spec : {M : Type 1} → statement M
+fill-cells-spec =
+    tie.close
+    (tie.spec
+    Inv-loop
+    μ-loop
+    narrow-requires
+    first-spacing-requires
+    loop-holds
+    add-fill-one
+    fill-one-requires
+    next-cell-requires
+    add-p
+    loop-less
+    loop-again
+    same-length
+    returns)

@@ -1,0 +1,60 @@
+// Filling the cells of one entry at one length, in the order of their ranks.
+use crate::cells::Task;
+use crate::cells::store;
+use crate::cells::value_at;
+use spacing::first_spacing;
+use spacing::walk::next_cell;
+ghost use mathlib.Core.Path.{_≡_};
+ghost use Prim.Native.Nat.{_+_, _≤_};
+ghost use lib.ListN.{set};
+ghost use Rattle.cell.specs.Cell.{total};
+ghost use Rattle.cell.specs.Binomial.{binomial};
+ghost use Rattle.spacing.specs.Pascal.{Pascal};
+ghost use Rattle.count_step.specs.Task.{TaskFits, spacingIn, taskStep, Filled};
+
+// One step: fills one cell and changes no other.
+pub fn fill_one(
+    table: &mut [u64],
+    at: usize,
+    task: Task,
+    gaps: [[u8; 7]; 8],
+    g: [u8; 7],
+    b: &[usize],
+)
+    requires { ⌜ TaskFits task × (total (spacingIn (task .length) g) ≡ task .total) × Pascal (now b) ⌝ }
+    ensures { λ r. ⌜ now (table .exit) ≡ set (now (table .entry)) at (taskStep task gaps (now (table .entry)) (spacingIn (task .length) g)) ⌝ }
+{
+    let x = value_at(table, task, gaps, g, b);
+    store(table, at, x);
+}
+
+// The cells of one entry at one length, `size` of them from `at` on: the one with index p has the value at the spacing of rank p.
+pub fn fill_cells(
+    table: &mut [u64],
+    at: usize,
+    size: usize,
+    task: Task,
+    gaps: [[u8; 7]; 8],
+    b: &[usize],
+)
+    requires { ⌜ TaskFits task × (size ≡ binomial (task .length + task .total) (task .length)) × (at ≤ 1099511627776) × Pascal (now b) ⌝ }
+    ensures { λ r. ⌜ Filled (taskStep task gaps) (task .length) (task .total) at size size (now (table .entry)) (now (table .exit)) ⌝ }
+{
+    let k = task.length;
+    let mut g = first_spacing(k, narrow(task.total));
+    let mut p: usize = 0;
+    while p < size {
+        fill_one(table, at + p, task, gaps, g, b);
+        let next = next_cell(g, k);
+        g = next;
+        p += 1;
+    }
+}
+
+// The same number, of at most 20.
+fn narrow(x: usize) -> u8
+    requires { ⌜ x ≤ 20 ⌝ }
+    ensures { λ r. ⌜ r ≡ x ⌝ }
+{
+    x as u8
+}

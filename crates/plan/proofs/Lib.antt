@@ -1,2 +1,0 @@
--- The laws that the proofs of the crate plan use.
-pub mod ItemLaws

@@ -1,2 +1,0 @@
--- The laws that the proofs of the crate rank use.
-pub mod WalkLaws

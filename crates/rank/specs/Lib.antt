@@ -1,6 +1,0 @@
--- The ranks of spacings.
-pub mod Rank
-pub mod Pascal
-pub mod RankLaws
-pub mod PascalLaws
-pub mod TotalLaws

@@ -1,3 +1,0 @@
-// Binomials, and the ranks of spacings.
-pub mod binomials;
-pub mod walk;

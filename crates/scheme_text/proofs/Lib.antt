@@ -1,3 +1,0 @@
--- The laws that the proofs of the crate scheme_text cite.
-pub mod EntryLaws
-pub mod EntriesLaws

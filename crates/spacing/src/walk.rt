@@ -1,0 +1,63 @@
+// The rank of a spacing, and the spacing that comes next by rank.
+use crate::binomials::choose;
+ghost use mathlib.Core.Path.{_≡_};
+ghost use mathlib.Core.List.{[], _∷_};
+ghost use Prim.Native.Nat.{_+_, _≤_, _<_};
+ghost use lib.ListN.{take};
+ghost use Rattle.cell.specs.Cell.{total, mergeValues};
+ghost use Rattle.spacing.specs.Rank.{rankAfter, nextOf};
+ghost use Rattle.spacing.specs.Pascal.{Pascal};
+
+// The rank of the spacing without the value v: components v - 1 and v added into one. Where v is 0, that of the spacing itself. With a `start` of 1
+// each value is counted as if one more came before it.
+pub fn rank_without(g: [u8; 7], k: usize, v: usize, start: usize, b: &[usize]) -> usize
+    requires { ⌜ (k ≤ 6) × (start ≤ 1) × (k + total (take (k + 1) g) ≤ 20) × Pascal (now b) ⌝ }
+    ensures { λ r. ⌜ (r ≡ rankAfter start 0 (mergeValues (v ∷ []) (take (k + 1) g))) × (r ≤ 7340032) ⌝ }
+{
+    let mut z = wide(g[0]);
+    let mut count = start;
+    let mut rank: usize = 0;
+    let mut t: usize = 1;
+    while t <= k {
+        let y = wide(g[t]);
+        if t == v {
+            z += y;
+            t += 1;
+        } else {
+            count += 1;
+            rank += choose(b, z, count);
+            z = z + 1 + y;
+            t += 1;
+        }
+    }
+    rank
+}
+
+// The same number.
+pub fn wide(x: u8) -> usize
+    ensures { λ r. ⌜ r ≡ x ⌝ }
+{
+    x as usize
+}
+
+// The spacing that comes next; after the last one the first.
+pub fn next_cell(g: [u8; 7], k: usize) -> [u8; 7]
+    requires { ⌜ (k ≤ 6) × (total (take (k + 1) g) ≤ 20) ⌝ }
+    ensures { λ r. ⌜ take (k + 1) r ≡ nextOf (take (k + 1) g) ⌝ }
+{
+    let first = g[0];
+    let mut n = g;
+    n[0] = 0;
+    let mut i: usize = 1;
+    while i <= k {
+        let y = g[i];
+        if y != 0 {
+            n[i] = y - 1;
+            n[i - 1] = first + 1;
+            return n;
+        }
+        i += 1;
+    }
+    n[k] = first;
+    n
+}

@@ -1,0 +1,162 @@
+-- The starred examples of document 01: one table, and one theorem for all of it.
+use Prim.Native.Nat.{ℕ, suc}
+use Prim.Native.String.{String}
+use mathlib.Core.Path.{_≡_, refl}
+use mathlib.Core.Bool.{Bool, true}
+use mathlib.Core.List.{List, [], _∷_, map}
+use lib.ListN.{length}
+use lib.Dec.{eqb}
+use Rattle.word.specs.Lists.{all, keep, each, row}
+use Rattle.word.specs.Word.{contains, reduce, isPerm}
+use Rattle.word.specs.Told.{Told}
+use Rattle.word.specs.Containment.{containment}
+use Rattle.word.specs.declared.containment.Contained.{Contained}
+use Rattle.word.specs.declared.containment.Contained.the-variants.{Yes, No}
+use Rattle.word.specs.declared.refusal.Refusal.the-variants.{Rootless, LiveGap, Irreversible}
+use Rattle.cell.specs.Cell.{spacing, cell, deleted, merged, vectors, free, same, total, children, compared}
+use Rattle.scheme.specs.SchemeList.{Does, expands, deletes, EntryList}
+use Rattle.scheme.specs.SchemeMemory.{patternsIn, schemeIn}
+use Rattle.scheme.specs.declared.memory.Fault.{Fault}
+use Rattle.scheme.specs.declared.memory.Fault.the-variants.{At}
+use Rattle.text_grammar.specs.Tokens.{tokens, tokensAfter, tokenAt}
+use Rattle.text_grammar.specs.Grammar.{itemsOf, readPatterns, readEntries}
+use Rattle.text_patterns.specs.PatternMemory.{loadedPatterns}
+use Rattle.text_schemes.specs.SchemeLoaded.{loadedScheme}
+use Rattle.notation.specs.PatternAnswers.{patternsAnswer}
+use Rattle.notation.specs.SchemeAnswers.{schemeAnswer}
+use Rattle.verdict.specs.Verdict.{verdictOf, toldVerdict, comparedCells, liveGap, differs, sizesDiffer, comparedWith}
+use Rattle.verdict.specs.declared.answer.Verdict.{Verdict}
+use Rattle.verdict.specs.declared.answer.Verdict.the-variants.{Accepted, Refused}
+use Rattle.judge.specs.TextJudgement.{verdictOfTexts}
+use Rattle.verdict.specs.Value.{countOf}
+use Rattle.starred.specs.Utf8.{bytes}
+
+-- what an example asks
+pub data Question : Type 0 where
+  -- does the permutation contain the pattern?
+  containsPattern : (permutation pattern : List ℕ) → Question
+  -- which prefix and spacing have these first entries of a permutation of length n?
+  firstEntries : (n : ℕ) (entries : List ℕ) → Question
+  -- which prefix and spacing does deleting these positions give?
+  deletion : (positions prefix spacing : List ℕ) → Question
+  -- the sizes of the cell, and of the cell of the shorter prefix and merged spacing
+  sizes : (patterns : List (List ℕ)) (prefix positions spacing : List ℕ) → Question
+  -- do these sizes agree at all spacings up to the total that are at least no listed vector?
+  agreeTo : (patterns : List (List ℕ)) (prefix : List ℕ) (vectors : List (List ℕ)) (positions : List ℕ) (total : ℕ) → Question
+  -- with what is the text of a scheme refused when it is read?
+  reading : (text : List ℕ) → Question
+  -- what is the verdict on the scheme?
+  judging : (patterns : List (List ℕ)) (scheme : List EntryList) → Question
+  -- what is the count for n?
+  counting : (patterns : List (List ℕ)) (scheme : List EntryList) (n : ℕ) → Question
+  -- the same two on the texts of the set and of the scheme
+  judgingTexts : (patterns scheme : String) → Question
+  countingTexts : (patterns scheme : String) (n : ℕ) → Question
+
+-- what it answers
+pub data Answer : Type 0 where
+  contained : Contained → Answer
+  prefixAndSpacing : List ℕ → List ℕ → Answer
+  sizesAre : ℕ → ℕ → Answer
+  holds : Bool → Answer
+  refusedAs : Fault → Answer
+  verdictIs : Verdict → Answer
+  countIs : ℕ → Answer
+  -- the number of a refusal, 0 for none, and its index or the value
+  tells : (number : ℕ) (values : List ℕ) → Answer
+
+-- a row of the table: a question, and the answer of document 01
+pub record Example : Type 0 where
+  pub asked : Question
+  pub told : Answer
+
+-- the size of the shorter cell
+unfoldable pub shorterSize : List (List ℕ) → List ℕ → List ℕ → List ℕ → ℕ
+unfolding cell deleted merged
+shorterSize P p R g = length (cell P (deleted R p) (merged R p g))
+
+-- an answer in the numbers of document 01
+abbrev toldAs : Told → Answer
+toldAs t = tells (t .number) (t .values)
+
+unfoldable pub answer : Question → Answer
+unfolding countOf contains isPerm reduce spacing shorterSize vectors free total children deleted merged cell compared comparedCells liveGap differs sizesDiffer comparedWith tokens tokensAfter tokenAt readPatterns readEntries itemsOf same loadedPatterns loadedScheme bytes
+answer (containsPattern w β) = contained (containment β w)
+answer (firstEntries n u) = prefixAndSpacing (reduce u) (spacing n u)
+answer (deletion R p g) = prefixAndSpacing (deleted R p) (merged R p g)
+answer (sizes P p R g) = sizesAre (length (cell P p g)) (shorterSize P p R g)
+answer (agreeTo P p B R t) =
+    holds (all (λ g. eqb (length (cell P p g)) (shorterSize P p R g)) (keep (free B) (each (vectors (suc (length p))) (row 0 (suc t)))))
+answer (reading s) = refusedAs ((schemeAnswer s) .fault)
+answer (judging P E) = verdictIs (verdictOf P E)
+answer (counting P E n) = countIs (countOf P E n)
+answer (judgingTexts s t) = toldAs (toldVerdict (verdictOfTexts (bytes s) (bytes t)))
+answer (countingTexts s t n) = countIs (countOf (patternsIn ((patternsAnswer (bytes s)) .patterns)) (schemeIn ((schemeAnswer (bytes t)) .scheme)) n)
+
+-- an entry of a scheme
+abbrev entry : List ℕ → List (List ℕ) → Does → EntryList
+entry p B r = record { prefix = p; gaps = B; rule = r }
+
+-- the set {123}, and its scheme with 12 deleting position r
+abbrev set123 : List (List ℕ)
+set123 = (1 ∷ 2 ∷ 3 ∷ []) ∷ []
+
+abbrev scheme123 : ℕ → List EntryList
+scheme123 r =
+    entry [] [] expands ∷ entry (1 ∷ []) [] expands ∷ entry (1 ∷ 2 ∷ []) ((0 ∷ 0 ∷ 1 ∷ []) ∷ []) (deletes r) ∷ entry (2 ∷ 1 ∷ []) [] (deletes 1) ∷ []
+
+-- `{(ε,∅,∅),(1,∅,{1})}` with these gap vectors on ε and on 1
+abbrev scheme1 : List (List ℕ) → List (List ℕ) → List EntryList
+scheme1 B C = entry [] B expands ∷ entry (1 ∷ []) C (deletes 1) ∷ []
+
+unfoldable pub starred : List Example
+starred =
+    -- 239145678 contains 312 (000)
+    record { asked = containsPattern (2 ∷ 3 ∷ 9 ∷ 1 ∷ 4 ∷ 5 ∷ 6 ∷ 7 ∷ 8 ∷ []) (3 ∷ 1 ∷ 2 ∷ []); told = contained Yes } ∷
+    -- it avoids 321 (000)
+    record { asked = containsPattern (2 ∷ 3 ∷ 9 ∷ 1 ∷ 4 ∷ 5 ∷ 6 ∷ 7 ∷ 8 ∷ []) (3 ∷ 2 ∷ 1 ∷ []); told = contained No } ∷
+    -- 391867452 contains 51342 (001)
+    record { asked = containsPattern (3 ∷ 9 ∷ 1 ∷ 8 ∷ 6 ∷ 7 ∷ 4 ∷ 5 ∷ 2 ∷ []) (5 ∷ 1 ∷ 3 ∷ 4 ∷ 2 ∷ []); told = contained Yes } ∷
+    -- first entries 7, 2, 3 of length 9: prefix 312, spacing (1,0,3,2)
+    record { asked = firstEntries 9 (7 ∷ 2 ∷ 3 ∷ []); told = prefixAndSpacing (3 ∷ 1 ∷ 2 ∷ []) (1 ∷ 0 ∷ 3 ∷ 2 ∷ []) } ∷
+    -- deleting position 1: prefix 12, spacing (1,0,5)
+    record { asked = deletion (1 ∷ []) (3 ∷ 1 ∷ 2 ∷ []) (1 ∷ 0 ∷ 3 ∷ 2 ∷ []); told = prefixAndSpacing (1 ∷ 2 ∷ []) (1 ∷ 0 ∷ 5 ∷ []) } ∷
+    -- {123}, prefix 12 with ⟨0,0,1⟩ deleting 1: sizes agree to total 1
+    record {
+      asked = agreeTo ((1 ∷ 2 ∷ 3 ∷ []) ∷ []) (1 ∷ 2 ∷ []) ((0 ∷ 0 ∷ 1 ∷ []) ∷ []) (1 ∷ []) 1;
+      told = holds true;
+    } ∷
+    -- at (0,2,0) they are 1 and 2
+    record { asked = sizes ((1 ∷ 2 ∷ 3 ∷ []) ∷ []) (1 ∷ 2 ∷ []) (1 ∷ []) (0 ∷ 2 ∷ 0 ∷ []); told = sizesAre 1 2 } ∷
+    -- {123}, `{(ε,∅,∅),(1,∅,∅),(12,{⟨0,0,1⟩},{2}),(21,∅,{1})}`: accepted, 16 compared cells
+    record { asked = judging set123 (scheme123 2); told = verdictIs (Accepted 16) } ∷
+    record { asked = judgingTexts "{123}" "{(ε,∅,∅),(1,∅,∅),(12,{⟨0,0,1⟩},{2}),(21,∅,{1})}"; told = tells 0 (16 ∷ []) } ∷
+    -- the same with 12 deleting 1: refused 11, index 2
+    record { asked = judging set123 (scheme123 1); told = verdictIs (Refused Irreversible 2) } ∷
+    record { asked = judgingTexts "{123}" "{(ε,∅,∅),(1,∅,∅),(12,{⟨0,0,1⟩},{1}),(21,∅,{1})}"; told = tells 11 (2 ∷ []) } ∷
+    -- ∅ with `{(ε,∅,∅),(1,∅,{1})}`: 0 compared cells
+    record { asked = judging [] (scheme1 [] []); told = verdictIs (Accepted 0) } ∷
+    record { asked = judgingTexts "∅" "{(ε,∅,∅),(1,∅,{1})}"; told = tells 0 (0 ∷ []) } ∷
+    -- n = 4 gives 24
+    record { asked = counting [] (scheme1 [] []) 4; told = countIs 24 } ∷
+    record { asked = countingTexts "∅" "{(ε,∅,∅),(1,∅,{1})}" 4; told = countIs 24 } ∷
+    -- {1} with `{(ε,∅,∅),(1,{⟨0,0⟩},{1})}`: accepted, with no compared cell
+    record { asked = judging ((1 ∷ []) ∷ []) (scheme1 [] ((0 ∷ 0 ∷ []) ∷ [])); told = verdictIs (Accepted 0) } ∷
+    record { asked = judgingTexts "{1}" "{(ε,∅,∅),(1,{⟨0,0⟩},{1})}"; told = tells 0 (0 ∷ []) } ∷
+    -- n = 0 gives 1, n = 1 gives 0
+    record { asked = counting ((1 ∷ []) ∷ []) (scheme1 [] ((0 ∷ 0 ∷ []) ∷ [])) 0; told = countIs 1 } ∷
+    record { asked = counting ((1 ∷ []) ∷ []) (scheme1 [] ((0 ∷ 0 ∷ []) ∷ [])) 1; told = countIs 0 } ∷
+    record { asked = countingTexts "{1}" "{(ε,∅,∅),(1,{⟨0,0⟩},{1})}" 0; told = countIs 1 } ∷
+    record { asked = countingTexts "{1}" "{(ε,∅,∅),(1,{⟨0,0⟩},{1})}" 1; told = countIs 0 } ∷
+    -- {1} with ⟨0⟩ on ε and entry 1 as before: 10, index 0
+    record { asked = judging ((1 ∷ []) ∷ []) (scheme1 ((0 ∷ []) ∷ []) ((0 ∷ 0 ∷ []) ∷ [])); told = verdictIs (Refused LiveGap 0) } ∷
+    record { asked = judgingTexts "{1}" "{(ε,{⟨0⟩},∅),(1,{⟨0,0⟩},{1})}"; told = tells 10 (0 ∷ []) } ∷
+    -- the scheme ∅: 5
+    record { asked = reading (0xE2 ∷ 0x88 ∷ 0x85 ∷ []); told = refusedAs (At Rootless 0) } ∷
+    record { asked = judgingTexts "{1}" "∅"; told = tells 5 (0 ∷ []) } ∷
+    []
+
+-- every row of the table holds
+pub starred-hold : map (λ e. answer (e .asked)) starred ≡ map (λ e. e .told) starred
+unfolding answer starred
+starred-hold = refl

@@ -1,0 +1,57 @@
+-- `table_lines::input::last_number` meets its contract: one kept byte and two are read, and no or three
+-- spell no number.
+-- Assumes nothing.
+use Prim.Native.Nat.{ℕ}
+use mathlib.Core.Path.{_≡_, sym, ap, _∙_}
+use lib.ListN.{length, take}
+use Rattle.table_lines.specs.Lines.{numberIn}
+use Rattle.table_lines.specs.Kept.{asNumber}
+use Rattle.table_lines.specs.LastNumberLaws.{memory-one, memory-two, memory-other}
+use borrow.Author.Needs.{needs}
+use Rattle.table_lines.proofs.input.last_number.Statement.{statement}
+use Rattle.table_lines.proofs.input.last_number.Tie as tie
+
+array-read-one-digit : tie.Need-array-read-one-digit
+array-read-one-digit c = search needs
+
+one-digit-requires : tie.Need-one-digit-requires
+one-digit-requires c κs = search needs
+
+returns : tie.Need-returns
+returns c = let a = c .before .before .before .args in
+    let three : length (a .lines .last) ≡ 3 = (let g = c .before .before .before .good in search needs) in
+    c .one-digit .ensures ∙ ap asNumber (memory-one (a .lines .last) three)
+    ∙ ap (λ (n : ℕ). asNumber (numberIn (take n (a .lines .last)))) (sym (c .before .if1 .taken))
+
+array-read-two-digits : tie.Need-array-read-two-digits
+array-read-two-digits c = search needs
+
+array-read-two-digits-2 : tie.Need-array-read-two-digits-2
+array-read-two-digits-2 c = search needs
+
+two-digits-requires : tie.Need-two-digits-requires
+two-digits-requires c κs = search needs
+
+returns-2 : tie.Need-returns-2
+returns-2 c = let a = c .before .before .before .before .args in
+    let three : length (a .lines .last) ≡ 3 = (let g = c .before .before .before .before .good in search needs) in
+    c .two-digits .ensures ∙ ap asNumber (memory-two (a .lines .last) three)
+    ∙ ap (λ (n : ℕ). asNumber (numberIn (take n (a .lines .last)))) (sym (c .before .if2 .taken))
+
+returns-3 : tie.Need-returns-3
+returns-3 c = let a = c .before .before .before .args in
+    let three : length (a .lines .last) ≡ 3 = (let g = c .before .before .before .good in search needs) in
+    ap asNumber (memory-other (a .lines .«last_length») (a .lines .last) three (c .before .if1 .left) (c .if2 .left))
+
+pub last-number-spec : {M : Type 1} → statement M
+last-number-spec =
+    tie.close
+    (tie.spec
+    array-read-one-digit
+    one-digit-requires
+    returns
+    array-read-two-digits
+    array-read-two-digits-2
+    two-digits-requires
+    returns-2
+    returns-3)

@@ -1,0 +1,61 @@
+-- `table_lines::input::two_digits` meets its contract: two digits spell a number, where the first is no
+-- zero.
+-- Assumes nothing.
+use Prim.Native.Nat.{ℕ, _+_, _*_}
+use native.Mathlib.Omega.{arith}
+use mathlib.Core.Path.{sym, ap, ap₂, _∙_}
+use Rattle.table_lines.specs.declared.input.Number.the-variants.{Is}
+use Rattle.table_lines.specs.Kept.{asNumber}
+use Rattle.table_lines.specs.LastNumberLaws.{below-digits, above-digits, two-spelt, leading-zero, first-misspelt, second-misspelt}
+use borrow.Author.Needs.{needs}
+use Rattle.table_lines.proofs.input.two_digits.Statement.{statement}
+use Rattle.table_lines.proofs.input.two_digits.Tie as tie
+
+returns : tie.Need-returns
+returns c = sym (ap asNumber (leading-zero (c .before .args .a) (c .before .args .b) (omega arith)))
+
+returns-2 : tie.Need-returns-2
+returns-2 c = sym (ap asNumber (first-misspelt (c .before .before .args .a) (c .before .before .args .b) (above-digits (c .before .before .args .a) (omega arith))))
+
+returns-3 : tie.Need-returns-3
+returns-3 c = let a = c .before .before .before .args in
+    sym (ap asNumber (second-misspelt (a .a) (a .b) (omega arith) (omega arith) (below-digits (a .b) (omega arith))))
+
+returns-4 : tie.Need-returns-4
+returns-4 c = let a = c .before .before .before .before .args in
+    sym (ap asNumber (second-misspelt (a .a) (a .b) (omega arith) (omega arith) (above-digits (a .b) (omega arith))))
+
+sub-wide : tie.Need-sub-wide
+sub-wide c = search needs
+
+wide-requires : tie.Need-wide-requires
+wide-requires c κs = search needs
+
+mul-t6 : tie.Need-mul-t6
+mul-t6 c = search needs
+
+wide-requires-2 : tie.Need-wide-requires-2
+wide-requires-2 c κs = search needs
+
+add-t9 : tie.Need-add-t9
+add-t9 c = search needs
+
+returns-5 : tie.Need-returns-5
+returns-5 c = let a = c .before .before .before .before .before .before .args in
+    ap Is (ap₂ (λ (x y : ℕ). x * 10 + y) (c .before .wide .ensures) (c .wide2 .ensures))
+    ∙ sym (ap asNumber (two-spelt (a .a) (a .b) (omega arith) (omega arith) (omega arith) (omega arith)))
+
+pub two-digits-spec : {M : Type 1} → statement M
+two-digits-spec =
+    tie.close
+    (tie.spec
+    returns
+    returns-2
+    returns-3
+    returns-4
+    sub-wide
+    wide-requires
+    mul-t6
+    wide-requires-2
+    add-t9
+    returns-5)

@@ -1,0 +1,43 @@
+-- `table_lines::reading::taken` meets its contract: the bytes that were read, and the state.
+-- Assumes nothing.
+use Prim.Native.Nat.{ℕ}
+use mathlib.Core.Path.{_≡_, ap, ap₂, _∙_}
+use lib.IntN.{ℤ}
+use mir.Syntax.{w32, w64}
+use mir.Val.{toZ, ofZ}
+use lib.ListN.{take}
+use Rattle.table_lines.specs.declared.input.Lines.{Lines}
+use Rattle.table_lines.specs.declared.reading.State.{State}
+use Rattle.table_lines.specs.KeptWalk.{keptOn}
+use Rattle.table_lines.specs.Reads.{stateAfter, bytesGot, takenOf}
+use borrow.Author.Needs.{needs}
+use Rattle.table_lines.proofs.reading.taken.Statement.{statement}
+use Rattle.table_lines.proofs.reading.taken.Tie as tie
+
+count-requires : tie.Need-count-requires
+count-requires c κs = search needs
+
+slice-aggregate-keep : tie.Need-slice-aggregate-keep
+slice-aggregate-keep c = search needs
+
+keep-requires : tie.Need-keep-requires
+keep-requires c κs = search needs
+
+state-after-requires : tie.Need-state-after-requires
+state-after-requires c κs = search needs
+
+returns : tie.Need-returns
+unfolding takenOf
+returns c = let a = c .before .before .before .before .before .args in
+    let same : toZ w64 (ofZ w64 (a .got)) ≡ a .got = search needs in
+    let error : toZ w32 (ofZ w32 (a .error)) ≡ a .error = search needs in
+    ap₂ (λ (x : State) (y : Lines). record { state = x; lines = y })
+    (c .state-after .ensures ∙ ap₂ stateAfter same error)
+    (c .before .keep .ensures
+    ∙ ap (λ (n : ℕ). keptOn (a .lines) (take n (a .chunk .now))) (c .before .before .before .count .ensures .1)
+    ∙ ap (λ (z : ℤ). keptOn (a .lines) (bytesGot (a .chunk .now) z)) same)
+
+pub taken-spec : {M : Type 1} → statement M
+taken-spec =
+    tie.close
+    (tie.spec count-requires slice-aggregate-keep keep-requires state-after-requires returns)

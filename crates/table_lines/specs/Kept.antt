@@ -1,0 +1,82 @@
+-- What is kept of an input, as a function of all of it, and the three lines as the memory holds
+-- them. Definitions only.
+use Prim.Native.Nat.{ℕ, zero, suc}
+use mathlib.Core.Bool.{Bool, true, false, not, _&&_, cond}
+use mathlib.Core.List.{List, [], _∷_}
+use mathlib.Core.Option.{Option, none, some}
+use lib.ListN.{length, take}
+use lib.Dec.{eqb}
+use Rattle.table_lines.specs.declared.input.Lines.{Lines}
+use Rattle.table_lines.specs.declared.input.Number.{Number}
+use Rattle.table_lines.specs.declared.input.Number.the-variants.{Is, Misspelt}
+use Rattle.table_lines.specs.Lines.{isEnd, line, behind, Three}
+
+-- one byte more than each line may have: "Pattern text 1,024 bytes, scheme text 32,768" and "one
+-- or two digits" (01); input::SET, SCHEME and LAST
+abbrev pub setRoom : ℕ
+setRoom = 1025
+
+abbrev pub schemeRoom : ℕ
+schemeRoom = 32769
+
+abbrev pub lastRoom : ℕ
+lastRoom = 3
+
+-- the first n bytes of a line, and 0 at the places behind its end
+unfoldable pub held : ℕ → List ℕ → List ℕ
+held zero l = []
+held (suc n) [] = 0 ∷ held n []
+held (suc n) (b ∷ l) = b ∷ held n l
+
+-- how many bytes of a line are kept where there is room for n
+abbrev pub heldLength : ℕ → List ℕ → ℕ
+heldLength n l = length (take n l)
+
+-- the number of line ends
+abbrev pub endsIn : List ℕ → ℕ
+endsIn [] = 0
+endsIn (b ∷ s) = cond (isEnd b) (suc (endsIn s)) (endsIn s)
+
+abbrev pub upToThree : ℕ → ℕ
+upToThree zero = 0
+upToThree (suc zero) = 1
+upToThree (suc (suc zero)) = 2
+upToThree (suc (suc (suc n))) = 3
+
+abbrev pub hasBytes : List ℕ → Bool
+hasBytes [] = false
+hasBytes (b ∷ s) = true
+
+unfoldable pub keptOf : List ℕ → Lines
+keptOf s =
+    record {
+      set = held setRoom (line 0 s);
+      «set_length» = heldLength setRoom (line 0 s);
+      scheme = held schemeRoom (line 1 s);
+      «scheme_length» = heldLength schemeRoom (line 1 s);
+      last = held lastRoom (line 2 s);
+      «last_length» = heldLength lastRoom (line 2 s);
+      ends = upToThree (endsIn s);
+      fourth = hasBytes (behind 3 s);
+    }
+
+-- the three lines are there and no fourth: the third has a byte, and none came after its end
+abbrev pub isComplete : Lines → Bool
+isComplete k = not (eqb (k .«last_length») 0) && not (k .fourth)
+
+-- the bytes that the memory holds of each line: as many of its array as its length says
+abbrev pub heldLines : Lines → Three
+heldLines k =
+    record {
+      set = take (k .«set_length») (k .set);
+      scheme = take (k .«scheme_length») (k .scheme);
+      last = take (k .«last_length») (k .last);
+    }
+
+-- the three lines as the memory holds them, where none is missing and there is no fourth
+abbrev pub threeIn : Lines → Option Three
+threeIn k = cond (isComplete k) (some (heldLines k)) none
+
+abbrev pub asNumber : Option ℕ → Number
+asNumber none = Misspelt
+asNumber (some n) = Is n

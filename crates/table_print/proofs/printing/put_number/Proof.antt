@@ -1,0 +1,46 @@
+-- `table_print::printing::put_number` meets its contract: by the cases of the number.
+-- Assumes nothing.
+use borrow.Author.Needs.{needs}
+use Rattle.table_print.proofs.printing.put_number.Statement.{statement}
+use Rattle.table_print.proofs.printing.put_number.Tie as tie
+
+enum-told : tie.Need-enum-told
+enum-told c = search needs
+
+put-refusal-requires : tie.Need-put-refusal-requires
+put-refusal-requires c κs = search needs
+
+enum-known-number : tie.Need-enum-known-number
+enum-known-number c = search needs
+
+put-table-requires : tie.Need-put-table-requires
+put-table-requires c κs = c .before .before .before .before .before .before .before .pre
+
+same-length : tie.Need-same-length
+same-length c = search needs
+
+returns : tie.Need-returns
+returns c =
+    let put = c .before .before .put-refusal .ensures in
+    (rw (c .before .before .before .before .enum-told .given .1) (put .0), put .1)
+
+same-length-2 : tie.Need-same-length-2
+same-length-2 c = search needs
+
+returns-2 : tie.Need-returns-2
+returns-2 c =
+    let put = c .before .before .put-table .ensures in
+    (rw (c .before .before .before .before .before .number .given .1) (put .0), put .1)
+
+pub put-number-spec : {M : Type 1} → statement M
+put-number-spec =
+    tie.close
+    (tie.spec
+    enum-told
+    put-refusal-requires
+    enum-known-number
+    put-table-requires
+    same-length
+    returns
+    same-length-2
+    returns-2)

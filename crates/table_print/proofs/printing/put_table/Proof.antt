@@ -1,0 +1,91 @@
+-- `table_print::printing::put_table` meets its contract: n, then the table, then the counts.
+-- Assumes nothing.
+use Prim.Native.Nat.{suc, _+_}
+use mathlib.Core.Path.{_≡_, sym, ap, _∙_}
+use mathlib.Core.List.{map}
+use lib.ListN.{take}
+use Rattle.word.specs.Lists.{row}
+use Rattle.scheme.specs.SchemeMemory.{patternsIn, schemeIn}
+use Rattle.scheme.specs.declared.memory.Fault.{Fault}
+use Rattle.text_writer.specs.PageLaws.{writes-as}
+use Rattle.wellformed.proofs.OrderLaws.{not-faulty}
+use Rattle.verdict.specs.Value.{countOf}
+use Rattle.counting.specs.CountLaws.{table-good}
+use Rattle.table_text.specs.Printed.{bfileText}
+use Rattle.table_print.specs.TableText.{printedOr, tableCells, lengthText}
+use Rattle.table_print.specs.PrintLaws.{counts-taken, only-line}
+use borrow.Author.Needs.{needs}
+use Rattle.table_print.proofs.printing.put_table.Statement.{statement}
+use Rattle.table_print.proofs.printing.put_table.Tie as tie
+
+table-fault-requires : tie.Need-table-fault-requires
+table-fault-requires c κs = search needs
+
+is-fault-requires : tie.Need-is-fault-requires
+is-fault-requires c κs = search needs
+
+put-fault-requires : tie.Need-put-fault-requires
+put-fault-requires c κs = search needs
+
+same-length : tie.Need-same-length
+same-length c = search needs
+
+returns : tie.Need-returns
+returns c =
+    let a = c .before .before .before .before .before .before .before .before .args in
+    let P = patternsIn (a .patterns) in
+    let E = schemeIn (a .scheme) in
+    let f = c .before .before .before .before .before .before .table-fault in
+    let put = c .before .before .put-fault .ensures in
+    let h = sym (c .before .before .before .before .before .is-fault .ensures) ∙ c .before .before .before .before .if1 .taken in
+    let text = bfileText (map (countOf P E) (row 0 (suc (a .n)))) in
+    (writes-as (put .0) (only-line (f .result) text h ∙ ap (λ (x : Fault). printedOr x text) (f .ensures)), put .1)
+
+slice-aggregate-all-counts : tie.Need-slice-aggregate-all-counts
+slice-aggregate-all-counts c = search needs
+
+all-counts-requires : tie.Need-all-counts-requires
+all-counts-requires c κs =
+    let a = c .before .before .before .before .before .args in
+    let q = c .before .before .before .before .before .pre in
+    let f = c .before .before .before .table-fault in
+    let good = table-good (schemeIn (a .scheme)) (a .n) tableCells (sym (f .ensures) ∙ not-faulty (f .result) (sym (c .before .before .is-fault .ensures) ∙ c .before .if1 .left)) in
+    (good .0, q .formed, q .claims, good .1)
+
+put-counts-requires : tie.Need-put-counts-requires
+put-counts-requires c κs =
+    let a = c .before .before .before .before .before .before .before .before .args in
+    let f = c .before .before .before .before .before .before .table-fault in
+    table-good (schemeIn (a .scheme)) (a .n) tableCells (sym (f .ensures) ∙ not-faulty (f .result) (sym (c .before .before .before .before .before .is-fault .ensures) ∙ c .before .before .before .before .if1 .left)) .0
+
+same-length-2 : tie.Need-same-length-2
+same-length-2 c = search needs
+
+returns-2 : tie.Need-returns-2
+returns-2 c =
+    let a = c .before .before .before .before .before .before .before .before .before .before .before .args in
+    let P = patternsIn (a .patterns) in
+    let E = schemeIn (a .scheme) in
+    let f = c .before .before .before .before .before .before .before .before .before .table-fault in
+    let none = sym (f .ensures) ∙ not-faulty (f .result) (sym (c .before .before .before .before .before .before .before .before .is-fault .ensures) ∙ c .before .before .before .before .before .before .before .if1 .left) in
+    let good = table-good E (a .n) tableCells none in
+    let all = c .before .before .before .before .before .all-counts in
+    let put = c .before .before .put-counts .ensures in
+    let text : lengthText P E (a .n) ≡ bfileText (take (a .n + 1) (all .result)) =
+    ap (λ (x : Fault). printedOr x (bfileText (map (countOf P E) (row 0 (suc (a .n)))))) none ∙ ap bfileText (sym (counts-taken P E (a .n) (all .result) (good .0) (all .ensures .0))) in
+    (rw text (put .0), put .1)
+
+pub put-table-spec : {M : Type 1} → statement M
+put-table-spec =
+    tie.close
+    (tie.spec
+    table-fault-requires
+    is-fault-requires
+    put-fault-requires
+    same-length
+    returns
+    slice-aggregate-all-counts
+    all-counts-requires
+    put-counts-requires
+    same-length-2
+    returns-2)

@@ -1,0 +1,193 @@
+-- Laws of what the table program prints: the kept part of a line decides, and the printed counts
+-- are the numbers of avoiders.
+use Prim.Native.Nat.{ℕ, suc, _+_, min, _≤_, _<_}
+use native.Mathlib.Numerals.{add-one}
+use native.Mathlib.Omega.{arith}
+use mathlib.Core.Path.{_≡_, refl, sym, ap, ap₂, _∙_}
+use mathlib.Core.Bool.{Bool, true, false, cond}
+use mathlib.Core.List.{List, [], map, List·Memᴰ}
+use mathlib.Core.Logic.{_⊎_, inl, inr}
+use mathlib.Core.Option.{Option, none, some}
+use lib.ListN.{length, getD, take}
+use lib.Seq.{take-all, length-take-le}
+use borrow.Author.Tests.{lt-ltb}
+use Rattle.word.specs.Lists.{row}
+use Rattle.word.specs.Word.{avoiders}
+use Rattle.word.specs.ListLaws.{true-not-false, below-or-not, map-same, row-out}
+use Rattle.word.specs.Finding.{firstFault}
+use Rattle.word.specs.declared.refusal.Refusal.the-variants.{Oversize}
+use Rattle.scheme.specs.SchemeList.{EntryList}
+use Rattle.scheme.specs.SchemeMemory.{patternsIn, schemeIn, faultOf, orElse, faulty}
+use Rattle.scheme.specs.declared.memory.Patterns.{Patterns}
+use Rattle.scheme.specs.declared.memory.Scheme.{Scheme}
+use Rattle.scheme.specs.declared.memory.Fault.{Fault}
+use Rattle.scheme.specs.declared.memory.Fault.the-variants.{Clean, At}
+use Rattle.text_grammar.specs.Tokens.{tokens}
+use Rattle.text_grammar.specs.Grammar.{readPatterns, readEntries}
+use Rattle.text_writer.specs.Page.{Writes}
+use Rattle.text_writer.specs.PageLaws.{writes-as}
+use Rattle.notation.specs.Answers.{answerFrom}
+use Rattle.notation.specs.PatternAnswers.{refusedPatterns, testedPatterns, patternsAnswer, ReadsPatterns}
+use Rattle.notation.specs.SchemeAnswers.{refusedScheme, testedScheme, schemeAnswer, ReadsScheme}
+use Rattle.notation.specs.declared.patterns.PatternsRead.{PatternsRead}
+use Rattle.notation.specs.declared.schemes.SchemeRead.{SchemeRead}
+use Rattle.notation.proofs.PatternAnswerLaws as pattern-answers
+use Rattle.notation.proofs.SchemeAnswerLaws as scheme-answers
+use Rattle.verdict.specs.Verdict.{claimTests, comparedCells, answered}
+use Rattle.verdict.specs.VerdictLaws.{claims-clean}
+use Rattle.verdict.specs.Value.{countOf}
+use Rattle.verdict.specs.ValueLaws.{count-avoiders}
+use Rattle.count_plan.specs.Layout.{needOf}
+use Rattle.count_rows.specs.Run.{Counts}
+use Rattle.claims.specs.EntryMemoryLaws.{take-row}
+use Rattle.judge.specs.TextJudgement.{verdictRead, verdictOfTexts, TextsTrue, JudgesAndReads}
+use Rattle.judge.specs.TextVerdictLaws.{set-clean, set-list, scheme-clean, scheme-list}
+use Rattle.judge.specs.declared.texts.TextsJudged.{TextsJudged}
+use Rattle.counting.specs.Counting.{faultIn}
+use Rattle.counting.specs.CountLaws.{clean-accepts, table-serves}
+use Rattle.table_lines.specs.Lines.{Three, threeLines, numberIn}
+use Rattle.table_lines.specs.Kept.{setRoom, schemeRoom, keptOf, isComplete, heldLines, threeIn, asNumber}
+use Rattle.table_lines.specs.LastNumberLaws.{number-front}
+use Rattle.table_lines.specs.CallerLaws.{fronts, frontsIf, kept-three}
+use Rattle.table_lines.specs.declared.input.Lines.{Lines}
+use Rattle.table_lines.specs.declared.input.Number.{Number}
+use Rattle.table_text.specs.Printed.{bfileText}
+use Rattle.table_print.specs.TableText.{printedOr, tableCells, lengthText, misspeltLine, numberText, linesText, tableText, avoidersText, Prints, AcceptedLists}
+
+-- a longer text is refused whatever it is, so its first bytes are enough
+pub patterns-cut : (s : List ℕ) → patternsAnswer (take setRoom s) ≡ patternsAnswer s
+patterns-cut s = go (below-or-not 1024 (length s))
+  where
+    go : (1024 < length s) ⊎ (length s ≤ 1024) → patternsAnswer (take setRoom s) ≡ patternsAnswer s
+    go (inl h) =
+        let k : 1024 < length (take setRoom s) = omega (arith, length-take-le setRoom s (omega arith)) in
+        ap (λ (b : Bool). cond b (refusedPatterns Oversize 0) (answerFrom refusedPatterns testedPatterns (readPatterns (tokens (take setRoom s))))) (lt-ltb 1024 (length (take setRoom s)) k) ∙
+        sym (ap (λ (b : Bool). cond b (refusedPatterns Oversize 0) (answerFrom refusedPatterns testedPatterns (readPatterns (tokens s)))) (lt-ltb 1024 (length s) h))
+    go (inr h) = ap patternsAnswer (take-all setRoom s (omega arith))
+
+pub scheme-cut : (s : List ℕ) → schemeAnswer (take schemeRoom s) ≡ schemeAnswer s
+scheme-cut s = go (below-or-not 32768 (length s))
+  where
+    go : (32768 < length s) ⊎ (length s ≤ 32768) → schemeAnswer (take schemeRoom s) ≡ schemeAnswer s
+    go (inl h) =
+        let k : 32768 < length (take schemeRoom s) = omega (arith, length-take-le schemeRoom s (omega arith)) in
+        ap (λ (b : Bool). cond b (refusedScheme Oversize 0) (answerFrom refusedScheme testedScheme (readEntries (tokens (take schemeRoom s))))) (lt-ltb 32768 (length (take schemeRoom s)) k) ∙
+        sym (ap (λ (b : Bool). cond b (refusedScheme Oversize 0) (answerFrom refusedScheme testedScheme (readEntries (tokens s)))) (lt-ltb 32768 (length s) h))
+    go (inr h) = ap schemeAnswer (take-all schemeRoom s (omega arith))
+
+-- the text by what was read of the set and of the scheme, and the number
+abbrev readText : PatternsRead → SchemeRead → Number → List ℕ
+readText p q n = printedOr (faultIn (verdictRead p q)) (numberText (patternsIn (p .patterns)) (schemeIn (q .scheme)) n)
+
+-- so the first bytes of the three lines are enough
+pub fronts-text : (t : Three) → linesText (fronts t) ≡ linesText t
+fronts-text t =
+    ap₂ (λ (p : PatternsRead) (q : SchemeRead). readText p q (asNumber (numberIn (take 3 (t .last))))) (patterns-cut (t .set)) (scheme-cut (t .scheme)) ∙
+    ap (λ (n : Option ℕ). readText (patternsAnswer (t .set)) (schemeAnswer (t .scheme)) (asNumber n)) (number-front (t .last))
+
+fronts-table : (o : Option Three) → tableText (frontsIf o) ≡ tableText o
+fronts-table none = refl
+fronts-table (some t) = fronts-text t
+
+-- what was kept of an input decides as the input does
+pub kept-text : (input : List ℕ) → tableText (threeIn (keptOf input)) ≡ tableText (threeLines input)
+kept-text input = ap tableText (kept-three input) ∙ fronts-table (threeLines input)
+
+-- the counts in memory are those that are printed
+pub counts-taken : (P : List (List ℕ)) (E : List EntryList) (n : ℕ) (counts : List ℕ) → n ≤ 20 → Counts P E n counts →
+    take (n + 1) counts ≡ map (countOf P E) (row 0 (suc n))
+counts-taken P E n counts h c =
+    ap (λ m. take m counts) (add-one n) ∙ take-row counts 0 (suc n) (omega (arith, c .size)) ∙
+    map-same (λ i. getD counts i 0) (countOf P E) (row 0 (suc n)) (λ (i : ℕ) (m : List·Memᴰ i (row 0 (suc n))). c .upto i (omega (arith, row-out 0 (suc n) m)))
+
+-- the lists of an accepted verdict
+pub accepted-lists : (s t : List ℕ) (j : TextsJudged) → JudgesAndReads s t j → (f : Fault) → f ≡ faultIn (j .verdict) → f ≡ Clean → AcceptedLists (j .patterns) (j .scheme)
+accepted-lists s t j judges f is found =
+    let a = clean-accepts (j .verdict) (sym is ∙ found) in
+    record { formed = judges .formed a; claims = judges .claims a }
+
+-- Where the two texts of three lines are accepted, the text is that of the numbers of avoiders.
+module _ (t : Three) (w : TextsTrue (t .set) (t .scheme)) where
+  abbrev p : PatternsRead
+  p = patternsAnswer (t .set)
+
+  abbrev q : SchemeRead
+  q = schemeAnswer (t .scheme)
+
+  reads : ReadsPatterns (t .set) p
+  reads = pattern-answers.answered (t .set) p refl .1
+
+  reads-scheme : ReadsScheme (t .scheme) q
+  reads-scheme = scheme-answers.answered (t .scheme) q refl .1
+
+  claims-so : faultOf (firstFault (claimTests (patternsIn (p .patterns)) (schemeIn (q .scheme)))) ≡ Clean
+  claims-so = ap₂ (λ (P : List (List ℕ)) (E : List EntryList). faultOf (firstFault (claimTests P E))) (set-list (t .set) (t .scheme) w p reads) (scheme-list (t .set) (t .scheme) w q reads-scheme) ∙ ap faultOf (claims-clean (w .patterns) (w .scheme) (w .formed .scheme) (w .claims))
+
+  accepted-so : faultIn (verdictOfTexts (t .set) (t .scheme)) ≡ Clean
+  accepted-so =
+      ap₂ (λ (x y : Fault). faultIn (answered (orElse x (orElse y (faultOf (firstFault (claimTests (patternsIn (p .patterns)) (schemeIn (q .scheme))))))) (comparedCells (patternsIn (p .patterns)) (schemeIn (q .scheme)))))
+      (set-clean (t .set) (t .scheme) w p reads) (scheme-clean (t .set) (t .scheme) w q reads-scheme) ∙
+      ap (λ (x : Fault). faultIn (answered x (comparedCells (patternsIn (p .patterns)) (schemeIn (q .scheme))))) claims-so
+
+  -- the counts of 01 are the numbers of avoiders
+  counts-so : (n : ℕ) → map (countOf (w .patterns) (w .scheme)) (row 0 (suc n)) ≡ map (λ j. length (avoiders (w .patterns) j)) (row 0 (suc n))
+  counts-so n =
+      map-same (countOf (w .patterns) (w .scheme)) (λ j. length (avoiders (w .patterns) j)) (row 0 (suc n))
+      (λ (j : ℕ) (m : List·Memᴰ j (row 0 (suc n))). count-avoiders (w .patterns) (w .scheme) (w .formed) (w .claims) j)
+
+  pub counts-text : (n : ℕ) → numberIn (t .last) ≡ some n → n ≤ 20 → needOf n (w .scheme) ≤ tableCells → linesText t ≡ avoidersText (w .patterns) n
+  counts-text n e h k =
+      ap₂ (λ (f : Fault) (o : Option ℕ). printedOr f (numberText (patternsIn (p .patterns)) (schemeIn (q .scheme)) (asNumber o))) accepted-so e ∙
+      ap₂ (λ (P : List (List ℕ)) (E : List EntryList). lengthText P E n) (set-list (t .set) (t .scheme) w p reads) (scheme-list (t .set) (t .scheme) w q reads-scheme) ∙
+      ap (λ (f : Fault). printedOr f (bfileText (map (countOf (w .patterns) (w .scheme)) (row 0 (suc n))))) (table-serves (w .scheme) n tableCells h k) ∙
+      ap bfileText (counts-so n)
+
+-- what is written for the lines in memory keeps the promise
+pub prints : (lines : Lines) (before after : List ℕ) (r : ℕ) → Writes (tableText (threeIn lines)) 0 before after r → r ≤ 512 → Prints lines before after r
+prints lines before after r w few =
+    record {
+      text = w;
+      kept = λ input k. writes-as w (ap (λ (l : Lines). tableText (threeIn l)) k ∙ kept-text input);
+      counts = λ t e v n d h m. writes-as w (ap tableText e ∙ counts-text t v n d h m);
+      fits = few;
+    }
+
+-- the line of a refusal asks for no text
+pub only-line : (g : Fault) (text : List ℕ) → faulty g ≡ true → printedOr g [] ≡ printedOr g text
+only-line Clean text h = absurd (true-not-false (sym h))
+only-line (At r i) text h = refl
+
+-- as many bytes of an array as are asked for, or all
+pub take-least : (l : List ℕ) (a n : ℕ) → length l ≡ n → take (min a n) l ≡ take a l
+take-least l a n e = go (below-or-not a n)
+  where
+    go : (a < n) ⊎ (n ≤ a) → take (min a n) l ≡ take a l
+    go (inl h) = let k : min a n ≡ a = omega arith in ap (λ (m : ℕ). take m l) k
+    go (inr h) = let k : min a n ≡ n = omega arith in ap (λ (m : ℕ). take m l) k ∙ take-all n l (omega arith) ∙ sym (take-all a l (omega arith))
+
+-- The text for the lines in memory, as the code comes to it.
+module _ (k : Lines) where
+  pub missing-text : isComplete k ≡ false → misspeltLine ≡ tableText (threeIn k)
+  missing-text e = sym (ap (λ (b : Bool). tableText (cond b (some (heldLines k)) none)) e)
+
+  abbrev given : List ℕ
+  given = numberText (patternsIn ((patternsAnswer (heldLines k .set)) .patterns)) (schemeIn ((schemeAnswer (heldLines k .scheme)) .scheme)) (asNumber (numberIn (heldLines k .last)))
+
+  there-text : isComplete k ≡ true → tableText (threeIn k) ≡ linesText (heldLines k)
+  there-text e = ap (λ (b : Bool). tableText (cond b (some (heldLines k)) none)) e
+
+  module _ (there : isComplete k ≡ true) (j : TextsJudged) (judges : JudgesAndReads (heldLines k .set) (heldLines k .scheme) j) (f : Fault)
+      (is : f ≡ faultIn (j .verdict)) where
+    fault-so : f ≡ faultIn (verdictOfTexts (heldLines k .set) (heldLines k .scheme))
+    fault-so = is ∙ ap faultIn (judges .judges .verdict)
+
+    pub refused-text : faulty f ≡ true → printedOr f [] ≡ tableText (threeIn k)
+    refused-text h = only-line f given h ∙ ap (λ (x : Fault). printedOr x given) fault-so ∙ sym (there-text there)
+
+    -- accepted lines: the number decides
+    pub accepted-text : f ≡ Clean → (m : Number) → m ≡ asNumber (numberIn (heldLines k .last)) →
+        numberText (patternsIn (j .patterns)) (schemeIn (j .scheme)) m ≡ tableText (threeIn k)
+    accepted-text found m number =
+        ap (numberText (patternsIn (j .patterns)) (schemeIn (j .scheme))) number ∙
+        ap₂ (λ (x : Patterns) (y : Scheme). numberText (patternsIn x) (schemeIn y) (asNumber (numberIn (heldLines k .last)))) (judges .patterns) (judges .scheme) ∙
+        ap (λ (x : Fault). printedOr x given) (sym found ∙ fault-so) ∙ sym (there-text there)

@@ -1,0 +1,114 @@
+// The b-file, or the line of a refusal: the three lines are judged in order.
+use counting::answer::fault_of;
+use counting::by_table::all_counts;
+use counting::by_table::table_fault;
+use judge::texts::TextsJudged;
+use judge::texts::read_and_judge;
+use scheme::memory::Fault;
+use scheme::memory::Patterns;
+use scheme::memory::Scheme;
+use scheme::order::is_fault;
+use table_lines::input::Lines;
+use table_lines::input::Number;
+use table_lines::input::SCHEME;
+use table_lines::input::SET;
+use table_lines::input::complete;
+use table_lines::input::last_number;
+use table_text::printing::put_counts;
+use table_text::printing::put_refusal;
+use word::refusal::Refusal;
+ghost use mathlib.Core.Path.{_≡_};
+ghost use mathlib.Core.List.{[]};
+ghost use Prim.Native.Nat.{_≤_, min};
+ghost use lib.ListN.{take};
+ghost use Rattle.scheme.specs.SchemeMemory.{patternsIn, schemeIn};
+ghost use Rattle.text_writer.specs.Page.{Writes};
+ghost use Rattle.judge.specs.TextJudgement.{JudgesAndReads};
+ghost use Rattle.table_lines.specs.Kept.{heldLines};
+ghost use Rattle.table_print.specs.TableText.{printedOr, numberText, lengthText, Prints, AcceptedLists};
+
+// "It holds 4,096 cells" (01)
+pub const CELLS: usize = 4096;
+
+// A page of so many bytes is always enough.
+pub const PAGE: usize = 512;
+
+// Writes what is to be printed at the start of the page; the number of bytes.
+pub fn print(lines: Lines, page: &mut [u8]) -> usize
+    ensures { λ r. ⌜ Prints lines (now (page .entry)) (now (page .exit)) r ⌝ }
+{
+    // "A missing line or a fourth is misspelt, tested before all else" (01)
+    if !complete(lines) {
+        return put_refusal(page, Refusal::Misspelt, 0);
+    }
+    let judged = judge_lines(lines);
+    let verdict = judged.verdict;
+    let fault = fault_of(verdict);
+    if is_fault(fault) {
+        return put_fault(page, fault);
+    }
+    let number = last_number(lines);
+    put_number(page, judged, number)
+}
+
+// The verdict on the first two lines, as far as they were kept.
+fn judge_lines(lines: Lines) -> TextsJudged
+    ensures { λ r. ⌜ JudgesAndReads (heldLines lines .set) (heldLines lines .scheme) r ⌝ }
+{
+    let set = lines.set;
+    let scheme = lines.scheme;
+    judge_parts(set, lines.set_length, scheme, lines.scheme_length)
+}
+
+// The verdict on the first bytes of two arrays: as many as are asked for, or all.
+fn judge_parts(set: [u8; SET], a: usize, scheme: [u8; SCHEME], b: usize) -> TextsJudged
+    ensures { λ r. ⌜ JudgesAndReads (take a set) (take b scheme) r ⌝ }
+{
+    let m = least(a, SET);
+    let n = least(b, SCHEME);
+    read_and_judge(&set[..m], &scheme[..n])
+}
+
+// The smaller of two numbers.
+fn least(a: usize, b: usize) -> usize
+    ensures { λ r. ⌜ (r ≡ min a b) × (r ≤ b) ⌝ }
+{
+    if a < b { a } else { b }
+}
+
+// Writes the line of a refusal, or nothing.
+fn put_fault(page: &mut [u8], fault: Fault) -> usize
+    ensures { λ r. ⌜ Writes (printedOr fault []) 0 (now (page .entry)) (now (page .exit)) r × (r ≤ 512) ⌝ }
+{
+    match fault {
+        Fault::Clean => 0,
+        Fault::At(refusal, index) => put_refusal(page, refusal, index),
+    }
+}
+
+// Writes what is printed for an accepted scheme and the number in the third line.
+fn put_number(page: &mut [u8], judged: TextsJudged, number: Number) -> usize
+    requires { ⌜ AcceptedLists (judged .patterns) (judged .scheme) ⌝ }
+    ensures { λ r. ⌜ Writes (numberText (patternsIn (judged .patterns)) (schemeIn (judged .scheme)) number) 0 (now (page .entry)) (now (page .exit)) r × (r ≤ 512) ⌝ }
+{
+    let patterns = judged.patterns;
+    let scheme = judged.scheme;
+    match number {
+        Number::Misspelt => put_refusal(page, Refusal::Misspelt, 0),
+        Number::Is(n) => put_table(page, patterns, scheme, n),
+    }
+}
+
+// Writes the b-file for 0 to n, or why there is none: all counts are made in one pass.
+fn put_table(page: &mut [u8], patterns: Patterns, scheme: Scheme, n: usize) -> usize
+    requires { ⌜ AcceptedLists patterns scheme ⌝ }
+    ensures { λ r. ⌜ Writes (lengthText (patternsIn patterns) (schemeIn scheme) n) 0 (now (page .entry)) (now (page .exit)) r × (r ≤ 512) ⌝ }
+{
+    let fault = table_fault(scheme, n, CELLS);
+    if is_fault(fault) {
+        return put_fault(page, fault);
+    }
+    let mut table = [0u64; CELLS];
+    let counts = all_counts(patterns, scheme, n, &mut table);
+    put_counts(page, counts, n)
+}

@@ -1,0 +1,44 @@
+-- `table_text::printing::put_line` meets its contract: the four parts of a line, one after the
+-- other.
+-- Assumes nothing.
+use native.Mathlib.Omega.{arith}
+use Rattle.text_writer.specs.PageLaws.{writes-join}
+use Rattle.table_text.specs.DecimalLaws.{decimal-two}
+use borrow.Author.Needs.{needs}
+use Rattle.table_text.proofs.printing.put_line.Statement.{statement}
+use Rattle.table_text.proofs.printing.put_line.Tie as tie
+
+put-decimal-requires : tie.Need-put-decimal-requires
+put-decimal-requires c κs = search needs
+
+put-requires : tie.Need-put-requires
+put-requires c κs = search needs
+
+put-decimal-requires-2 : tie.Need-put-decimal-requires-2
+put-decimal-requires-2 c κs = search needs
+
+put-requires-2 : tie.Need-put-requires-2
+put-requires-2 c κs = search needs
+
+same-length : tie.Need-same-length
+same-length c = search needs
+
+returns : tie.Need-returns
+returns c =
+    let first = c .before .before .before .before .before .before .before .before .before .before .before .before .before .before .put-decimal .ensures in
+    let space = c .before .before .before .before .before .before .before .before .before .before .put .ensures in
+    let second = c .before .before .before .before .before .before .put-decimal2 .ensures in
+    let end = c .before .before .put2 .ensures in
+    let few = decimal-two (c .before .before .before .before .before .before .before .before .before .before .before .before .before .before .before .before .before .args .n) (omega arith) in
+    (writes-join (first .0) (writes-join space (writes-join (second .0) end)), omega (arith, few, first .0 .moved, space .moved, second .1, end .moved))
+
+pub put-line-spec : {M : Type 1} → statement M
+put-line-spec =
+    tie.close
+    (tie.spec
+    put-decimal-requires
+    put-requires
+    put-decimal-requires-2
+    put-requires-2
+    same-length
+    returns)

@@ -1,0 +1,67 @@
+-- `table_text::printing::put_refusal` meets its contract: the six parts of the line, one after the
+-- other.
+-- Assumes nothing.
+use native.Mathlib.Omega.{arith}
+use mathlib.Core.Path.{ap, _∙_}
+use Rattle.text_writer.specs.PageLaws.{writes-as, writes-join}
+use Rattle.table_text.specs.Printed.{decimal}
+use borrow.Author.Needs.{needs}
+use Rattle.table_text.proofs.printing.put_refusal.Statement.{statement}
+use Rattle.table_text.proofs.printing.put_refusal.Tie as tie
+
+slice-aggregate-put-bytes : tie.Need-slice-aggregate-put-bytes
+slice-aggregate-put-bytes c = search needs
+
+put-bytes-requires : tie.Need-put-bytes-requires
+put-bytes-requires c κs = search needs
+
+put-requires : tie.Need-put-requires
+put-requires c κs = search needs
+
+number-requires : tie.Need-number-requires
+number-requires c κs = search needs
+
+wide-requires : tie.Need-wide-requires
+wide-requires c κs = search needs
+
+put-decimal-requires : tie.Need-put-decimal-requires
+put-decimal-requires c κs = search needs
+
+put-requires-2 : tie.Need-put-requires-2
+put-requires-2 c κs = search needs
+
+put-decimal-requires-2 : tie.Need-put-decimal-requires-2
+put-decimal-requires-2 c κs = search needs
+
+put-requires-3 : tie.Need-put-requires-3
+put-requires-3 c κs = search needs
+
+same-length : tie.Need-same-length
+same-length c = search needs
+
+returns : tie.Need-returns
+returns c =
+    let word = c .before .before .before .before .before .before .before .before .before .before .before .before .before .before .before .before .before .before .before .before .before .before .before .before .put-bytes .ensures in
+    let space = c .before .before .before .before .before .before .before .before .before .before .before .before .before .before .before .before .before .before .before .before .put .ensures in
+    let first = c .before .before .before .before .before .before .before .before .before .before .before .before .before .before .put-decimal .ensures in
+    let further = c .before .before .before .before .before .before .before .before .before .before .put2 .ensures in
+    let second = c .before .before .before .before .before .before .put-decimal2 .ensures in
+    let end = c .before .before .put3 .ensures in
+    let number = writes-as (first .0) (ap decimal (c .before .before .before .before .before .before .before .before .before .before .before .before .before .before .before .wide .ensures ∙ c .before .before .before .before .before .before .before .before .before .before .before .before .before .before .before .before .number .ensures)) in
+    (writes-join word (writes-join space (writes-join number (writes-join further (writes-join (second .0) end)))), omega (arith, word .moved, space .moved, first .1, further .moved, second .1, end .moved))
+
+pub put-refusal-spec : {M : Type 1} → statement M
+put-refusal-spec =
+    tie.close
+    (tie.spec
+    slice-aggregate-put-bytes
+    put-bytes-requires
+    put-requires
+    number-requires
+    wide-requires
+    put-decimal-requires
+    put-requires-2
+    put-decimal-requires-2
+    put-requires-3
+    same-length
+    returns)

@@ -1,0 +1,285 @@
+-- Laws on the readers of gap vectors: components and vectors in memory, one more of them, and the marks around them.
+-- Assumes nothing.
+use Prim.Native.Nat.{ℕ, suc, _+_, _≤_, _<_}
+use native.Mathlib.Numerals.{add-one}
+use native.Mathlib.Omega.{arith}
+use mathlib.Core.Path.{_≡_, refl, sym, ap, ap₂, _∙_, subst}
+use mathlib.Core.Logic.{_⊎_, inl, inr}
+use mathlib.Core.Bool.{Bool, true, false, cond, true≢false, false≢true}
+use mathlib.Core.List.{List, [], _∷_, _++_}
+use lib.ListN.{length, drop, set}
+use lib.Seq.{set-out}
+use lib.Dec.{leb}
+use borrow.Author.Tests.{le-leb, lt-leb, eqb-true, ne-eqb}
+use Rattle.word.specs.ListLaws.{below-or-not}
+use Rattle.scheme.specs.declared.memory.Gap.{Gap}
+use Rattle.text_grammar.specs.declared.cursor.Cursor.{Cursor}
+use Rattle.text_grammar.specs.declared.cursor.Kind.{Kind}
+use Rattle.text_grammar.specs.declared.cursor.Kind.the-variants.{End, Digits, Epsilon, Empty, Left, Right, Byte}
+use Rattle.text_grammar.specs.declared.cursor.Step.{Step}
+use Rattle.text_gaps.specs.declared.parts.NumberRead.{NumberRead}
+use Rattle.text_gaps.specs.declared.parts.GapRead.{GapRead}
+use Rattle.text_gaps.specs.declared.parts.Gaps.{Gaps}
+use Rattle.text_gaps.specs.declared.parts.GapsRead.{GapsRead}
+use Rattle.text_gaps.specs.declared.gap_reader.Turn.{Turn}
+use Rattle.text_gaps.specs.declared.gap_reader.Turn.the-variants.{More, Wrong}
+use Rattle.text_grammar.specs.Spelling.{Token, digits, empty, left, right, byte, numeral, vectorPieces, writableVector}
+use Rattle.text_grammar.specs.Tokens.{tokens}
+use Rattle.text_grammar.specs.TokenLaws.{tokens-end}
+use Rattle.text_grammar.specs.Grammar.{Read, misspelt, got, after, code, same, fail, pick, follow, items, inBraces, readNumber, readVector}
+use Rattle.text_grammar.specs.GrammarLaws.{items-step, number-read, vector-read}
+use Rattle.text_grammar.specs.Cursor.{Stepped, tokensBy, Beyond}
+use Rattle.text_gaps.specs.GapMemory.{partOf, gapOf}
+use Rattle.text_gaps.specs.PartReading.{found, kept, loadedGaps, NumberAt, GapAt, GapsAt}
+use Rattle.text_gaps.specs.ItemReading.{turnInBraces, goesOn, isDone, Within, Ready, Advanced}
+use Rattle.text_gaps.specs.GapReading.{turnInVector}
+use Rattle.text_gaps.specs.GapReading.{storedPart, storedGap, itself, goingGap, goingGaps, PartsAt, VectorsAt}
+use Rattle.text_gaps.proofs.TextItemLaws.{same-byte, vector-turn, braces-turn, at-end, item-wrong, item-stored, kept-same}
+use Rattle.text_grammar.specs.Kinds.{isLeft, isEmpty, isByte}
+use Rattle.text_patterns.specs.PatternMemory.{added}
+use Rattle.text_patterns.proofs.FilledLaws.{length-more, filled-more, added-whole}
+use Rattle.text_patterns.specs.PatternReading.{no-empty}
+
+-- one item more in memory
+
+pub part-small : (n : ℕ) → n ≤ 255 → n ≡ partOf n
+part-small n h = sym (ap (λ (b : Bool). cond b n 255) (le-leb n 255 h))
+
+pub part-large : (n : ℕ) → 255 < n → 255 ≡ partOf n
+part-large n h = sym (ap (λ (b : Bool). cond b n 255) (lt-leb n 255 h))
+
+abbrev gapMade : List ℕ → ℕ → Gap
+gapMade l n = record { parts = l; width = n }
+
+pub part-kept : (m : Gap) (n b : ℕ) → b ≡ partOf n → gapMade (set (m .parts) (m .width) b) (m .width + 1) ≡ storedPart m n
+part-kept m n b e = ap₂ (λ (x w : ℕ). gapMade (set (m .parts) (m .width) x) w) e (add-one (m .width))
+
+pub part-counted : (m : Gap) (n : ℕ) → length (m .parts) ≤ m .width → gapMade (m .parts) (m .width + 1) ≡ storedPart m n
+part-counted m n h = ap₂ gapMade (sym (set-out (m .parts) (m .width) (partOf n) h)) (add-one (m .width))
+
+abbrev gapsMade : List Gap → ℕ → Gaps
+gapsMade l n = record { items = l; count = n }
+
+pub gap-kept : (m : Gaps) (g : Gap) → gapsMade (set (m .items) (m .count) g) (m .count + 1) ≡ storedGap m g
+gap-kept m g = ap (λ (n : ℕ). gapsMade (set (m .items) (m .count) g) n) (add-one (m .count))
+
+pub gap-counted : (m : Gaps) (g : Gap) → length (m .items) ≤ m .count → gapsMade (m .items) (m .count + 1) ≡ storedGap m g
+gap-counted m g h = ap₂ gapsMade (sym (set-out (m .items) (m .count) g h)) (add-one (m .count))
+
+-- bytes that may not come
+
+pub vector-other : (k : Kind) (b : ℕ) → k ≡ Byte b → (b ≡ 0x2C → ⊥) → Wrong ≡ turnInVector k
+vector-other k b e h = rw (e, ne-eqb b 0x2C h)
+
+pub braces-other : (k : Kind) (b : ℕ) → k ≡ Byte b → (b ≡ 0x7D → ⊥) → (b ≡ 0x2C → ⊥) → Wrong ≡ turnInBraces k
+braces-other k b e h g = rw (e, ne-eqb b 0x7D h, ne-eqb b 0x2C g)
+
+-- components and vectors
+
+kept-itself : (r : Read ℕ) → kept itself r ≡ r
+kept-itself misspelt = refl
+kept-itself (got n ts) = refl
+
+number-steps : (ts : List Token) → items readNumber right ts ≡ after (readNumber ts) (follow readNumber right (items readNumber right))
+number-steps ts = items-step readNumber (λ n. digits (numeral n) ∷ []) (λ n. leb n 999) number-read right refl refl ts
+
+vector-steps : (ts : List Token) → items readVector (byte 0x7D) ts ≡ after (readVector ts) (follow readVector (byte 0x7D) (items readVector (byte 0x7D)))
+vector-steps ts = items-step readVector vectorPieces writableVector vector-read (byte 0x7D) refl refl ts
+
+module _ (s : List ℕ) (t : Turn) (m : Gap) (at : ℕ) (ready : Ready s t (m .width) at) (n : NumberRead) (number : NumberAt s at n) where
+  kept-number : kept itself (readNumber (tokens (drop at s))) ≡ found (n .spelt) (n .value) (tokens (drop (n .next .at) s))
+  kept-number = kept-itself (readNumber (tokens (drop at s))) ∙ number .gives
+
+  pub part-wrong : n .spelt ≡ false → Advanced goingGap s t m at Wrong m (m .width) at
+  unfolding goingGap
+  part-wrong h =
+      item-wrong readNumber right itself storedPart turnInVector vector-turn number-steps s t m (m .width) at ready (n .spelt) (n .value) (n .next .at)
+      kept-number (number .moved) h
+
+  pub part-stored : n .spelt ≡ true → (σ : Step) → Stepped s (n .next .at) σ → (u : Turn) (g : Gap) → u ≡ turnInVector (σ .kind) → g ≡ storedPart m (n .value)
+      → Advanced goingGap s t m at u g (g .width) (σ .next .at)
+  unfolding goingGap
+  part-stored h σ stepped u g e f =
+      rw (e, f)
+      (item-stored readNumber right itself storedPart turnInVector vector-turn number-steps s t m (m .width) at ready (n .spelt) (n .value) (n .next .at)
+      kept-number (number .moved) h σ stepped)
+
+module _ (s : List ℕ) (t : Turn) (m : Gaps) (at : ℕ) (ready : Ready s t (m .count) at) (n : GapRead) (vector : GapAt s at n) where
+  pub gap-wrong : n .spelt ≡ false → Advanced goingGaps s t m at Wrong m (m .count) at
+  unfolding goingGaps
+  gap-wrong h =
+      item-wrong readVector (byte 0x7D) gapOf storedGap turnInBraces braces-turn vector-steps s t m (m .count) at ready (n .spelt) (n .gap) (n .next .at)
+      (vector .gives) (vector .moved) h
+
+  pub gap-stored : n .spelt ≡ true → (σ : Step) → Stepped s (n .next .at) σ → (u : Turn) (g : Gaps) → u ≡ turnInBraces (σ .kind) → g ≡ storedGap m (n .gap)
+      → Advanced goingGaps s t m at u g (g .count) (σ .next .at)
+  unfolding goingGaps
+  gap-stored h σ stepped u g e f =
+      rw (e, f)
+      (item-stored readVector (byte 0x7D) gapOf storedGap turnInBraces braces-turn vector-steps s t m (m .count) at ready (n .spelt) (n .gap) (n .next .at)
+      (vector .gives) (vector .moved) h σ stepped)
+
+part-next : (l : List ℕ) (n : ℕ) → storedPart (gapOf l) (itself n) ≡ gapOf (l ++ (n ∷ []))
+part-next l n = ap₂ gapMade (filled-more 7 0 partOf l n) (length-more l n)
+
+gap-next : (l : List (List ℕ)) (b : List ℕ) → storedGap (loadedGaps l) (gapOf b) ≡ loadedGaps (l ++ (b ∷ []))
+unfolding loadedGaps
+gap-next l b = ap₂ gapsMade (filled-more 8 (gapOf []) gapOf l b) (length-more l b)
+
+pub parts-start : (g : Gap) (ts : List Token) → g ≡ gapOf [] → goingGap More g ts ≡ kept gapOf (items readNumber right ts)
+unfolding goingGap
+parts-start g ts e =
+    ap (λ (m : Gap). kept (added itself storedPart m) (items readNumber right ts)) e
+    ∙ kept-same (added itself storedPart (gapOf [])) gapOf (added-whole itself storedPart gapOf part-next []) (items readNumber right ts)
+
+pub vectors-start : (g : Gaps) (ts : List Token) → g ≡ loadedGaps [] → goingGaps More g ts ≡ kept loadedGaps (items readVector (byte 0x7D) ts)
+unfolding goingGaps
+vectors-start g ts e =
+    ap (λ (m : Gaps). kept (added gapOf storedGap m) (items readVector (byte 0x7D) ts)) e
+    ∙ kept-same (added gapOf storedGap (loadedGaps [])) loadedGaps (added-whole gapOf storedGap loadedGaps gap-next []) (items readVector (byte 0x7D) ts)
+
+pub no-parts : (g : Gap) → g ≡ gapOf [] → g .width ≡ 0
+no-parts g e = ap (λ (m : Gap). m .width) e
+
+pub no-vectors : (g : Gaps) → g ≡ loadedGaps [] → g .count ≡ 0
+unfolding loadedGaps
+no-vectors g e = ap (λ (m : Gaps). m .count) e
+
+module _ (s : List ℕ) (at : ℕ) (t : Turn) (n : Cursor) (stop : goesOn t ≡ false) (count : ℕ) (within : Within s count (n .at)) (onward : at ≤ n .at)
+    (b : Bool) (e : b ≡ isDone t) where
+  pub parts-end : (m : Gap) → goingGap t m (tokens (drop (n .at) s)) ≡ kept gapOf (items readNumber right (tokens (drop at s)))
+      → PartsAt s at (record { spelt = b; gap = m; next = n })
+  unfolding goingGap
+  parts-end m h =
+      record {
+        gives = sym h ∙ at-end readNumber right itself storedPart t m (tokens (drop (n .at) s)) stop ∙ ap (λ (c : Bool). found c m (tokens (drop (n .at) s))) (sym e);
+        onward = onward;
+        inside = within .inside;
+      }
+
+  pub vectors-end : (m : Gaps) → goingGaps t m (tokens (drop (n .at) s)) ≡ kept loadedGaps (items readVector (byte 0x7D) (tokens (drop at s)))
+      → VectorsAt s at (record { spelt = b; gaps = m; next = n })
+  unfolding goingGaps
+  vectors-end m h =
+      record {
+        gives = sym h ∙ at-end readVector (byte 0x7D) gapOf storedGap t m (tokens (drop (n .at) s)) stop ∙ ap (λ (c : Bool). found c m (tokens (drop (n .at) s))) (sym e);
+        onward = onward;
+        inside = within .inside;
+      }
+
+-- the mark before the items
+
+is-left : (k : Kind) → isLeft k ≡ true → k ≡ Left
+is-left End h = absurd (false≢true h)
+is-left Digits h = absurd (false≢true h)
+is-left Epsilon h = absurd (false≢true h)
+is-left Empty h = absurd (false≢true h)
+is-left Left h = refl
+is-left Right h = absurd (false≢true h)
+is-left (Byte b) h = absurd (false≢true h)
+
+is-empty : (k : Kind) → isEmpty k ≡ true → k ≡ Empty
+is-empty End h = absurd (false≢true h)
+is-empty Digits h = absurd (false≢true h)
+is-empty Epsilon h = absurd (false≢true h)
+is-empty Empty h = refl
+is-empty Left h = absurd (false≢true h)
+is-empty Right h = absurd (false≢true h)
+is-empty (Byte b) h = absurd (false≢true h)
+
+is-brace : (k : Kind) → isByte 0x7B k ≡ true → k ≡ Byte 0x7B
+is-brace End h = absurd (false≢true h)
+is-brace Digits h = absurd (false≢true h)
+is-brace Epsilon h = absurd (false≢true h)
+is-brace Empty h = absurd (false≢true h)
+is-brace Left h = absurd (false≢true h)
+is-brace Right h = absurd (false≢true h)
+is-brace (Byte b) h = ap Byte (eqb-true b 0x7B h)
+
+other-mark : (b : ℕ) → same left (byte b) ≡ false
+other-mark b = ne-eqb (code left) (code (byte b)) (λ (h : code left ≡ code (byte b)). omega arith)
+
+no-vector : (k : Kind) (t : List ℕ) (ts : List Token) → isLeft k ≡ false → readVector (tokensBy k t ts) ≡ misspelt
+no-vector End t ts h = refl
+no-vector Digits t ts h = refl
+no-vector Epsilon t ts h = refl
+no-vector Empty t ts h = refl
+no-vector Left t ts h = absurd (true≢false h)
+no-vector Right t ts h = refl
+no-vector (Byte b) t ts h = ap (λ (c : Bool). pick c (items readNumber right) fail ts) (other-mark b)
+
+no-list : (k : Kind) (t : List ℕ) (ts : List Token) → isEmpty k ≡ false → isByte 0x7B k ≡ false → inBraces readVector (tokensBy k t ts) ≡ misspelt
+no-list End t ts h g = refl
+no-list Digits t ts h g = refl
+no-list Epsilon t ts h g = refl
+no-list Empty t ts h g = absurd (true≢false h)
+no-list Left t ts h g = refl
+no-list Right t ts h g = refl
+no-list (Byte b) t ts h g =
+    ap₂ (λ (c d : Bool). pick c (got []) (pick d (items readVector (byte 0x7D)) fail) ts) (no-empty b) (same-byte 0x7B b ∙ g)
+
+module _ (s : List ℕ) (at : ℕ) (t : Step) (stepped : Stepped s at t) where
+  gives-by : (k : Kind) → t .kind ≡ k → tokens (drop at s) ≡ tokensBy k (drop (t .from) s) (tokens (drop (t .next .at) s))
+  gives-by k e = stepped .gives ∙ ap (λ (j : Kind). tokensBy j (drop (t .from) s) (tokens (drop (t .next .at) s))) e
+
+  -- a token ends within the text
+  within-text : (τ : Token) (ts : List Token) → tokens (drop at s) ≡ τ ∷ ts → t .next .at ≤ length s
+  within-text τ ts e = step (below-or-not (length s) at)
+    where
+      step : (length s < at) ⊎ (at ≤ length s) → t .next .at ≤ length s
+      step (inl h) =
+          let i : length s ≤ at = omega arith in
+          let f : [] ≡ τ ∷ ts = sym (tokens-end s at i) ∙ e in
+          let z : _≡_ {A = ℕ} 0 (suc (length ts)) = ap length f in absurd (omega arith)
+      step (inr h) = stepped .inside h
+
+  pub left-within : isLeft (t .kind) ≡ true → t .next .at ≤ length s
+  left-within h = within-text left (tokens (drop (t .next .at) s)) (gives-by Left (is-left (t .kind) h))
+
+  pub brace-within : isByte 0x7B (t .kind) ≡ true → t .next .at ≤ length s
+  brace-within h = within-text (byte 0x7B) (tokens (drop (t .next .at) s)) (gives-by (Byte 0x7B) (is-brace (t .kind) h))
+
+  pub vector-none : isLeft (t .kind) ≡ false → (g : Gap) → GapAt s at (record { spelt = false; gap = g; next = t .next })
+  vector-none h g =
+      record {
+        gives = ap (λ (ts : List Token). kept gapOf (readVector ts)) (stepped .gives)
+            ∙ ap (kept gapOf) (no-vector (t .kind) (drop (t .from) s) (tokens (drop (t .next .at) s)) h);
+        moved = record { onward = λ e. absurd (false≢true e); inside = stepped .inside };
+      }
+
+  pub vector-parts : isLeft (t .kind) ≡ true → (r : GapRead) → PartsAt s (t .next .at) r → GapAt s at r
+  vector-parts h r parts =
+      let l : at < t .next .at = subst (λ (k : Kind). Beyond k at (t .next .at)) (is-left (t .kind) h) (stepped .beyond) in
+      let i : t .next .at ≤ r .next .at = parts .onward in
+      let j : at < r .next .at = omega arith in
+      record {
+        gives = ap (λ (ts : List Token). kept gapOf (readVector ts)) (gives-by Left (is-left (t .kind) h)) ∙ parts .gives;
+        moved = record { onward = λ _. j; inside = λ _. parts .inside };
+      }
+
+  pub list-empty : isEmpty (t .kind) ≡ true → (g : Gaps) → g ≡ loadedGaps [] → GapsAt s at (record { spelt = true; gaps = g; next = t .next })
+  list-empty h g e =
+      let l : at < t .next .at = subst (λ (k : Kind). Beyond k at (t .next .at)) (is-empty (t .kind) h) (stepped .beyond) in
+      record {
+        gives = ap (λ (ts : List Token). kept loadedGaps (inBraces readVector ts)) (gives-by Empty (is-empty (t .kind) h))
+            ∙ ap (λ (m : Gaps). got m (tokens (drop (t .next .at) s))) (sym e);
+        moved = record { onward = λ _. l; inside = stepped .inside };
+      }
+
+  pub list-none : isEmpty (t .kind) ≡ false → isByte 0x7B (t .kind) ≡ false → (g : Gaps) → GapsAt s at (record { spelt = false; gaps = g; next = t .next })
+  list-none h k g =
+      record {
+        gives = ap (λ (ts : List Token). kept loadedGaps (inBraces readVector ts)) (stepped .gives)
+            ∙ ap (kept loadedGaps) (no-list (t .kind) (drop (t .from) s) (tokens (drop (t .next .at) s)) h k);
+        moved = record { onward = λ e. absurd (false≢true e); inside = stepped .inside };
+      }
+
+  pub list-vectors : isByte 0x7B (t .kind) ≡ true → (r : GapsRead) → VectorsAt s (t .next .at) r → GapsAt s at r
+  list-vectors h r vectors =
+      let l : at < t .next .at = subst (λ (k : Kind). Beyond k at (t .next .at)) (is-brace (t .kind) h) (stepped .beyond) in
+      let i : t .next .at ≤ r .next .at = vectors .onward in
+      let j : at < r .next .at = omega arith in
+      record {
+        gives = ap (λ (ts : List Token). kept loadedGaps (inBraces readVector ts)) (gives-by (Byte 0x7B) (is-brace (t .kind) h)) ∙ vectors .gives;
+        moved = record { onward = λ _. j; inside = λ _. vectors .inside };
+      }

@@ -1,0 +1,70 @@
+-- `text_gaps::gap_reader::vectors_at` meets its contract: what is read in all is what is read from the place on.
+-- Assumes nothing.
+use Prim.Native.Nat.{_≤_}
+use mathlib.Core.Path.{_≡_, sym, _∙_}
+use native.Mathlib.Omega.{arith}
+use lib.ListN.{drop}
+use borrow.Author.Tests.{not-true, not-false}
+use Rattle.text_grammar.specs.Spelling.{byte}
+use Rattle.text_grammar.specs.Tokens.{tokens}
+use Rattle.text_grammar.specs.Grammar.{items, readVector}
+use Rattle.text_gaps.specs.PartReading.{kept, loadedGaps}
+use Rattle.text_gaps.specs.ItemReading.{leftOf, Within}
+use Rattle.text_gaps.specs.GapReading.{goingGaps}
+use Rattle.text_gaps.proofs.GapTextLaws.{vectors-start, no-vectors, vectors-end}
+use borrow.Author.Needs.{needs}
+use Rattle.text_gaps.proofs.gap_reader.vectors_at.Statement.{statement}
+use Rattle.text_gaps.proofs.gap_reader.vectors_at.Tie as tie
+
+abbrev Inv-loop : tie.InvT-loop
+Inv-loop s m₀ m =
+    (goingGaps (m .turn) (m .gaps) (tokens (drop (m .next .at) s)) ≡ kept loadedGaps (items readVector (byte 0x7D) (tokens (drop (m₀ .next .at) s))))
+    × Within s (m .gaps .count) (m .next .at) × (m₀ .next .at ≤ m .next .at)
+
+abbrev μ-loop : tie.MeasureT-loop
+μ-loop s m₀ m = leftOf s (m .turn) (m .next .at)
+
+no-gaps-requires : tie.Need-no-gaps-requires Inv-loop μ-loop
+no-gaps-requires c κs = search needs
+
+loop-holds : tie.Need-loop-holds Inv-loop μ-loop
+loop-holds c = let a = c .before .before .args in
+    let z = no-vectors (c .no-gaps .result) (c .no-gaps .ensures) in
+    (vectors-start (c .no-gaps .result) (tokens (drop (a .c .at) (a .s .now))) (c .no-gaps .ensures), record { inside = c .before .before .pre; counted = omega arith }, omega arith)
+
+goes-on-requires : tie.Need-goes-on-requires Inv-loop μ-loop
+goes-on-requires c κs = search needs
+
+is-done-requires : tie.Need-is-done-requires Inv-loop μ-loop
+is-done-requires c κs = search needs
+
+returns : tie.Need-returns Inv-loop μ-loop
+returns c = let a = c .before .before .before .before .before .before .before .before .args in
+    let l = c .before .before .before .before .before .loop in
+    vectors-end (a .s .now) (a .c .at) (l .m .turn) (l .m .next) (sym (c .before .before .before .before .goes-on .ensures) ∙ not-true _ (c .before .before .before .if1 .taken)) (l .m .gaps .count) (l .inv .1) (l .inv .2) (c .is-done .result) (c .is-done .ensures) (l .m .gaps) (l .inv .0)
+
+with-vector-requires : tie.Need-with-vector-requires Inv-loop μ-loop
+with-vector-requires c κs = record { within = c .before .before .loop .inv .1; goes = sym (c .before .goes-on .ensures) ∙ not-false _ (c .if1 .left) }
+
+loop-less : tie.Need-loop-less Inv-loop μ-loop
+loop-less c = c .with-vector .ensures .falls
+
+loop-again : tie.Need-loop-again Inv-loop μ-loop
+loop-again c = let i = c .before .before .before .loop .inv in
+    let e = c .with-vector .ensures in
+    (sym (e .same) ∙ i .0, e .within, omega (arith, i .2, e .onward))
+
+pub vectors-at-spec : {M : Type 1} → statement M
+vectors-at-spec =
+    tie.close
+    (tie.spec
+    Inv-loop
+    μ-loop
+    no-gaps-requires
+    loop-holds
+    goes-on-requires
+    is-done-requires
+    returns
+    with-vector-requires
+    loop-less
+    loop-again)

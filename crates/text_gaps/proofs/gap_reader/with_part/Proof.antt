@@ -1,0 +1,39 @@
+-- `text_gaps::gap_reader::with_part` meets its contract: one component more by the laws of items.
+-- Assumes nothing.
+use borrow.Author.Tests.{not-true, not-false}
+use Rattle.text_gaps.proofs.GapTextLaws.{part-wrong, part-stored}
+use borrow.Author.Needs.{needs}
+use Rattle.text_gaps.proofs.gap_reader.with_part.Statement.{statement}
+use Rattle.text_gaps.proofs.gap_reader.with_part.Tie as tie
+
+number-at-requires : tie.Need-number-at-requires
+number-at-requires c κs = search needs
+
+returns : tie.Need-returns
+returns c = let a = c .before .before .before .before .before .before .args in
+    part-wrong (a .s .now) (a .m .turn) (a .m .gap) (a .m .next .at) (c .before .before .before .before .before .before .pre) (c .before .before .number-at .result) (c .before .before .number-at .ensures) (not-true _ (c .if1 .taken))
+
+stored-part-requires : tie.Need-stored-part-requires
+stored-part-requires c κs = search needs
+
+step-requires : tie.Need-step-requires
+step-requires c κs = search needs
+
+turn-in-vector-requires : tie.Need-turn-in-vector-requires
+turn-in-vector-requires c κs = search needs
+
+returns-2 : tie.Need-returns-2
+returns-2 c = let a = c .before .before .before .before .before .before .before .before .before .before .before .args in
+    part-stored (a .s .now) (a .m .turn) (a .m .gap) (a .m .next .at) (c .before .before .before .before .before .before .before .before .before .before .before .pre) (c .before .before .before .before .before .before .before .number-at .result) (c .before .before .before .before .before .before .before .number-at .ensures) (not-false _ (c .before .before .before .before .before .if1 .left)) (c .before .before .step .result) (c .before .before .step .ensures)
+    (c .turn-in-vector .result) (c .before .before .before .before .stored-part .result) (c .turn-in-vector .ensures) (c .before .before .before .before .stored-part .ensures)
+
+pub with-part-spec : {M : Type 1} → statement M
+with-part-spec =
+    tie.close
+    (tie.spec
+    number-at-requires
+    returns
+    stored-part-requires
+    step-requires
+    turn-in-vector-requires
+    returns-2)

@@ -1,0 +1,39 @@
+-- `text_gaps::gap_reader::with_vector` meets its contract: one vector more by the laws of items.
+-- Assumes nothing.
+use borrow.Author.Tests.{not-true, not-false}
+use Rattle.text_gaps.proofs.GapTextLaws.{gap-wrong, gap-stored}
+use borrow.Author.Needs.{needs}
+use Rattle.text_gaps.proofs.gap_reader.with_vector.Statement.{statement}
+use Rattle.text_gaps.proofs.gap_reader.with_vector.Tie as tie
+
+gap-at-requires : tie.Need-gap-at-requires
+gap-at-requires c κs = search needs
+
+returns : tie.Need-returns
+returns c = let a = c .before .before .before .before .before .before .args in
+    gap-wrong (a .s .now) (a .m .turn) (a .m .gaps) (a .m .next .at) (c .before .before .before .before .before .before .pre) (c .before .before .gap-at .result) (c .before .before .gap-at .ensures) (not-true _ (c .if1 .taken))
+
+stored-gap-requires : tie.Need-stored-gap-requires
+stored-gap-requires c κs = search needs
+
+step-requires : tie.Need-step-requires
+step-requires c κs = search needs
+
+turn-in-braces-requires : tie.Need-turn-in-braces-requires
+turn-in-braces-requires c κs = search needs
+
+returns-2 : tie.Need-returns-2
+returns-2 c = let a = c .before .before .before .before .before .before .before .before .before .before .before .before .args in
+    gap-stored (a .s .now) (a .m .turn) (a .m .gaps) (a .m .next .at) (c .before .before .before .before .before .before .before .before .before .before .before .before .pre) (c .before .before .before .before .before .before .before .before .gap-at .result) (c .before .before .before .before .before .before .before .before .gap-at .ensures) (not-false _ (c .before .before .before .before .before .before .if1 .left)) (c .before .before .step .result) (c .before .before .step .ensures)
+    (c .turn-in-braces .result) (c .before .before .before .before .stored-gap .result) (c .turn-in-braces .ensures) (c .before .before .before .before .stored-gap .ensures)
+
+pub with-vector-spec : {M : Type 1} → statement M
+with-vector-spec =
+    tie.close
+    (tie.spec
+    gap-at-requires
+    returns
+    stored-gap-requires
+    step-requires
+    turn-in-braces-requires
+    returns-2)

@@ -1,0 +1,67 @@
+-- Items of a list, read one after the other: what comes after an item, and what is read in all from a place on. Definitions only.
+use Prim.Native.Nat.{ℕ, _+_, _-_, _≤_, _<_}
+use mathlib.Core.Path.{_≡_}
+use mathlib.Core.Bool.{Bool, true, false, cond}
+use mathlib.Core.List.{List}
+use lib.ListN.{length, drop}
+use lib.Dec.{eqb}
+use Rattle.text_grammar.specs.Spelling.{Token}
+use Rattle.text_grammar.specs.Tokens.{tokens}
+use Rattle.text_grammar.specs.Grammar.{Read, misspelt, got, items}
+use Rattle.text_gaps.specs.PartReading.{kept}
+use Rattle.text_grammar.specs.declared.cursor.Kind.{Kind}
+use Rattle.text_grammar.specs.declared.cursor.Kind.the-variants.{End, Digits, Epsilon, Empty, Left, Right, Byte}
+use Rattle.text_gaps.specs.declared.gap_reader.Turn.{Turn}
+use Rattle.text_gaps.specs.declared.gap_reader.Turn.the-variants.{More, Done, Wrong}
+use Rattle.text_patterns.specs.PatternWalk.{oneIf}
+use Rattle.text_patterns.specs.PatternMemory.{added}
+
+-- what comes after an item in braces
+
+abbrev pub turnInBraces : Kind → Turn
+turnInBraces End = Wrong
+turnInBraces Digits = Wrong
+turnInBraces Epsilon = Wrong
+turnInBraces Empty = Wrong
+turnInBraces Left = Wrong
+turnInBraces Right = Wrong
+turnInBraces (Byte b) = cond (eqb b 0x7D) Done (cond (eqb b 0x2C) More Wrong)
+
+abbrev pub goesOn : Turn → Bool
+goesOn More = true
+goesOn Done = false
+goesOn Wrong = false
+
+abbrev pub isDone : Turn → Bool
+isDone More = false
+isDone Done = true
+isDone Wrong = false
+
+-- what is read in all where m is kept so far and these tokens come
+
+module _ {A B C : Type 0} (read : List Token → Read A) (close : Token) (load : A → C) (store : B → C → B) where
+  abbrev pub going : Turn → B → List Token → Read B
+  going More m ts = kept (added load store m) (items read close ts)
+  going Done m ts = got m ts
+  going Wrong m ts = misspelt
+
+-- what is left to read
+unfoldable pub leftOf : List ℕ → Turn → ℕ → ℕ
+leftOf s t at = length s - at + oneIf (goesOn t)
+
+-- so many items were read up to this place of the text
+pub record Within (s : List ℕ) (count at : ℕ) : Type 0 where
+  pub inside : at ≤ length s
+  pub counted : count ≤ at
+
+-- an item may be read
+pub record Ready (s : List ℕ) (t : Turn) (count at : ℕ) : Type 0 where
+  pub within : Within s count at
+  pub goes : goesOn t ≡ true
+
+-- from the place `at` to the place `next` with one item more
+pub record Advanced {B : Type 0} (view : Turn → B → List Token → Read B) (s : List ℕ) (t : Turn) (m : B) (at : ℕ) (u : Turn) (n : B) (count next : ℕ) : Type 0 where
+  pub same : view t m (tokens (drop at s)) ≡ view u n (tokens (drop next s))
+  pub within : Within s count next
+  pub onward : at ≤ next
+  pub falls : leftOf s u next < leftOf s t at

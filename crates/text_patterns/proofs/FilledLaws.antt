@@ -1,0 +1,115 @@
+-- Laws on lists of a fixed length that hold the front of another, on the digits of a run, and on patterns stored one after the other.
+-- Assumes nothing.
+use Prim.Native.Nat.{ℕ, zero, suc, _+_, _-_, _≤_, _<_}
+use native.Mathlib.Numerals.{add-one}
+use native.Mathlib.Omega.{arith}
+use mathlib.Core.Path.{_≡_, refl, sym, ap, ap₂, _∙_}
+use mathlib.Core.Bool.{Bool, true, false, cond}
+use mathlib.Core.List.{List, [], _∷_, _++_, map, map-append, append-nil, append-assoc}
+use mathlib.Core.Option.{Option, none, some}
+use lib.ListN.{length, getD, take, drop, set, length-map, length-drop}
+use lib.Seq.{length-take-le, take-suc, take-all, getD-drop, set-out}
+use Rattle.scheme.specs.declared.memory.Pattern.{Pattern}
+use Rattle.scheme.specs.declared.memory.Patterns.{Patterns}
+use Rattle.text_grammar.specs.Tokens.{isDigit, run}
+use Rattle.text_grammar.specs.TokenLaws.{digit-value}
+use Rattle.text_patterns.specs.PatternMemory.{filled, patternOf, loadedPatterns, storedIn, added, patternText}
+use Rattle.text_patterns.specs.PatternWalk.{textWith}
+
+module _ {A : Type 0} where
+  pub length-filled : (n : ℕ) (z : A) (l : List A) → length (filled n z l) ≡ n
+  length-filled zero z l = refl
+  length-filled (suc n) z [] = ap suc (length-filled n z [])
+  length-filled (suc n) z (x ∷ l) = ap suc (length-filled n z l)
+
+  -- one element more
+  pub set-filled : (n : ℕ) (z : A) (l : List A) (a : A) → set (filled n z l) (length l) a ≡ filled n z (l ++ (a ∷ []))
+  set-filled zero z l a = refl
+  set-filled (suc n) z [] a = refl
+  set-filled (suc n) z (x ∷ l) a = ap (λ (r : List A). x ∷ r) (set-filled n z l a)
+
+  -- the first n elements are what is held
+  pub filled-take : (n : ℕ) (z : A) (l : List A) → filled n z (take n l) ≡ filled n z l
+  filled-take zero z l = refl
+  filled-take (suc n) z [] = refl
+  filled-take (suc n) z (x ∷ l) = ap (λ (r : List A). x ∷ r) (filled-take n z l)
+
+-- the digits of a run are the values of its bytes
+
+run-at : (t : List ℕ) (i : ℕ) → i < length (run t) → (getD (run t) i 0 ≡ getD t i 0 - 0x30) × (0x30 ≤ getD t i 0) × (i < length t)
+run-at [] i h = absurd (omega arith)
+run-at (x ∷ t) i h = step (isDigit x) refl (run-at t) i h
+  where
+    step : (b : Bool) → isDigit x ≡ b →
+        ((j : ℕ) → j < length (run t) → (getD (run t) j 0 ≡ getD t j 0 - 0x30) × (0x30 ≤ getD t j 0) × (j < length t)) →
+        (j : ℕ) → j < length (cond b ((x - 0x30) ∷ run t) []) →
+        (getD (cond b ((x - 0x30) ∷ run t) []) j 0 ≡ getD (x ∷ t) j 0 - 0x30) × (0x30 ≤ getD (x ∷ t) j 0) × (j < suc (length t))
+    step true e below zero k = let v = digit-value x e in (refl, omega arith, omega arith)
+    step true e below (suc j) k = let r = below j (omega arith) in (r .0, r .1, omega arith)
+    step false e below j k = absurd (omega arith)
+
+pub digits-in : (s : List ℕ) (from i : ℕ) → i < length (run (drop from s))
+    → (getD (run (drop from s)) i 0 ≡ getD s (from + i) 0 - 0x30) × (0x30 ≤ getD s (from + i) 0) × (from + i < length s)
+digits-in s from i h =
+    let r = run-at (drop from s) i h in
+    let g : getD (drop from s) i 0 ≡ getD s (from + i) 0 = getD-drop from s i 0 in
+    let l : length (drop from s) ≡ length s - from = length-drop from s in
+    (r .0 ∙ ap (λ (x : ℕ). x - 0x30) g, omega (arith, r .1), omega (arith, r .2))
+
+-- one digit more, and the last
+module _ (n : ℕ) (u d : List ℕ) (i : ℕ) (e : d ≡ filled n 0 (take i u)) where
+  pub digits-next : (x : ℕ) → i < length u → getD u i 0 ≡ x → set d i x ≡ filled n 0 (take (i + 1) u)
+  digits-next x h q =
+      let k : i ≤ length u = omega arith in
+      ap (λ (l : List ℕ). set l i x) e
+      ∙ ap (λ (j : ℕ). set (filled n 0 (take i u)) j x) (sym (length-take-le i u k))
+      ∙ set-filled n 0 (take i u) x
+      ∙ ap (λ (l : List ℕ). filled n 0 l) (ap (λ (y : ℕ). take i u ++ (y ∷ [])) (sym q) ∙ sym (take-suc u i 0 h) ∙ ap (λ (j : ℕ). take j u) (sym (add-one i)))
+
+  pub digits-all : length u ≤ i → d ≡ filled n 0 u
+  digits-all h = e ∙ ap (λ (l : List ℕ). filled n 0 l) (take-all i u h)
+
+  pub digits-full : i ≡ n → d ≡ filled n 0 u
+  digits-full h = e ∙ ap (λ (j : ℕ). filled n 0 (take j u)) h ∙ filled-take n 0 u
+
+-- patterns stored one after the other
+
+-- the length of a list, from that of its map
+pub unmapped : {A B : Type 0} (f : A → B) (l : List A) (n : ℕ) → length (map f l) ≡ n → length l ≡ n
+unmapped f l n e = sym (length-map l f) ∙ e
+
+abbrev made : List Pattern → ℕ → Patterns
+made l n = record { items = l; count = n }
+
+pub stored-kept : (m : Patterns) (p : Pattern) → made (set (m .items) (m .count) p) (m .count + 1) ≡ storedIn m p
+stored-kept m p = ap (λ (n : ℕ). made (set (m .items) (m .count) p) n) (add-one (m .count))
+
+pub stored-counted : (m : Patterns) (p : Pattern) → length (m .items) ≤ m .count → made (m .items) (m .count + 1) ≡ storedIn m p
+stored-counted m p h = ap₂ made (sym (set-out (m .items) (m .count) p h)) (add-one (m .count))
+
+-- one item more
+pub length-more : {A : Type 0} (l : List A) (x : A) → suc (length l) ≡ length (l ++ (x ∷ []))
+length-more [] x = refl
+length-more (y ∷ l) x = ap suc (length-more l x)
+
+pub filled-more : {A B : Type 0} (n : ℕ) (z : B) (f : A → B) (l : List A) (x : A) → set (filled n z (map f l)) (length l) (f x) ≡ filled n z (map f (l ++ (x ∷ [])))
+filled-more {B = B} n z f l x =
+    ap (λ (i : ℕ). set (filled n z (map f l)) i (f x)) (sym (length-map l f))
+    ∙ set-filled n z (map f l) (f x)
+    ∙ ap (λ (r : List B). filled n z r) (sym (map-append f l (x ∷ [])))
+
+-- items stored one after the other are those of the list
+module _ {A B C : Type 0} (load : A → C) (store : B → C → B) (whole : List A → B) (next : (l : List A) (x : A) → store (whole l) (load x) ≡ whole (l ++ (x ∷ []))) where
+  pub added-whole : (l k : List A) → added load store (whole l) k ≡ whole (l ++ k)
+  added-whole l [] = ap whole (sym (append-nil l))
+  added-whole l (x ∷ k) =
+      ap (λ (m : B). added load store m k) (next l x) ∙ added-whole (l ++ (x ∷ [])) k ∙ ap whole (append-assoc l (x ∷ []) k)
+
+stored-loaded : (P : List (List ℕ)) (q : List ℕ) → storedIn (loadedPatterns P) (patternOf q) ≡ loadedPatterns (P ++ (q ∷ []))
+unfolding loadedPatterns
+stored-loaded P q = ap₂ made (filled-more 24 (patternOf []) patternOf P q) (length-more P q)
+
+-- what is read from the start
+pub text-loaded : (o : Option (List (List ℕ))) → textWith (loadedPatterns []) o ≡ patternText o
+text-loaded none = refl
+text-loaded (some P) = ap (λ (m : Patterns). record { spelt = true; patterns = m }) (added-whole patternOf storedIn loadedPatterns stored-loaded [] P)

@@ -1,0 +1,3 @@
+-- The laws that the proofs of the crate pattern_text cite.
+pub mod FilledLaws
+pub mod PatternWalkLaws

@@ -1,0 +1,160 @@
+-- A pattern list in memory has the first fault of the list itself, and where there is none it stands for that list.
+-- The laws before those of one pattern hold for any list that memory keeps in part; SchemeLoading uses them too.
+use Prim.Native.Nat.{ℕ, zero, suc, _≤_, _<_}
+use native.Mathlib.Omega.{arith}
+use mathlib.Core.Path.{_≡_, refl, sym, ap, ap₂, _∙_}
+use mathlib.Core.Logic.{_⊎_, inl, inr}
+use mathlib.Core.Bool.{Bool, true, false, not, cond}
+use mathlib.Core.List.{List, [], _∷_, _++_, map, map-map}
+use lib.ListN.{length, getD, take, replicate, length-map}
+use lib.Dec.{ltb}
+use borrow.Author.Tests.{ltb-false, lt-ltb, le-ltb}
+use Rattle.word.specs.Lists.{row}
+use Rattle.word.specs.ListLaws.{below-or-not, length-row}
+use Rattle.word.specs.Containment.{isPattern}
+use Rattle.word.specs.Finding.{Finding, clean, fault, test, firstFault}
+use Rattle.word.specs.declared.refusal.Refusal.{Refusal}
+use Rattle.word.specs.declared.refusal.Refusal.the-variants.{Oversize, NoPermutation}
+use Rattle.scheme.specs.WellFormed.{firstAt, firstTwin, listed, patternTests}
+use Rattle.scheme.specs.SchemeMemory.{padded, noPattern, patternIn, patternsIn}
+use Rattle.text_patterns.specs.PatternMemory.{filled, patternOf, loadedPatterns}
+use Rattle.scheme.specs.MemoryLaws.{length-padded}
+
+-- places of an array
+
+row-shift : {A : Type 0} (f : ℕ → A) (a n : ℕ) → map f (row (suc a) n) ≡ map (λ i. f (suc i)) (row a n)
+row-shift f a zero = refl
+row-shift f a (suc n) = ap (λ (l : List _). f (suc a) ∷ l) (row-shift f (suc a) n)
+
+-- an array with room for a list keeps its elements
+places-filled : {A B : Type 0} (g : A → B) (z d : A) (n : ℕ) (l : List A) → length l ≤ n
+    → map (λ i. g (getD (filled n z l) i d)) (row 0 (length l)) ≡ map g l
+places-filled g z d n [] h = refl
+places-filled g z d zero (x ∷ l) h = absurd (omega arith)
+places-filled g z d (suc n) (x ∷ l) h =
+    ap (λ (m : List _). g x ∷ m)
+    (row-shift (λ i. g (getD (x ∷ filled n z l) i d)) 0 (length l) ∙ places-filled g z d n l (omega arith))
+
+-- an array with n places, into which the elements of a list are put and from which as many are taken
+module _ {A B C : Type 0} (put : A → B) (taken : B → C) (z d : B) (n : ℕ) (l : List A) where
+  pub places-length : length (map (λ i. taken (getD (filled n z (map put l)) i d)) (row 0 (length l))) ≡ length l
+  places-length = length-map (row 0 (length l)) (λ i. taken (getD (filled n z (map put l)) i d)) ∙ length-row 0 (length l)
+
+  -- with room for the list it keeps each element
+  pub places-kept : length l ≤ n → map (λ i. taken (getD (filled n z (map put l)) i d)) (row 0 (length l)) ≡ map (λ x. taken (put x)) l
+  places-kept h =
+      ap (λ (m : ℕ). map (λ i. taken (getD (filled n z (map put l)) i d)) (row 0 m)) (sym (length-map l put))
+      ∙ places-filled taken z d n (map put l) (omega (arith, length-map l put)) ∙ map-map taken put l
+
+no-fault : (r : Refusal) (i : ℕ) → fault r i ≡ clean → ⊥
+no-fault r i e = let z : _≡_ {A = ℕ} 0 1 = cc in omega arith
+
+-- a list whose elements are kept in part: a kept element is large where the element is, and one that is not large is kept as it is
+
+module _ {A : Type 0} (large : A → Bool) (keeps : A → A) (as-large : (x : A) → large (keeps x) ≡ large x)
+    (as-it-is : (x : A) → large x ≡ false → keeps x ≡ x)
+  where
+    -- the first large one has the same index
+    first-kept : (i : ℕ) (l : List A) → firstAt Oversize large i (map keeps l) ≡ firstAt Oversize large i l
+    first-kept i [] = refl
+    first-kept i (x ∷ l) = ap₂ (λ (b : Bool) (f : Finding). cond b (fault Oversize i) f) (as-large x) (first-kept (suc i) l)
+
+    -- where none is large, all are kept as they are
+    none-large : (i : ℕ) (l : List A) → firstAt Oversize large i l ≡ clean → map keeps l ≡ l
+    none-large i [] h = refl
+    none-large i (x ∷ l) h = step (large x) refl (none-large (suc i) l)
+      where
+        turn : Bool → Finding
+        turn b = cond b (fault Oversize i) (firstAt Oversize large (suc i) l)
+
+        step : (b : Bool) → large x ≡ b → (firstAt Oversize large (suc i) l ≡ clean → map keeps l ≡ l) → map keeps (x ∷ l) ≡ x ∷ l
+        step true e ih = absurd (no-fault Oversize i (sym (ap turn e) ∙ h))
+        step false e ih = ap₂ _∷_ (as-it-is x e) (ih (sym (ap turn e) ∙ h))
+
+    -- the test of the number of elements, the test of each, and further tests
+    module _ (most : ℕ) (rest : List A → List Finding) where
+      abbrev sized : List A → List Finding
+      sized l = test Oversize (ltb most (length l)) ∷ firstAt Oversize large 0 l ∷ rest l
+
+      many-fault : (l : List A) → most < length l → firstFault (sized l) ≡ fault Oversize 0
+      many-fault l h = rw (lt-ltb most (length l) h) refl
+
+      large-fault : (l : List A) (r : Refusal) (i : ℕ) → length l ≤ most → firstAt Oversize large 0 l ≡ fault r i
+          → firstFault (sized l) ≡ fault r i
+      large-fault l r i h e = rw (le-ltb most (length l) h, e) refl
+
+      -- m is what the memory has of l: as many elements, and those of l where there is room
+      module _ (l m : List A) (as-many : length m ≡ length l) (room : length l ≤ most → m ≡ map keeps l) where
+        pub sized-faults : firstFault (sized m) ≡ firstFault (sized l)
+        sized-faults = step (below-or-not most (length l))
+          where
+            within : length l ≤ most → (f : Finding) → firstAt Oversize large 0 l ≡ f → firstFault (sized m) ≡ firstFault (sized l)
+            within h clean e = ap (λ (n : List A). firstFault (sized n)) (room h ∙ none-large 0 l e)
+            within h (fault r i) e =
+                large-fault m r i (omega arith) (ap (firstAt Oversize large 0) (room h) ∙ first-kept 0 l ∙ e) ∙ sym (large-fault l r i h e)
+
+            step : (most < length l) ⊎ (length l ≤ most) → firstFault (sized m) ≡ firstFault (sized l)
+            step (inl h) = many-fault m (omega arith) ∙ sym (many-fault l h)
+            step (inr h) = within h (firstAt Oversize large 0 l) refl
+
+        pub sized-same : firstFault (sized l) ≡ clean → m ≡ l
+        sized-same c = step (below-or-not most (length l))
+          where
+            within : length l ≤ most → (f : Finding) → firstAt Oversize large 0 l ≡ f → m ≡ l
+            within h clean e = room h ∙ none-large 0 l e
+            within h (fault r i) e = absurd (no-fault r i (sym (large-fault l r i h e) ∙ c))
+
+            step : (most < length l) ⊎ (length l ≤ most) → m ≡ l
+            step (inl h) = absurd (no-fault Oversize 0 (sym (many-fault l h) ∙ c))
+            step (inr h) = within h (firstAt Oversize large 0 l) refl
+
+-- one pattern in memory: its length is true, and up to 8 digits all are there
+
+abbrev kept : List ℕ → List ℕ
+kept u = patternIn (patternOf u)
+
+length-kept : (u : List ℕ) → length (kept u) ≡ length u
+length-kept u = length-padded (length u) (filled 8 0 u)
+
+pub take-filled : (n : ℕ) (u v : List ℕ) → length u ≤ n → take (length u) (filled n 0 u ++ v) ≡ u
+take-filled n [] v h = refl
+take-filled zero (x ∷ u) v h = absurd (omega arith)
+take-filled (suc n) (x ∷ u) v h = ap (λ (l : List ℕ). x ∷ l) (take-filled n u v (omega arith))
+
+kept-same : (u : List ℕ) → length u ≤ 8 → kept u ≡ u
+kept-same u h = take-filled 8 u (replicate (length u) 0) h
+
+-- the patterns in memory: their number is true, and up to 24 all are there
+
+loaded-length : (P : List (List ℕ)) → length (patternsIn (loadedPatterns P)) ≡ length P
+unfolding loadedPatterns
+loaded-length P = places-length patternOf patternIn (patternOf []) noPattern 24 P
+
+loaded-kept : (P : List (List ℕ)) → length P ≤ 24 → patternsIn (loadedPatterns P) ≡ map kept P
+unfolding loadedPatterns
+loaded-kept P h = places-kept patternOf patternIn (patternOf []) noPattern 24 P h
+
+-- the test of the lengths
+
+abbrev long : List ℕ → Bool
+long β = ltb 8 (length β)
+
+long-kept : (u : List ℕ) → long (kept u) ≡ long u
+long-kept u = ap (ltb 8) (length-kept u)
+
+short-kept : (u : List ℕ) → long u ≡ false → kept u ≡ u
+short-kept u e = kept-same u (ltb-false 8 (length u) e)
+
+-- the tests after those of the size
+abbrev patternRest : List (List ℕ) → List Finding
+patternRest P = firstAt NoPermutation (λ β. not (isPattern β)) 0 P ∷ firstTwin listed 0 [] P ∷ []
+
+-- the first fault of the patterns in memory is that of the list
+pub loaded-faults : (P : List (List ℕ)) → firstFault (patternTests (patternsIn (loadedPatterns P))) ≡ firstFault (patternTests P)
+loaded-faults P =
+    sized-faults long kept long-kept short-kept 24 patternRest P (patternsIn (loadedPatterns P)) (loaded-length P) (loaded-kept P)
+
+-- a list with no fault is in memory as it is
+pub loaded-same : (P : List (List ℕ)) → firstFault (patternTests P) ≡ clean → patternsIn (loadedPatterns P) ≡ P
+loaded-same P =
+    sized-same long kept long-kept short-kept 24 patternRest P (patternsIn (loadedPatterns P)) (loaded-length P) (loaded-kept P)

@@ -1,0 +1,3 @@
+-- The laws that the proofs of the crate scheme_text cite.
+pub mod EntryTextLaws
+pub mod EntryItemLaws

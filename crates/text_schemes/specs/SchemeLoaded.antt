@@ -1,0 +1,32 @@
+-- The memory of a scheme list of any size: true counts and lengths, the first 128 entries, of each the first 6 digits and the first 8 vectors,
+-- of each vector the first 7 components. Definitions only.
+use mathlib.Core.List.{List, [], map}
+use lib.ListN.{length}
+use Rattle.scheme.specs.SchemeList.{Does, expands, deletes, EntryList}
+use Rattle.scheme.specs.declared.memory.Rule.{Rule}
+use Rattle.scheme.specs.declared.memory.Rule.the-variants.{Expand, Delete}
+use Rattle.scheme.specs.declared.memory.Entry.{Entry}
+use Rattle.scheme.specs.declared.memory.Scheme.{Scheme}
+use Rattle.text_patterns.specs.PatternMemory.{filled}
+use Rattle.text_gaps.specs.GapMemory.{gapOf}
+
+abbrev pub ruleOf : Does → Rule
+ruleOf expands = Expand
+ruleOf (deletes r) = Delete r
+
+abbrev pub entryOf : EntryList → Entry
+entryOf e =
+    record {
+      prefix = filled 6 0 (e .prefix);
+      length = length (e .prefix);
+      gaps = filled 8 (gapOf []) (map gapOf (e .gaps));
+      «gap_count» = length (e .gaps);
+      rule = ruleOf (e .rule);
+    }
+
+-- the entry at places behind the end
+abbrev pub plainEntry : EntryList
+plainEntry = record { prefix = []; gaps = []; rule = expands }
+
+unfoldable pub loadedScheme : List EntryList → Scheme
+loadedScheme E = record { entries = filled 128 (entryOf plainEntry) (map entryOf E); count = length E }

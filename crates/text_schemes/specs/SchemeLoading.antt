@@ -1,0 +1,177 @@
+-- A scheme list in memory has the first fault of the list itself, and where there is none it stands for that list.
+use Prim.Native.Nat.{ℕ, _+_, _≤_, _<_}
+use native.Mathlib.Omega.{arith}
+use mathlib.Core.Path.{_≡_, refl, sym, ap, ap₂, _∙_}
+use mathlib.Core.Logic.{_⊎_, inl, inr}
+use mathlib.Core.Bool.{Bool, true, false, not, cond, _||_}
+use mathlib.Core.List.{List, [], _∷_, _++_, map}
+use lib.ListN.{length, getD, take, replicate, length-map}
+use lib.Dec.{ltb}
+use borrow.Author.Tests.{ltb-false, lt-ltb, le-leb, lt-leb}
+use Rattle.word.specs.Lists.{row, any}
+use Rattle.word.specs.ListLaws.{below-or-not}
+use Rattle.word.specs.Word.{isPerm}
+use Rattle.word.specs.Finding.{Finding, clean, test, firstFault}
+use Rattle.word.specs.declared.refusal.Refusal.the-variants.{NoPermutation, Rootless, Width, NoPosition, Childless, NoTarget}
+use Rattle.cell.specs.Cell.{total}
+use Rattle.scheme.specs.SchemeList.{Does, expands, deletes, EntryList}
+use Rattle.scheme.specs.WellFormed.{firstAt, firstTwin, listed, largeGap, largeEntry, twinEntry, wrongWidth, outside, lacksChild, lacksTarget, schemeTests}
+use Rattle.scheme.specs.SchemeMemory.{padded, noGap, noEntry, gapIn, doesOf, entryIn, schemeIn}
+use Rattle.text_patterns.specs.PatternMemory.{filled}
+use Rattle.text_patterns.specs.PatternLoading.{places-length, places-kept, take-filled, sized-faults, sized-same}
+use Rattle.text_gaps.specs.GapMemory.{partOf, gapOf}
+use Rattle.text_schemes.specs.SchemeLoaded.{ruleOf, entryOf, plainEntry, loadedScheme}
+use Rattle.scheme.specs.MemoryLaws.{length-padded}
+use Rattle.scheme.specs.TestLaws.{or-left, or-right}
+
+-- a disjunction that is false, and its parts
+
+-- components as bytes
+
+part-same : (n : ℕ) → n ≤ 255 → partOf n ≡ n
+part-same n h = ap (λ (b : Bool). cond b n 255) (le-leb n 255 h)
+
+part-most : (n : ℕ) → 255 < n → partOf n ≡ 255
+part-most n h = ap (λ (b : Bool). cond b n 255) (lt-leb n 255 h)
+
+-- all components are kept, or both totals are beyond every bound that is tested
+capped : (b : List ℕ) → (map partOf b ≡ b) ⊎ ((255 ≤ total (map partOf b)) × (255 ≤ total b))
+unfolding total
+capped [] = inl refl
+capped (x ∷ b) = step (below-or-not 255 x) (capped b)
+  where
+    Result : Type 0
+    Result = (map partOf (x ∷ b) ≡ x ∷ b) ⊎ ((255 ≤ partOf x + total (map partOf b)) × (255 ≤ x + total b))
+
+    step : (255 < x) ⊎ (x ≤ 255) → (map partOf b ≡ b) ⊎ ((255 ≤ total (map partOf b)) × (255 ≤ total b)) → Result
+    step (inl h) r = inr (omega (arith, part-most x h), omega arith)
+    step (inr h) (inl e) = inl (ap₂ _∷_ (part-same x h) e)
+    step (inr h) (inr (p, q)) = inr (omega arith, omega arith)
+
+-- one vector in memory: its length is true, and up to 7 components all are there as bytes
+
+abbrev keptGap : List ℕ → List ℕ
+keptGap b = gapIn (gapOf b)
+
+length-gap : (b : List ℕ) → length (keptGap b) ≡ length b
+length-gap b = length-padded (length b) (filled 7 0 (map partOf b))
+
+short-gap : (b : List ℕ) → length b ≤ 7 → keptGap b ≡ map partOf b
+short-gap b h =
+    ap (λ (n : ℕ). take n (filled 7 0 (map partOf b) ++ replicate (length b) 0)) (sym (length-map b partOf))
+    ∙ take-filled 7 (map partOf b) (replicate (length b) 0) (omega (arith, length-map b partOf))
+
+large-part : (b : List ℕ) → ltb 8 (total (map partOf b)) ≡ ltb 8 (total b)
+large-part b = step (capped b)
+  where
+    step : (map partOf b ≡ b) ⊎ ((255 ≤ total (map partOf b)) × (255 ≤ total b)) → ltb 8 (total (map partOf b)) ≡ ltb 8 (total b)
+    step (inl e) = ap (λ (c : List ℕ). ltb 8 (total c)) e
+    step (inr (p, q)) = lt-ltb 8 (total (map partOf b)) (omega arith) ∙ sym (lt-ltb 8 (total b) (omega arith))
+
+large-gap-kept : (b : List ℕ) → largeGap (keptGap b) ≡ largeGap b
+large-gap-kept b = step (below-or-not 7 (length b))
+  where
+    long : (c : List ℕ) → 7 < length c → largeGap c ≡ true
+    long c h = ap (λ (t : Bool). t || ltb 8 (total c)) (lt-ltb 7 (length c) h)
+
+    step : (7 < length b) ⊎ (length b ≤ 7) → largeGap (keptGap b) ≡ largeGap b
+    step (inl h) = long (keptGap b) (omega (arith, length-gap b)) ∙ sym (long b h)
+    step (inr h) = ap largeGap (short-gap b h) ∙ ap₂ _||_ (ap (ltb 7) (length-map b partOf)) (large-part b)
+
+small-gap-same : (b : List ℕ) → largeGap b ≡ false → keptGap b ≡ b
+small-gap-same b e = short-gap b (ltb-false 7 (length b) (or-left (ltb 7 (length b)) (ltb 8 (total b)) e)) ∙ step (capped b)
+  where
+    small : total b ≤ 8
+    small = ltb-false 8 (total b) (or-right (ltb 7 (length b)) (ltb 8 (total b)) e)
+
+    step : (map partOf b ≡ b) ⊎ ((255 ≤ total (map partOf b)) × (255 ≤ total b)) → map partOf b ≡ b
+    step (inl k) = k
+    step (inr (p, q)) = absurd (omega (arith, small))
+
+-- the vectors of one entry
+
+any-large-kept : (B : List (List ℕ)) → any largeGap (map keptGap B) ≡ any largeGap B
+any-large-kept [] = refl
+any-large-kept (b ∷ B) = ap₂ _||_ (large-gap-kept b) (any-large-kept B)
+
+none-large-same : (B : List (List ℕ)) → any largeGap B ≡ false → map keptGap B ≡ B
+none-large-same [] e = refl
+none-large-same (b ∷ B) e =
+    ap₂ _∷_ (small-gap-same b (or-left (largeGap b) (any largeGap B) e)) (none-large-same B (or-right (largeGap b) (any largeGap B) e))
+
+abbrev keptGaps : List (List ℕ) → List (List ℕ)
+keptGaps B = map (λ i. gapIn (getD (filled 8 (gapOf []) (map gapOf B)) i noGap)) (row 0 (length B))
+
+length-gaps : (B : List (List ℕ)) → length (keptGaps B) ≡ length B
+length-gaps B = places-length gapOf gapIn (gapOf []) noGap 8 B
+
+few-gaps : (B : List (List ℕ)) → length B ≤ 8 → keptGaps B ≡ map keptGap B
+few-gaps B h = places-kept gapOf gapIn (gapOf []) noGap 8 B h
+
+abbrev largeGaps : List (List ℕ) → Bool
+largeGaps B = ltb 8 (length B) || any largeGap B
+
+large-gaps-kept : (B : List (List ℕ)) → largeGaps (keptGaps B) ≡ largeGaps B
+large-gaps-kept B = step (below-or-not 8 (length B))
+  where
+    many : (C : List (List ℕ)) → 8 < length C → largeGaps C ≡ true
+    many C h = ap (λ (t : Bool). t || any largeGap C) (lt-ltb 8 (length C) h)
+
+    step : (8 < length B) ⊎ (length B ≤ 8) → largeGaps (keptGaps B) ≡ largeGaps B
+    step (inl h) = many (keptGaps B) (omega (arith, length-gaps B)) ∙ sym (many B h)
+    step (inr h) = ap₂ _||_ (ap (ltb 8) (length-gaps B)) (ap (any largeGap) (few-gaps B h) ∙ any-large-kept B)
+
+small-gaps-same : (B : List (List ℕ)) → largeGaps B ≡ false → keptGaps B ≡ B
+small-gaps-same B e =
+    few-gaps B (ltb-false 8 (length B) (or-left (ltb 8 (length B)) (any largeGap B) e))
+    ∙ none-large-same B (or-right (ltb 8 (length B)) (any largeGap B) e)
+
+-- one entry in memory
+
+abbrev keptEntry : EntryList → EntryList
+keptEntry e = entryIn (entryOf e)
+
+large-entry-kept : (e : EntryList) → largeEntry (keptEntry e) ≡ largeEntry e
+large-entry-kept e =
+    ap₂ _||_ (ap (ltb 6) (length-padded (length (e .prefix)) (filled 6 0 (e .prefix)))) (large-gaps-kept (e .gaps))
+
+rule-same : (r : Does) → doesOf (ruleOf r) ≡ r
+rule-same expands = refl
+rule-same (deletes r) = refl
+
+small-entry-same : (e : EntryList) → largeEntry e ≡ false → keptEntry e ≡ e
+small-entry-same e h =
+    let p : padded (length (e .prefix)) (filled 6 0 (e .prefix)) ≡ e .prefix =
+    take-filled 6 (e .prefix) (replicate (length (e .prefix)) 0)
+    (ltb-false 6 (length (e .prefix)) (or-left (ltb 6 (length (e .prefix))) (largeGaps (e .gaps)) h)) in
+    let g : keptGaps (e .gaps) ≡ e .gaps = small-gaps-same (e .gaps) (or-right (ltb 6 (length (e .prefix))) (largeGaps (e .gaps)) h) in
+    let r : doesOf (ruleOf (e .rule)) ≡ e .rule = rule-same (e .rule) in rw (p, g, r) refl
+
+-- the entries in memory: their number is true, and up to 128 all are there
+
+loaded-length : (E : List EntryList) → length (schemeIn (loadedScheme E)) ≡ length E
+unfolding loadedScheme
+loaded-length E = places-length entryOf entryIn (entryOf plainEntry) noEntry 128 E
+
+loaded-kept : (E : List EntryList) → length E ≤ 128 → schemeIn (loadedScheme E) ≡ map keptEntry E
+unfolding loadedScheme
+loaded-kept E h = places-kept entryOf entryIn (entryOf plainEntry) noEntry 128 E h
+
+-- the tests after those of the size
+abbrev schemeRest : List EntryList → List Finding
+schemeRest E =
+    let ps = map (λ e. e .prefix) E in
+    firstAt NoPermutation (λ e. not (isPerm (e .prefix))) 0 E ∷
+    firstTwin twinEntry 0 [] E ∷ test Rootless (not (listed ps [])) ∷ firstAt Width wrongWidth 0 E ∷
+    firstAt NoPosition (λ e. outside (length (e .prefix)) (e .rule)) 0 E ∷ firstAt Childless (λ e. lacksChild ps (e .prefix) (e .rule)) 0 E ∷
+    firstAt NoTarget (λ e. lacksTarget ps (e .prefix) (e .rule)) 0 E ∷ []
+
+-- the first fault of the entries in memory is that of the list
+pub loaded-scheme-faults : (E : List EntryList) → firstFault (schemeTests (schemeIn (loadedScheme E))) ≡ firstFault (schemeTests E)
+loaded-scheme-faults E =
+    sized-faults largeEntry keptEntry large-entry-kept small-entry-same 128 schemeRest E (schemeIn (loadedScheme E)) (loaded-length E) (loaded-kept E)
+
+-- a list with no fault is in memory as it is
+pub loaded-scheme-same : (E : List EntryList) → firstFault (schemeTests E) ≡ clean → schemeIn (loadedScheme E) ≡ E
+loaded-scheme-same E =
+    sized-same largeEntry keptEntry large-entry-kept small-entry-same 128 schemeRest E (schemeIn (loadedScheme E)) (loaded-length E) (loaded-kept E)

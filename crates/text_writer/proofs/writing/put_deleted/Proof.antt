@@ -1,0 +1,36 @@
+-- `text_writer::writing::put_deleted` meets its contract: an opening brace, the number and a closing brace.
+-- Assumes nothing.
+use mathlib.Core.Path.{refl}
+use borrow.Author.Needs.{needs}
+use Rattle.text_writer.specs.PageLaws.{start-as, step, finish-by, room-next, room-last}
+use Rattle.text_writer.specs.WrittenLaws.{text-deletes}
+use Rattle.text_writer.proofs.writing.put_deleted.Statement.{statement}
+use Rattle.text_writer.proofs.writing.put_deleted.Tie as tie
+
+put-requires : tie.Need-put-requires
+put-requires c κs = search needs
+
+put-number-requires : tie.Need-put-number-requires
+put-number-requires c κs =
+    let a = c .before .before .before .before .before .before .args in
+    let whole = start-as _ _ (a .at) (a .page .now) (text-deletes (a .n)) in
+    (c .before .before .before .before .before .before .pre .0, room-next _ _ (c .before .before .before .before .before .before .pre .1) (step whole (c .before .before .before .put .ensures)) refl)
+
+put-requires-2 : tie.Need-put-requires-2
+put-requires-2 c κs =
+    let a = c .before .before .before .before .before .before .before .before .before .before .args in
+    let whole = start-as _ _ (a .at) (a .page .now) (text-deletes (a .n)) in
+    room-last (c .before .before .before .before .before .before .before .before .before .before .pre .1) (step (step whole (c .before .before .before .before .before .before .before .put .ensures)) (c .before .before .before .put-number .ensures))
+
+same-length : tie.Need-same-length
+same-length c = search needs
+
+returns : tie.Need-returns
+returns c =
+    let a = c .before .before .before .before .before .before .before .before .before .before .before .before .before .args in
+    let whole = start-as _ _ (a .at) (a .page .now) (text-deletes (a .n)) in
+    finish-by (step (step whole (c .before .before .before .before .before .before .before .before .before .before .put .ensures)) (c .before .before .before .before .before .before .put-number .ensures)) (c .before .before .put2 .ensures)
+
+pub put-deleted-spec : {M : Type 1} → statement M
+put-deleted-spec =
+    tie.close (tie.spec put-requires put-number-requires put-requires-2 same-length returns)

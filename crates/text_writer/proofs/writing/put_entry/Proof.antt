@@ -1,0 +1,85 @@
+-- `text_writer::writing::put_entry` meets its contract: the seven parts of an entry, one after the other.
+-- Assumes nothing.
+use mathlib.Core.Path.{_≡_, refl}
+use native.Mathlib.Omega.{arith}
+use lib.ListN.{length}
+use borrow.Author.Needs.{needs}
+use Rattle.scheme.specs.SchemeMemory.{entryIn}
+use Rattle.text_writer.specs.PageLaws.{start-as, step, finish-by, room-next, room-last}
+use Rattle.text_writer.specs.WrittenLaws.{text-entry}
+use Rattle.text_writer.proofs.writing.put_entry.Statement.{statement}
+use Rattle.text_writer.proofs.writing.put_entry.Tie as tie
+
+put-requires : tie.Need-put-requires
+put-requires c κs = search needs
+
+slice-aggregate-put-permutation : tie.Need-slice-aggregate-put-permutation
+slice-aggregate-put-permutation c = search needs
+
+put-permutation-requires : tie.Need-put-permutation-requires
+put-permutation-requires c κs =
+    let a = c .before .before .before .before .before .before .before .before .args in
+    let h = c .before .before .before .before .before .before .before .before .pre in
+    let whole = start-as _ _ (a .at) (a .page .now) (text-entry (entryIn (a .e))) in
+    let six : length (a .e .prefix) ≡ 6 = search needs in
+    (record { inside = omega (arith, h .0 .short); small = h .0 .small }, room-next _ _ (h .1) (step whole (c .before .before .before .before .put .ensures)) refl)
+
+put-requires-2 : tie.Need-put-requires-2
+put-requires-2 c κs =
+    let a = c .before .before .before .before .before .before .before .before .before .before .before .before .args in
+    let h = c .before .before .before .before .before .before .before .before .before .before .before .before .pre in
+    let whole = start-as _ _ (a .at) (a .page .now) (text-entry (entryIn (a .e))) in
+    room-next _ _ (h .1) (step (step whole (c .before .before .before .before .before .before .before .before .put .ensures)) (c .before .before .before .put-permutation .ensures)) refl
+
+put-gaps-requires : tie.Need-put-gaps-requires
+put-gaps-requires c κs =
+    let a = c .before .before .before .before .before .before .before .before .before .before .before .before .before .before .before .before .args in
+    let h = c .before .before .before .before .before .before .before .before .before .before .before .before .before .before .before .before .pre in
+    let whole = start-as _ _ (a .at) (a .page .now) (text-entry (entryIn (a .e))) in
+    (h .0, room-next _ _ (h .1) (step (step (step whole (c .before .before .before .before .before .before .before .before .before .before .before .before .put .ensures)) (c .before .before .before .before .before .before .before .put-permutation .ensures)) (c .before .before .before .put2 .ensures)) refl)
+
+put-requires-3 : tie.Need-put-requires-3
+put-requires-3 c κs =
+    let a = c .before .before .before .before .before .before .before .before .before .before .before .before .before .before .before .before .before .before .before .before .args in
+    let h = c .before .before .before .before .before .before .before .before .before .before .before .before .before .before .before .before .before .before .before .before .pre in
+    let whole = start-as _ _ (a .at) (a .page .now) (text-entry (entryIn (a .e))) in
+    room-next _ _ (h .1) (step (step (step (step whole (c .before .before .before .before .before .before .before .before .before .before .before .before .before .before .before .before .put .ensures)) (c .before .before .before .before .before .before .before .before .before .before .before .put-permutation .ensures)) (c .before .before .before .before .before .before .before .put2 .ensures)) (c .before .before .before .put-gaps .ensures)) refl
+
+put-rule-requires : tie.Need-put-rule-requires
+put-rule-requires c κs =
+    let a = c .before .before .before .before .before .before .before .before .before .before .before .before .before .before .before .before .before .before .before .before .before .before .before .before .args in
+    let h = c .before .before .before .before .before .before .before .before .before .before .before .before .before .before .before .before .before .before .before .before .before .before .before .before .pre in
+    let whole = start-as _ _ (a .at) (a .page .now) (text-entry (entryIn (a .e))) in
+    (h .0 .rule, room-next _ _ (h .1) (step (step (step (step (step whole (c .before .before .before .before .before .before .before .before .before .before .before .before .before .before .before .before .before .before .before .before .put .ensures)) (c .before .before .before .before .before .before .before .before .before .before .before .before .before .before .before .put-permutation .ensures)) (c .before .before .before .before .before .before .before .before .before .before .before .put2 .ensures)) (c .before .before .before .before .before .before .before .put-gaps .ensures)) (c .before .before .before .put3 .ensures)) refl)
+
+put-requires-4 : tie.Need-put-requires-4
+put-requires-4 c κs =
+    let a = c .before .before .before .before .before .before .before .before .before .before .before .before .before .before .before .before .before .before .before .before .before .before .before .before .before .before .before .before .args in
+    let h = c .before .before .before .before .before .before .before .before .before .before .before .before .before .before .before .before .before .before .before .before .before .before .before .before .before .before .before .before .pre in
+    let whole = start-as _ _ (a .at) (a .page .now) (text-entry (entryIn (a .e))) in
+    room-last (h .1) (step (step (step (step (step (step whole (c .before .before .before .before .before .before .before .before .before .before .before .before .before .before .before .before .before .before .before .before .before .before .before .before .put .ensures)) (c .before .before .before .before .before .before .before .before .before .before .before .before .before .before .before .before .before .before .before .put-permutation .ensures)) (c .before .before .before .before .before .before .before .before .before .before .before .before .before .before .before .put2 .ensures)) (c .before .before .before .before .before .before .before .before .before .before .before .put-gaps .ensures)) (c .before .before .before .before .before .before .before .put3 .ensures)) (c .before .before .before .put-rule .ensures))
+
+same-length : tie.Need-same-length
+same-length c = search needs
+
+returns : tie.Need-returns
+returns c =
+    let a = c .before .before .before .before .before .before .before .before .before .before .before .before .before .before .before .before .before .before .before .before .before .before .before .before .before .before .before .before .before .before .before .args in
+    let h = c .before .before .before .before .before .before .before .before .before .before .before .before .before .before .before .before .before .before .before .before .before .before .before .before .before .before .before .before .before .before .before .pre in
+    let whole = start-as _ _ (a .at) (a .page .now) (text-entry (entryIn (a .e))) in
+    finish-by (step (step (step (step (step (step whole (c .before .before .before .before .before .before .before .before .before .before .before .before .before .before .before .before .before .before .before .before .before .before .before .before .before .before .before .put .ensures)) (c .before .before .before .before .before .before .before .before .before .before .before .before .before .before .before .before .before .before .before .before .before .before .put-permutation .ensures)) (c .before .before .before .before .before .before .before .before .before .before .before .before .before .before .before .before .before .before .put2 .ensures)) (c .before .before .before .before .before .before .before .before .before .before .before .before .before .before .put-gaps .ensures)) (c .before .before .before .before .before .before .before .before .before .before .put3 .ensures)) (c .before .before .before .before .before .before .put-rule .ensures)) (c .before .before .put4 .ensures)
+
+pub put-entry-spec : {M : Type 1} → statement M
+put-entry-spec =
+    tie.close
+    (tie.spec
+    put-requires
+    slice-aggregate-put-permutation
+    put-permutation-requires
+    put-requires-2
+    put-gaps-requires
+    put-requires-3
+    put-rule-requires
+    put-requires-4
+    same-length
+    returns)

@@ -1,0 +1,64 @@
+-- `text_writer::writing::put_mark` meets its contract: what is still to come are the bytes of the mark from the index on.
+-- Assumes nothing.
+use Prim.Native.Nat.{_-_}
+use borrow.Author.Needs.{needs}
+use native.Mathlib.Numerals.{add-one}
+use lib.ListN.{length, drop, drop-of-length-le}
+use lib.Seq.{drop-cons}
+use Rattle.text_writer.specs.PageLaws.{ToCome, start, step, again, finish, same-size, room-next}
+use Rattle.text_writer.proofs.writing.put_mark.Statement.{statement}
+use Rattle.text_writer.proofs.writing.put_mark.Tie as tie
+
+abbrev Inv-loop : tie.InvT-loop
+Inv-loop page₀ at mark next₀ i₀ page next i = ToCome mark at page₀ (drop i mark) next page
+
+abbrev μ-loop : tie.MeasureT-loop
+μ-loop page₀ at mark next₀ i₀ page next i = length mark - i
+
+loop-holds : tie.Need-loop-holds Inv-loop μ-loop
+loop-holds c = start _ _ _
+
+shared-slice-read-put : tie.Need-shared-slice-read-put Inv-loop μ-loop
+shared-slice-read-put c = search needs
+
+put-requires : tie.Need-put-requires Inv-loop μ-loop
+put-requires c κs =
+    let a = c .before .before .before .before .before .before .args in
+    let l = c .before .before .before .loop in
+    room-next _ _ (c .before .before .before .before .before .before .pre) (l .inv) (drop-cons (a .mark .now) (l .i) 0 (search needs))
+
+add-i : tie.Need-add-i Inv-loop μ-loop
+add-i c = search needs
+
+loop-less : tie.Need-loop-less Inv-loop μ-loop
+loop-less c = search needs
+
+loop-again : tie.Need-loop-again Inv-loop μ-loop
+loop-again c =
+    let a = c .before .before .before .before .before .before .before .before .before .args in
+    let l = c .before .before .before .before .before .before .loop in
+    rw (add-one (l .i)) (step (again (l .inv) (drop-cons (a .mark .now) (l .i) 0 (search needs))) (c .before .before .put .ensures))
+
+same-length : tie.Need-same-length Inv-loop μ-loop
+same-length c = same-size (c .before .loop .inv)
+
+returns : tie.Need-returns Inv-loop μ-loop
+returns c =
+    let a = c .before .before .before .before .args in
+    let l = c .before .loop in
+    finish (again (l .inv) (drop-of-length-le (a .mark .now) {i = l .i} (search needs)))
+
+pub put-mark-spec : {M : Type 1} → statement M
+put-mark-spec =
+    tie.close
+    (tie.spec
+    Inv-loop
+    μ-loop
+    loop-holds
+    shared-slice-read-put
+    put-requires
+    add-i
+    loop-less
+    loop-again
+    same-length
+    returns)

@@ -1,0 +1,77 @@
+-- `text_writer::writing::put_patterns` meets its contract: no patterns are ∅, and others an opening brace, the first, the further ones and a closing brace.
+-- Assumes nothing.
+use mathlib.Core.Path.{refl, sym}
+use borrow.Author.Needs.{needs}
+use Rattle.text_writer.specs.PageLaws.{start-as, step, finish-by, room-next, room-last, writes-as}
+use Rattle.text_writer.specs.WrittenLaws.{text-patterns, text-no-patterns}
+use Rattle.text_writer.specs.RoomLaws.{room-patterns}
+use Rattle.text_writer.proofs.writing.put_patterns.Statement.{statement}
+use Rattle.text_writer.proofs.writing.put_patterns.Tie as tie
+
+slice-aggregate-put-mark : tie.Need-slice-aggregate-put-mark
+slice-aggregate-put-mark c = search needs
+
+put-mark-requires : tie.Need-put-mark-requires
+put-mark-requires c κs = search needs
+
+same-length : tie.Need-same-length
+same-length c = search needs
+
+returns : tie.Need-returns
+returns c =
+    writes-as (c .before .before .put-mark .ensures) (sym (text-no-patterns (c .before .before .before .before .before .before .before .before .before .args .s) (c .before .before .before .before .before .if1 .taken)))
+
+put-requires : tie.Need-put-requires
+put-requires c κs = search needs
+
+array-copy-out-put-pattern : tie.Need-array-copy-out-put-pattern
+array-copy-out-put-pattern c = search needs
+
+put-pattern-requires : tie.Need-put-pattern-requires
+put-pattern-requires c κs =
+    let a = c .before .before .before .before .before .before .before .before .before .before .args in
+    let h = c .before .before .before .before .before .before .before .before .before .before .pre in
+    let room = room-patterns (a .s) (a .at) (h .0) (h .1) in
+    let whole = start-as _ _ (a .at) (a .page .now) (text-patterns (a .s) (c .before .before .before .before .before .before .if1 .left)) in
+    (h .0 .fit 0 (search needs), room-next _ _ room (step whole (c .before .before .before .before .put .ensures)) refl)
+
+put-further-patterns-requires : tie.Need-put-further-patterns-requires
+put-further-patterns-requires c κs =
+    let a = c .before .before .before .before .before .before .before .before .before .before .before .before .before .before .args in
+    let h = c .before .before .before .before .before .before .before .before .before .before .before .before .before .before .pre in
+    let room = room-patterns (a .s) (a .at) (h .0) (h .1) in
+    let whole = start-as _ _ (a .at) (a .page .now) (text-patterns (a .s) (c .before .before .before .before .before .before .before .before .before .before .if1 .left)) in
+    (h .0, search needs, room-next _ _ room (step (step whole (c .before .before .before .before .before .before .before .before .put .ensures)) (c .before .before .before .put-pattern .ensures)) refl)
+
+put-requires-2 : tie.Need-put-requires-2
+put-requires-2 c κs =
+    let a = c .before .before .before .before .before .before .before .before .before .before .before .before .before .before .before .before .before .before .args in
+    let h = c .before .before .before .before .before .before .before .before .before .before .before .before .before .before .before .before .before .before .pre in
+    let room = room-patterns (a .s) (a .at) (h .0) (h .1) in
+    let whole = start-as _ _ (a .at) (a .page .now) (text-patterns (a .s) (c .before .before .before .before .before .before .before .before .before .before .before .before .before .before .if1 .left)) in
+    room-last room (step (step (step whole (c .before .before .before .before .before .before .before .before .before .before .before .before .put .ensures)) (c .before .before .before .before .before .before .before .put-pattern .ensures)) (c .before .before .before .put-further-patterns .ensures))
+
+same-length-2 : tie.Need-same-length-2
+same-length-2 c = search needs
+
+returns-2 : tie.Need-returns-2
+returns-2 c =
+    let a = c .before .before .before .before .before .before .before .before .before .before .before .before .before .before .before .before .before .before .before .before .before .args in
+    let whole = start-as _ _ (a .at) (a .page .now) (text-patterns (a .s) (c .before .before .before .before .before .before .before .before .before .before .before .before .before .before .before .before .before .if1 .left)) in
+    finish-by (step (step (step whole (c .before .before .before .before .before .before .before .before .before .before .before .before .before .before .before .put .ensures)) (c .before .before .before .before .before .before .before .before .before .before .put-pattern .ensures)) (c .before .before .before .before .before .before .put-further-patterns .ensures)) (c .before .before .put2 .ensures)
+
+pub put-patterns-spec : {M : Type 1} → statement M
+put-patterns-spec =
+    tie.close
+    (tie.spec
+    slice-aggregate-put-mark
+    put-mark-requires
+    same-length
+    returns
+    put-requires
+    array-copy-out-put-pattern
+    put-pattern-requires
+    put-further-patterns-requires
+    put-requires-2
+    same-length-2
+    returns-2)

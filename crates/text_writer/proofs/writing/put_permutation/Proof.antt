@@ -1,0 +1,51 @@
+-- `text_writer::writing::put_permutation` meets its contract: the text of no digits is ε, and that of some digits is theirs.
+-- Assumes nothing.
+use mathlib.Core.Path.{sym}
+use borrow.Author.Needs.{needs}
+use Rattle.text_writer.specs.PageLaws.{room-as, writes-as}
+use Rattle.text_writer.specs.WrittenLaws.{perm-none, perm-some}
+use Rattle.text_writer.proofs.writing.put_permutation.Statement.{statement}
+use Rattle.text_writer.proofs.writing.put_permutation.Tie as tie
+
+slice-aggregate-put-mark : tie.Need-slice-aggregate-put-mark
+slice-aggregate-put-mark c = search needs
+
+put-mark-requires : tie.Need-put-mark-requires
+put-mark-requires c κs =
+    let a = c .before .before .before .before .before .args in
+    room-as (c .before .before .before .before .before .pre .1) (perm-none (a .n) (a .run .now) (c .before .before .if1 .taken))
+
+same-length : tie.Need-same-length
+same-length c = search needs
+
+returns : tie.Need-returns
+returns c =
+    let a = c .before .before .before .before .before .before .before .before .args in
+    writes-as (c .before .before .put-mark .ensures) (sym (perm-none (a .n) (a .run .now) (search needs)))
+
+put-digits-requires : tie.Need-put-digits-requires
+put-digits-requires c κs =
+    let a = c .before .before .before .before .args in
+    let p = c .before .before .before .before .pre in
+    (p .0, room-as (p .1) (perm-some (a .n) (a .run .now) (p .0 .inside) (search needs)))
+
+same-length-2 : tie.Need-same-length-2
+same-length-2 c = search needs
+
+returns-2 : tie.Need-returns-2
+returns-2 c =
+    let a = c .before .before .before .before .before .before .before .args in
+    let p = c .before .before .before .before .before .before .before .pre in
+    writes-as (c .before .before .put-digits .ensures) (sym (perm-some (a .n) (a .run .now) (p .0 .inside) (search needs)))
+
+pub put-permutation-spec : {M : Type 1} → statement M
+put-permutation-spec =
+    tie.close
+    (tie.spec
+    slice-aggregate-put-mark
+    put-mark-requires
+    same-length
+    returns
+    put-digits-requires
+    same-length-2
+    returns-2)

@@ -1,0 +1,54 @@
+-- `text_writer::writing::put_rule` meets its contract: by the two cases of a rule.
+-- Assumes nothing.
+use mathlib.Core.Path.{sym, ap}
+use borrow.Author.Needs.{needs}
+use Rattle.scheme.specs.SchemeMemory.{doesOf}
+use Rattle.scheme.specs.declared.memory.Rule.{Rule}
+use Rattle.text_grammar.specs.Spelling.{rulePieces}
+use Rattle.text_writer.specs.Writable.{text}
+use Rattle.text_writer.specs.PageLaws.{room-as, writes-as}
+use Rattle.text_writer.proofs.writing.put_rule.Statement.{statement}
+use Rattle.text_writer.proofs.writing.put_rule.Tie as tie
+
+enum-told : tie.Need-enum-told
+enum-told c = search needs
+
+slice-aggregate-put-mark : tie.Need-slice-aggregate-put-mark
+slice-aggregate-put-mark c = search needs
+
+put-mark-requires : tie.Need-put-mark-requires
+put-mark-requires c κs = room-as (c .before .before .before .before .before .pre .1) (ap (λ (r : Rule). text (rulePieces (doesOf r))) (c .before .before .enum-told .given .1))
+
+enum-known-rule : tie.Need-enum-known-rule
+enum-known-rule c = search needs
+
+put-deleted-requires : tie.Need-put-deleted-requires
+put-deleted-requires c κs =
+    let told = c .before .before .rule .given in
+    (c .before .before .before .before .before .pre .0 .short (told .0 .0) (told .1), room-as (c .before .before .before .before .before .pre .1) (ap (λ (r : Rule). text (rulePieces (doesOf r))) (told .1)))
+
+same-length : tie.Need-same-length
+same-length c = search needs
+
+returns : tie.Need-returns
+returns c = writes-as (c .before .before .put-mark .ensures) (sym (ap (λ (r : Rule). text (rulePieces (doesOf r))) (c .before .before .before .before .before .enum-told .given .1)))
+
+same-length-2 : tie.Need-same-length-2
+same-length-2 c = search needs
+
+returns-2 : tie.Need-returns-2
+returns-2 c = writes-as (c .before .before .put-deleted .ensures) (sym (ap (λ (r : Rule). text (rulePieces (doesOf r))) (c .before .before .before .before .before .rule .given .1)))
+
+pub put-rule-spec : {M : Type 1} → statement M
+put-rule-spec =
+    tie.close
+    (tie.spec
+    enum-told
+    slice-aggregate-put-mark
+    put-mark-requires
+    enum-known-rule
+    put-deleted-requires
+    same-length
+    returns
+    same-length-2
+    returns-2)

@@ -1,0 +1,197 @@
+-- Laws of the texts that the writer's parts write: items with commas between them, items in braces, the first numbers of an array.
+use Prim.Native.Nat.{ℕ, zero, suc, _+_, _-_, _/_, _%_, _≤_, _<_}
+use native.Mathlib.Numerals.{add-one}
+use borrow.Author.Tests.{lt-ltb, le-ltb}
+use native.Mathlib.Omega.{arith}
+use mathlib.Core.Path.{_≡_, refl, sym, ap, _∙_}
+use mathlib.Core.List.{List, [], _∷_, _++_, map, map-map, append-assoc, append-nil}
+use lib.ListN.{length, getD, take, drop, replicate}
+use lib.Seq.{drop-cons, take-append-le}
+use Rattle.word.specs.Lists.{each, row}
+use Rattle.scheme.specs.SchemeMemory.{padded, patternIn, patternsIn, gapIn, entryIn, schemeIn, noPattern, noGap, noEntry}
+use Rattle.scheme.specs.SchemeList.{EntryList, deletes}
+use Rattle.scheme.specs.declared.memory.Patterns.{Patterns}
+use Rattle.scheme.specs.declared.memory.Entry.{Entry}
+use Rattle.scheme.specs.declared.memory.Scheme.{Scheme}
+use Rattle.text_grammar.specs.Spelling.{Token, bytesOf, byte, digits, epsilon, empty, left, right, comma, separated, braced, permPiece, numeral, vectorPieces, rulePieces, entryPieces}
+use Rattle.text_grammar.specs.Spelling.{writtenPatterns, writtenScheme}
+use Rattle.text_writer.specs.Writable.{text, next, further, number, patternAt, vectorAt, gapPieces, entryAt}
+
+module _ {A B : Type 0} where
+  pub each-append : (f : A → List B) (l m : List A) → each f (l ++ m) ≡ each f l ++ each f m
+  each-append f [] m = refl
+  each-append f (x ∷ l) m = rw (each-append f l m) (sym (append-assoc (f x) (each f l) (each f m)))
+
+-- a row with an element has its first and the row after it
+pub row-cons : (i n : ℕ) → i < n → row i (n - i) ≡ i ∷ row (i + 1) (n - (i + 1))
+row-cons i n h = go (n - i) (n - (i + 1)) (omega arith)
+  where
+    go : (a b : ℕ) → a ≡ suc b → row i a ≡ i ∷ row (i + 1) b
+    go a b e = rw (e, add-one i) refl
+
+pub row-end : (i n : ℕ) → n ≤ i → row i (n - i) ≡ []
+row-end i n h = go (n - i) (omega arith)
+  where
+    go : (a : ℕ) → a ≡ 0 → row i a ≡ []
+    go a e = rw e refl
+
+-- the first items, by their places
+
+pub take-row : (l : List ℕ) (i n : ℕ) → i + n ≤ length l → take n (drop i l) ≡ map (λ k. getD l k 0) (row i n)
+take-row l i zero h = refl
+take-row l i (suc n) h =
+    let k : i < length l = omega arith in
+    rw (drop-cons l i 0 k) (ap (λ (r : List ℕ). getD l i 0 ∷ r) (take-row l (suc i) n (omega arith)))
+
+pub padded-row : (n : ℕ) (l : List ℕ) → n ≤ length l → padded n l ≡ map (λ k. getD l k 0) (row 0 n)
+padded-row n l h = take-append-le n l (replicate n 0) h ∙ take-row l 0 n (omega arith)
+
+-- the bytes of the digits at these places
+abbrev pub shown : List ℕ → List ℕ → List ℕ
+shown l is = map (λ k. 48 + getD l k 0) is
+
+pub shown-start : (n : ℕ) (l : List ℕ) → n ≤ length l → bytesOf (digits (padded n l)) ≡ shown l (row 0 (n - 0))
+shown-start n l h =
+    let e : n - 0 ≡ n = omega arith in
+    rw (e, padded-row n l h) (map-map (λ (d : ℕ). 48 + d) (λ (k : ℕ). getD l k 0) (row 0 n))
+
+pub shown-step : (l : List ℕ) (i n : ℕ) → i < n → shown l (row i (n - i)) ≡ ((48 + getD l i 0) ∷ []) ++ shown l (row (i + 1) (n - (i + 1)))
+shown-step l i n h = ap (shown l) (row-cons i n h)
+
+pub shown-end : (l : List ℕ) (i n : ℕ) → n ≤ i → shown l (row i (n - i)) ≡ []
+shown-end l i n h = ap (shown l) (row-end i n h)
+
+-- a permutation: ε, or its digits
+
+pub perm-none : (n : ℕ) (l : List ℕ) → n ≡ 0 → bytesOf (permPiece (padded n l)) ≡ bytesOf epsilon
+perm-none n l e = rw e refl
+
+pub perm-some : (n : ℕ) (l : List ℕ) → n ≤ length l → (n ≡ 0 → ⊥) → bytesOf (permPiece (padded n l)) ≡ bytesOf (digits (padded n l))
+perm-some zero l h k = absurd (k refl)
+perm-some (suc n) l h k = rw (padded-row (suc n) l h) refl
+
+-- the bytes of one piece
+pub text-one : (t : Token) → text (t ∷ []) ≡ bytesOf t
+text-one t = append-nil (bytesOf t)
+
+-- items with a comma before each
+
+pub further-step : (f : ℕ → List Token) (i n : ℕ) → i < n → further f i (n - i) ≡ next f i ++ further f (i + 1) (n - (i + 1))
+unfolding further
+further-step f i n h = go (n - i) (n - (i + 1)) (omega arith)
+  where
+    go : (a b : ℕ) → a ≡ suc b → further f i a ≡ next f i ++ further f (i + 1) b
+    go a b e = rw (e, add-one i) refl
+
+pub further-end : (f : ℕ → List Token) (i n : ℕ) → n ≤ i → further f i (n - i) ≡ []
+unfolding further
+further-end f i n h = go (n - i) (omega arith)
+  where
+    go : (a : ℕ) → a ≡ 0 → further f i a ≡ []
+    go a e = rw e refl
+
+-- the items from 1 up to a last place
+pub further-up-to : (f : ℕ → List Token) (n : ℕ) → further f 1 n ≡ further f 1 (n + 1 - 1)
+further-up-to f n =
+    let e : n ≡ n + 1 - 1 = omega arith in
+    ap (further f 1) e
+
+-- the first item, then a comma and an item for each further one
+pub text-separated : (f : ℕ → List Token) (i n : ℕ) → text (separated (map f (row i (suc n)))) ≡ text (f i) ++ further f (suc i) n
+unfolding further
+text-separated f i zero = sym (append-nil (text (f i)))
+text-separated f i (suc n) =
+    each-append bytesOf (f i) (comma ∷ separated (map f (row (suc i) (suc n)))) ∙
+    ap (λ (r : List ℕ). text (f i) ++ (0x2C ∷ r)) (text-separated f (suc i) n)
+
+-- the same, between an opening and a closing part
+pub text-between : (f : ℕ → List Token) (before after : Token) (n : ℕ) → 0 < n →
+    text (before ∷ (separated (map f (row 0 n)) ++ (after ∷ []))) ≡ bytesOf before ++ (text (f 0) ++ (further f 1 (n - 1) ++ bytesOf after))
+text-between f before after zero h = absurd (omega arith)
+text-between f before after (suc n) h =
+    let e : suc n - 1 ≡ n = omega arith in
+    ap (λ (r : List ℕ). bytesOf before ++ r)
+    (each-append bytesOf (separated (map f (row 0 (suc n)))) (after ∷ []) ∙
+    rw (e, text-separated f 0 n, append-nil (bytesOf after), append-assoc (text (f 0)) (further f 1 n) (bytesOf after)) refl)
+
+pub text-braced : (f : ℕ → List Token) (n : ℕ) → 0 < n →
+    text (braced (map f (row 0 n))) ≡ (0x7B ∷ []) ++ (text (f 0) ++ (further f 1 (n - 1) ++ (0x7D ∷ [])))
+text-braced f zero h = absurd (omega arith)
+text-braced f (suc n) h = text-between f (byte 0x7B) (byte 0x7D) (suc n) h
+
+-- a vector's text, by the components in memory
+pub text-vector : (n : ℕ) (l : List ℕ) → 0 < n → n ≤ length l →
+    text (vectorPieces (padded n l)) ≡
+    bytesOf left ++ (text (number l 0) ++ (further (number l) 1 (n - 1) ++ bytesOf right))
+text-vector n l h k =
+    rw (padded-row n l k, map-map (λ (m : ℕ). digits (numeral m) ∷ []) (λ (j : ℕ). getD l j 0) (row 0 n)) (text-between (number l) left right n h)
+
+-- a number of up to three digits
+
+pub numeral-one : (n : ℕ) → n < 10 → bytesOf (digits (numeral n)) ≡ (48 + n) ∷ []
+numeral-one n h = rw (lt-ltb n 10 h) refl
+
+pub numeral-two : (n : ℕ) → 10 ≤ n → n < 100 → bytesOf (digits (numeral n)) ≡ ((48 + n / 10) ∷ []) ++ ((48 + n % 10) ∷ [])
+numeral-two n h k = rw (le-ltb n 10 h, lt-ltb n 100 k) refl
+
+pub numeral-three : (n : ℕ) → 100 ≤ n →
+    bytesOf (digits (numeral n)) ≡ ((48 + n / 100) ∷ []) ++ (((48 + n / 10 % 10) ∷ []) ++ ((48 + n % 10) ∷ []))
+numeral-three n h =
+    let k : 10 ≤ n = omega arith in
+    rw (le-ltb n 10 k, le-ltb n 100 h) refl
+
+-- a set of patterns, by the patterns in memory
+
+pub patterns-map : (s : Patterns) → writtenPatterns (patternsIn s) ≡ text (braced (map (patternAt (s .items)) (row 0 (s .count))))
+patterns-map s =
+    ap (λ (l : List (List Token)). text (braced l))
+    (map-map (λ (p : List ℕ). permPiece p ∷ []) (λ (i : ℕ). patternIn (getD (s .items) i noPattern)) (row 0 (s .count)))
+
+pub text-patterns : (s : Patterns) → (s .count ≡ 0 → ⊥) →
+    writtenPatterns (patternsIn s) ≡ (0x7B ∷ []) ++ (text (patternAt (s .items) 0) ++ (further (patternAt (s .items)) 1 (s .count - 1) ++ (0x7D ∷ [])))
+text-patterns s h = patterns-map s ∙ text-braced (patternAt (s .items)) (s .count) (omega arith)
+
+pub text-no-patterns : (s : Patterns) → s .count ≡ 0 → writtenPatterns (patternsIn s) ≡ bytesOf empty
+text-no-patterns s e = patterns-map s ∙ rw e refl
+
+-- the gap vectors of an entry
+
+pub gaps-map : (e : Entry) → text (gapPieces e) ≡ text (braced (map (vectorAt (e .gaps)) (row 0 (e .«gap_count»))))
+gaps-map e =
+    ap (λ (l : List (List Token)). text (braced l))
+    (map-map vectorPieces (λ (i : ℕ). gapIn (getD (e .gaps) i noGap)) (row 0 (e .«gap_count»)))
+
+pub text-gaps : (e : Entry) → (e .«gap_count» ≡ 0 → ⊥) →
+    text (gapPieces e) ≡ (0x7B ∷ []) ++ (text (vectorAt (e .gaps) 0) ++ (further (vectorAt (e .gaps)) 1 (e .«gap_count» - 1) ++ (0x7D ∷ [])))
+text-gaps e h = gaps-map e ∙ text-braced (vectorAt (e .gaps)) (e .«gap_count») (omega arith)
+
+pub text-no-gaps : (e : Entry) → e .«gap_count» ≡ 0 → text (gapPieces e) ≡ bytesOf empty
+text-no-gaps e z = gaps-map e ∙ rw z refl
+
+-- an entry and its rule
+
+pub text-entry : (e : EntryList) →
+    text (entryPieces e) ≡
+    (0x28 ∷ []) ++ (bytesOf (permPiece (e .prefix)) ++ ((0x2C ∷ []) ++ (text (braced (map vectorPieces (e .gaps))) ++
+    ((0x2C ∷ []) ++ (text (rulePieces (e .rule)) ++ (0x29 ∷ []))))))
+text-entry e =
+    ap (λ (r : List ℕ). 0x28 ∷ (bytesOf (permPiece (e .prefix)) ++ (0x2C ∷ r)))
+    (each-append bytesOf (braced (map vectorPieces (e .gaps))) (comma ∷ (rulePieces (e .rule) ++ (byte 0x29 ∷ []))) ∙
+    ap (λ (r : List ℕ). text (braced (map vectorPieces (e .gaps))) ++ (0x2C ∷ r)) (each-append bytesOf (rulePieces (e .rule)) (byte 0x29 ∷ [])))
+
+pub text-deletes : (n : ℕ) → text (rulePieces (deletes n)) ≡ (0x7B ∷ []) ++ (bytesOf (digits (numeral n)) ++ (0x7D ∷ []))
+text-deletes n = refl
+
+-- a scheme, by the entries in memory
+
+pub scheme-map : (s : Scheme) → writtenScheme (schemeIn s) ≡ text (braced (map (entryAt (s .entries)) (row 0 (s .count))))
+scheme-map s =
+    ap (λ (l : List (List Token)). text (braced l))
+    (map-map entryPieces (λ (i : ℕ). entryIn (getD (s .entries) i noEntry)) (row 0 (s .count)))
+
+pub text-scheme : (s : Scheme) → (s .count ≡ 0 → ⊥) →
+    writtenScheme (schemeIn s) ≡ (0x7B ∷ []) ++ (text (entryAt (s .entries) 0) ++ (further (entryAt (s .entries)) 1 (s .count - 1) ++ (0x7D ∷ [])))
+text-scheme s h = scheme-map s ∙ text-braced (entryAt (s .entries)) (s .count) (omega arith)
+
+pub text-no-entries : (s : Scheme) → s .count ≡ 0 → writtenScheme (schemeIn s) ≡ bytesOf empty
+text-no-entries s e = scheme-map s ∙ rw e refl

@@ -1,0 +1,317 @@
+// Writing pattern sets and schemes over a lent page. Bytes behind the end of the page are dropped, so that a run on an empty page gives the length.
+use scheme::memory::Entry;
+use scheme::memory::Gap;
+use scheme::memory::Pattern;
+use scheme::memory::Patterns;
+use scheme::memory::Rule;
+use scheme::memory::Scheme;
+use text_grammar::marks::EMPTY;
+use text_grammar::marks::EPSILON;
+use text_grammar::marks::LEFT;
+use text_grammar::marks::RIGHT;
+ghost use mathlib.Core.Path.{_≡_};
+ghost use mathlib.Core.List.{[], _∷_};
+ghost use Prim.Native.Nat.{_+_, _-_, _≤_};
+ghost use Rattle.scheme.specs.SchemeList.{deletes};
+ghost use Rattle.scheme.specs.SchemeMemory.{padded, patternIn, patternsIn, gapIn, doesOf, entryIn, schemeIn};
+ghost use Rattle.text_grammar.specs.Spelling.{bytesOf, permPiece, digits, numeral, vectorPieces, rulePieces, entryPieces};
+ghost use Rattle.text_grammar.specs.Spelling.{writtenPatterns, writtenScheme};
+ghost use Rattle.text_writer.specs.Page.{Writes};
+ghost use Rattle.text_writer.specs.Writable.{Room, DigitsFit, PatternFits, PatternsFit, GapFits, RuleFits, EntryFits, SchemeFits};
+ghost use Rattle.text_writer.specs.Writable.{text, further, number, patternAt, vectorAt, gapPieces, entryAt};
+
+// Writes one byte.
+fn put(page: &mut [u8], at: usize, b: u8) -> usize
+    requires { ⌜ Room (b ∷ []) at ⌝ }
+    ensures { λ r. ⌜ Writes (b ∷ []) at (now (page .entry)) (now (page .exit)) r ⌝ }
+{
+    if at < page.len() {
+        page[at] = b;
+        return at + 1;
+    }
+    at + 1
+}
+
+// Writes the bytes of a mark.
+fn put_mark(page: &mut [u8], at: usize, mark: &[u8]) -> usize
+    requires { ⌜ Room (now mark) at ⌝ }
+    ensures { λ r. ⌜ Writes (now (mark .entry)) at (now (page .entry)) (now (page .exit)) r ⌝ }
+{
+    let mut next = at;
+    let mut i: usize = 0;
+    while i < mark.len() {
+        next = put(page, next, mark[i]);
+        i += 1;
+    }
+    next
+}
+
+// Writes the first n digits.
+fn put_digits(page: &mut [u8], at: usize, run: &[u8], n: usize) -> usize
+    requires { ⌜ DigitsFit n (now run) × Room (bytesOf (digits (padded n (now run)))) at ⌝ }
+    ensures { λ r. ⌜ Writes (bytesOf (digits (padded n (now (run .entry))))) at (now (page .entry)) (now (page .exit)) r ⌝ }
+{
+    let mut next = at;
+    let mut i: usize = 0;
+    while i < n {
+        next = put(page, next, 48 + run[i]);
+        i += 1;
+    }
+    next
+}
+
+// Writes the permutation of the first n digits: ε where n is 0.
+fn put_permutation(page: &mut [u8], at: usize, run: &[u8], n: usize) -> usize
+    requires { ⌜ DigitsFit n (now run) × Room (bytesOf (permPiece (padded n (now run)))) at ⌝ }
+    ensures { λ r. ⌜ Writes (bytesOf (permPiece (padded n (now (run .entry))))) at (now (page .entry)) (now (page .exit)) r ⌝ }
+{
+    if n == 0 {
+        return put_mark(page, at, &EPSILON);
+    }
+    put_digits(page, at, run, n)
+}
+
+// Writes a pattern.
+fn put_pattern(page: &mut [u8], at: usize, p: Pattern) -> usize
+    requires { ⌜ PatternFits p × Room (text (permPiece (patternIn p) ∷ [])) at ⌝ }
+    ensures { λ r. ⌜ Writes (text (permPiece (patternIn p) ∷ [])) at (now (page .entry)) (now (page .exit)) r ⌝ }
+{
+    let run = p.digits;
+    let n = p.length;
+    put_permutation(page, at, &run, n)
+}
+
+// Writes a comma and a pattern.
+fn put_next_pattern(page: &mut [u8], at: usize, p: Pattern) -> usize
+    requires { ⌜ PatternFits p × Room (0x2C ∷ text (permPiece (patternIn p) ∷ [])) at ⌝ }
+    ensures { λ r. ⌜ Writes (0x2C ∷ text (permPiece (patternIn p) ∷ [])) at (now (page .entry)) (now (page .exit)) r ⌝ }
+{
+    let next = put(page, at, b',');
+    put_pattern(page, next, p)
+}
+
+// Writes the patterns after the first, a comma before each.
+fn put_further_patterns(page: &mut [u8], at: usize, s: Patterns) -> usize
+    requires { ⌜ PatternsFit s × (1 ≤ s .count) × Room (further (patternAt (s .items)) 1 (s .count - 1)) at ⌝ }
+    ensures { λ r. ⌜ Writes (further (patternAt (s .items)) 1 (s .count - 1)) at (now (page .entry)) (now (page .exit)) r ⌝ }
+{
+    let items = s.items;
+    let last_pattern = s.count - 1;
+    let mut next = at;
+    let mut i: usize = 1;
+    while i <= last_pattern {
+        next = put_next_pattern(page, next, items[i]);
+        i += 1;
+    }
+    next
+}
+
+// Writes a set of patterns.
+pub fn put_patterns(page: &mut [u8], at: usize, s: Patterns) -> usize
+    requires { ⌜ PatternsFit s × (at ≤ 1000000) ⌝ }
+    ensures { λ r. ⌜ Writes (writtenPatterns (patternsIn s)) at (now (page .entry)) (now (page .exit)) r ⌝ }
+{
+    let items = s.items;
+    if s.count == 0 {
+        return put_mark(page, at, &EMPTY);
+    }
+    let first = put(page, at, b'{');
+    let second = put_pattern(page, first, items[0]);
+    let last = put_further_patterns(page, second, s);
+    put(page, last, b'}')
+}
+
+// The byte of a digit.
+fn digit(d: usize) -> u8
+    requires { ⌜ d ≤ 9 ⌝ }
+    ensures { λ r. ⌜ r ≡ 48 + d ⌝ }
+{
+    48 + d as u8
+}
+
+// A byte as a number.
+fn wide(x: u8) -> usize
+    ensures { λ r. ⌜ (r ≡ x) × (r ≤ 255) ⌝ }
+{
+    x as usize
+}
+
+// Writes a number of up to three digits.
+fn put_number(page: &mut [u8], at: usize, n: usize) -> usize
+    requires { ⌜ (n ≤ 999) × Room (bytesOf (digits (numeral n))) at ⌝ }
+    ensures { λ r. ⌜ Writes (bytesOf (digits (numeral n))) at (now (page .entry)) (now (page .exit)) r ⌝ }
+{
+    if n < 10 {
+        return put(page, at, digit(n));
+    }
+    if n < 100 {
+        let next = put(page, at, digit(n / 10));
+        return put(page, next, digit(n % 10));
+    }
+    let tens = put(page, at, digit(n / 100));
+    let ones = put(page, tens, digit(n / 10 % 10));
+    put(page, ones, digit(n % 10))
+}
+
+// Writes a component of a gap vector.
+fn put_part(page: &mut [u8], at: usize, x: u8) -> usize
+    requires { ⌜ Room (text (digits (numeral x) ∷ [])) at ⌝ }
+    ensures { λ r. ⌜ Writes (text (digits (numeral x) ∷ [])) at (now (page .entry)) (now (page .exit)) r ⌝ }
+{
+    put_number(page, at, wide(x))
+}
+
+// Writes a comma and a component.
+fn put_next_part(page: &mut [u8], at: usize, x: u8) -> usize
+    requires { ⌜ Room (0x2C ∷ text (digits (numeral x) ∷ [])) at ⌝ }
+    ensures { λ r. ⌜ Writes (0x2C ∷ text (digits (numeral x) ∷ [])) at (now (page .entry)) (now (page .exit)) r ⌝ }
+{
+    let next = put(page, at, b',');
+    put_part(page, next, x)
+}
+
+// Writes the components after the first, a comma before each.
+fn put_further_parts(page: &mut [u8], at: usize, g: Gap) -> usize
+    requires { ⌜ GapFits g × Room (further (number (g .parts)) 1 (g .width - 1)) at ⌝ }
+    ensures { λ r. ⌜ Writes (further (number (g .parts)) 1 (g .width - 1)) at (now (page .entry)) (now (page .exit)) r ⌝ }
+{
+    let parts = g.parts;
+    let n = g.width;
+    let mut next = at;
+    let mut i: usize = 1;
+    while i < n {
+        next = put_next_part(page, next, parts[i]);
+        i += 1;
+    }
+    next
+}
+
+// Writes a gap vector.
+fn put_vector(page: &mut [u8], at: usize, g: Gap) -> usize
+    requires { ⌜ GapFits g × Room (text (vectorPieces (gapIn g))) at ⌝ }
+    ensures { λ r. ⌜ Writes (text (vectorPieces (gapIn g))) at (now (page .entry)) (now (page .exit)) r ⌝ }
+{
+    let parts = g.parts;
+    let first = put_mark(page, at, &LEFT);
+    let second = put_part(page, first, parts[0]);
+    let last = put_further_parts(page, second, g);
+    put_mark(page, last, &RIGHT)
+}
+
+// Writes a comma and a gap vector.
+fn put_next_vector(page: &mut [u8], at: usize, g: Gap) -> usize
+    requires { ⌜ GapFits g × Room (0x2C ∷ text (vectorPieces (gapIn g))) at ⌝ }
+    ensures { λ r. ⌜ Writes (0x2C ∷ text (vectorPieces (gapIn g))) at (now (page .entry)) (now (page .exit)) r ⌝ }
+{
+    let next = put(page, at, b',');
+    put_vector(page, next, g)
+}
+
+// Writes the gap vectors after the first, a comma before each.
+fn put_further_vectors(page: &mut [u8], at: usize, e: Entry) -> usize
+    requires { ⌜ EntryFits e × Room (further (vectorAt (e .gaps)) 1 (e .«gap_count» - 1)) at ⌝ }
+    ensures { λ r. ⌜ Writes (further (vectorAt (e .gaps)) 1 (e .«gap_count» - 1)) at (now (page .entry)) (now (page .exit)) r ⌝ }
+{
+    let gaps = e.gaps;
+    let n = e.gap_count;
+    let mut next = at;
+    let mut i: usize = 1;
+    while i < n {
+        next = put_next_vector(page, next, gaps[i]);
+        i += 1;
+    }
+    next
+}
+
+// Writes the gap vectors of an entry.
+fn put_gaps(page: &mut [u8], at: usize, e: Entry) -> usize
+    requires { ⌜ EntryFits e × Room (text (gapPieces e)) at ⌝ }
+    ensures { λ r. ⌜ Writes (text (gapPieces e)) at (now (page .entry)) (now (page .exit)) r ⌝ }
+{
+    let gaps = e.gaps;
+    if e.gap_count == 0 {
+        return put_mark(page, at, &EMPTY);
+    }
+    let first = put(page, at, b'{');
+    let second = put_vector(page, first, gaps[0]);
+    let last = put_further_vectors(page, second, e);
+    put(page, last, b'}')
+}
+
+// Writes a deleted position.
+fn put_deleted(page: &mut [u8], at: usize, n: usize) -> usize
+    requires { ⌜ (n ≤ 999) × Room (text (rulePieces (deletes n))) at ⌝ }
+    ensures { λ r. ⌜ Writes (text (rulePieces (deletes n))) at (now (page .entry)) (now (page .exit)) r ⌝ }
+{
+    let first = put(page, at, b'{');
+    let last = put_number(page, first, n);
+    put(page, last, b'}')
+}
+
+// Writes a rule.
+fn put_rule(page: &mut [u8], at: usize, rule: Rule) -> usize
+    requires { ⌜ RuleFits rule × Room (text (rulePieces (doesOf rule))) at ⌝ }
+    ensures { λ r. ⌜ Writes (text (rulePieces (doesOf rule))) at (now (page .entry)) (now (page .exit)) r ⌝ }
+{
+    match rule {
+        Rule::Expand => put_mark(page, at, &EMPTY),
+        Rule::Delete(n) => put_deleted(page, at, n),
+    }
+}
+
+// Writes an entry.
+fn put_entry(page: &mut [u8], at: usize, e: Entry) -> usize
+    requires { ⌜ EntryFits e × Room (text (entryPieces (entryIn e))) at ⌝ }
+    ensures { λ r. ⌜ Writes (text (entryPieces (entryIn e))) at (now (page .entry)) (now (page .exit)) r ⌝ }
+{
+    let prefix = e.prefix;
+    let n = e.length;
+    let rule = e.rule;
+    let first = put(page, at, b'(');
+    let second = put_permutation(page, first, &prefix, n);
+    let third = put(page, second, b',');
+    let fourth = put_gaps(page, third, e);
+    let fifth = put(page, fourth, b',');
+    let last = put_rule(page, fifth, rule);
+    put(page, last, b')')
+}
+
+// Writes a comma and an entry.
+fn put_next_entry(page: &mut [u8], at: usize, e: Entry) -> usize
+    requires { ⌜ EntryFits e × Room (0x2C ∷ text (entryPieces (entryIn e))) at ⌝ }
+    ensures { λ r. ⌜ Writes (0x2C ∷ text (entryPieces (entryIn e))) at (now (page .entry)) (now (page .exit)) r ⌝ }
+{
+    let next = put(page, at, b',');
+    put_entry(page, next, e)
+}
+
+// Writes the entries after the first, a comma before each.
+fn put_further_entries(page: &mut [u8], at: usize, s: Scheme) -> usize
+    requires { ⌜ SchemeFits s × (1 ≤ s .count) × Room (further (entryAt (s .entries)) 1 (s .count - 1)) at ⌝ }
+    ensures { λ r. ⌜ Writes (further (entryAt (s .entries)) 1 (s .count - 1)) at (now (page .entry)) (now (page .exit)) r ⌝ }
+{
+    let entries = s.entries;
+    let last_entry = s.count - 1;
+    let mut next = at;
+    let mut i: usize = 1;
+    while i <= last_entry {
+        next = put_next_entry(page, next, entries[i]);
+        i += 1;
+    }
+    next
+}
+
+// Writes a scheme.
+pub fn put_scheme(page: &mut [u8], at: usize, s: Scheme) -> usize
+    requires { ⌜ SchemeFits s × (at ≤ 1000000) ⌝ }
+    ensures { λ r. ⌜ Writes (writtenScheme (schemeIn s)) at (now (page .entry)) (now (page .exit)) r ⌝ }
+{
+    let entries = s.entries;
+    if s.count == 0 {
+        return put_mark(page, at, &EMPTY);
+    }
+    let first = put(page, at, b'{');
+    let second = put_entry(page, first, entries[0]);
+    let last = put_further_entries(page, second, s);
+    put(page, last, b'}')
+}

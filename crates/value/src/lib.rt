@@ -1,1 +1,0 @@
-// The values of a scheme: definitions and theorems only.

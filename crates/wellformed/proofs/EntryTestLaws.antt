@@ -1,0 +1,209 @@
+-- The tests of an entry in memory: what its fields say of the lists that they stand for, and what test 2 leaves of a scheme.
+-- Assumes nothing.
+use Prim.Native.Nat.{ℕ, suc, _+_, _≤_, _<_}
+use mathlib.Core.Path.{_≡_, refl, sym, ap, _∙_}
+use mathlib.Core.Bool.{Bool, true, false, not, _||_}
+use mathlib.Core.List.{List, [], _∷_, map}
+use native.Mathlib.Numerals.{add-one}
+use native.Mathlib.Omega.{arith}
+use lib.Dec.{ltb, eqb}
+use lib.ListN.{length, getD, drop, drop-of-length-le}
+use lib.Seq.{drop-cons, getD-take}
+use borrow.Author.Tests.{ltb-false, lt-ltb, le-ltb, eq-eqb, ne-eqb}
+use Rattle.word.specs.Lists.{any, row}
+use Rattle.word.specs.ListLaws.{any-map}
+use Rattle.word.specs.Finding.{Finding, clean, fault, test, firstFault}
+use Rattle.word.specs.declared.refusal.Refusal.the-variants.{Oversize}
+use Rattle.word.specs.Word.{isPerm}
+use Rattle.cell.specs.Cell.{same, total}
+use Rattle.scheme.specs.SchemeList.{Does, EntryList}
+use Rattle.scheme.specs.WellFormed.{firstAt, listed, repeats, largeGap, largeEntry, twinEntry, wrongWidth, outside}
+use Rattle.scheme.specs.SchemeMemory.{padded, noGap, noEntry, gapIn, doesOf, entryIn, gapAt, entryAt, schemeIn, faultOf}
+use Rattle.scheme.specs.Sized.{SizedEntry, Sized}
+use Rattle.scheme.specs.TestOrder.{seen}
+use Rattle.scheme.specs.declared.memory.Gap.{Gap}
+use Rattle.scheme.specs.declared.memory.Rule.{Rule}
+use Rattle.scheme.specs.declared.memory.Rule.the-variants.{Delete}
+use Rattle.scheme.specs.declared.memory.Entry.{Entry}
+use Rattle.scheme.specs.declared.memory.Scheme.{Scheme}
+use Rattle.scheme.specs.declared.memory.Fault.the-variants.{Clean}
+use Rattle.scheme.specs.TestLaws.{from, first-clean, any-clean, or-left, or-right, length-items, first-start, any-start, single, clean-of}
+use Rattle.scheme.specs.MemoryLaws.{padded-within, length-padded}
+use Rattle.wellformed.specs.Twin.{nearestTwin}
+use Rattle.wellformed.specs.TwinLaws.{nearest-seen}
+
+-- the total of what is left of a vector
+module _ (p : List ℕ) (n : ℕ) (h : n ≤ length p) where
+  pub total-more : (i : ℕ) → i < n → total (drop i (padded n p)) ≡ getD p i 0 + total (drop (i + 1) (padded n p))
+  unfolding total
+  total-more i k =
+      let long : i < length (padded n p) = omega (arith, length-padded n p) in
+      rw (drop-cons (padded n p) i 0 long, add-one i) (ap (λ (x : ℕ). x + total (drop (suc i) (padded n p))) (rw (padded-within n p h) (getD-take n p i 0 k)))
+
+  pub total-none : (i : ℕ) → n ≤ i → total (drop i (padded n p)) ≡ 0
+  unfolding total
+  total-none i k = go (drop i (padded n p)) (drop-of-length-le (padded n p) {i = i} (omega (arith, length-padded n p)))
+    where
+      go : (l : List ℕ) → l ≡ [] → total l ≡ 0
+      go l e = rw e refl
+
+-- a vector that is too wide, and one whose total decides
+module _ (b : Gap) where
+  pub gap-wide : 7 < b .width → largeGap (gapIn b) ≡ true
+  gap-wide h = rw (length-padded (b .width) (b .parts), lt-ltb 7 (b .width) h) refl
+
+  pub gap-by-total : b .width ≤ 7 → largeGap (gapIn b) ≡ ltb 8 (total (gapIn b))
+  gap-by-total h = rw (length-padded (b .width) (b .parts), le-ltb 7 (b .width) h) refl
+
+-- an entry that is too long or has too many vectors, and one whose vectors decide
+module _ (e : Entry) where
+  pub entry-long : 6 < e .length → largeEntry (entryIn e) ≡ true
+  entry-long h = rw (length-padded (e .length) (e .prefix), lt-ltb 6 (e .length) h) refl
+
+  pub entry-many : e .length ≤ 6 → 8 < e .«gap_count» → largeEntry (entryIn e) ≡ true
+  entry-many k h =
+      rw (length-padded (e .length) (e .prefix), le-ltb 6 (e .length) k, length-items (gapAt e) (e .«gap_count»), lt-ltb 8 (e .«gap_count») h) refl
+
+  pub entry-by-gaps : e .length ≤ 6 → e .«gap_count» ≤ 8 → largeEntry (entryIn e) ≡ any largeGap (from (gapAt e) (e .«gap_count») 0)
+  entry-by-gaps k h =
+      rw (length-padded (e .length) (e .prefix), le-ltb 6 (e .length) k, length-items (gapAt e) (e .«gap_count»), le-ltb 8 (e .«gap_count») h)
+      (any-start largeGap (gapAt e) (e .«gap_count»))
+
+-- the width of a vector in test 6
+module _ (e : Entry) where
+  -- a vector has another number of components than one more than the prefix has
+  abbrev pub otherWidth : List ℕ → Bool
+  otherWidth b = not (eqb (length b) (suc (e .length)))
+
+  pub width-by-gaps : wrongWidth (entryIn e) ≡ any otherWidth (from (gapAt e) (e .«gap_count») 0)
+  width-by-gaps = rw (length-padded (e .length) (e .prefix)) (any-start otherWidth (gapAt e) (e .«gap_count»))
+
+  pub width-other : (j : ℕ) → ((getD (e .gaps) j noGap) .width ≡ e .length + 1 → ⊥) → otherWidth (gapAt e j) ≡ true
+  width-other j h =
+      let b = getD (e .gaps) j noGap in
+      rw (length-padded (b .width) (b .parts), ne-eqb (b .width) (suc (e .length)) (λ (q : b .width ≡ suc (e .length)). h (omega arith))) refl
+
+  pub width-right : (j : ℕ) → (getD (e .gaps) j noGap) .width ≡ e .length + 1 → otherWidth (gapAt e j) ≡ false
+  width-right j h =
+      let b = getD (e .gaps) j noGap in
+      rw (length-padded (b .width) (b .parts), eq-eqb (b .width) (suc (e .length)) (omega arith)) refl
+
+-- a deleted position in test 7
+module _ (k : ℕ) (rule : Rule) (r : ℕ) (told : rule ≡ Delete r) where
+  pub outside-none : r < 1 → outside k (doesOf rule) ≡ true
+  outside-none h = rw (told, eq-eqb r 0 (omega arith)) refl
+
+  pub outside-above : 1 ≤ r → outside k (doesOf rule) ≡ ltb k r
+  outside-above h = rw (told, ne-eqb r 0 (λ (q : r ≡ 0). omega arith)) refl
+
+pub outside-length : (n : ℕ) (l : List ℕ) (d : Does) → outside (length (padded n l)) d ≡ outside n d
+outside-length n l d = rw (length-padded n l) refl
+
+-- what tests 7 and 3 ask of an entry: a position outside, a prefix that is no permutation
+abbrev pub misplaced : EntryList → Bool
+misplaced e = outside (length (e .prefix)) (e .rule)
+
+abbrev pub noPerm : EntryList → Bool
+noPerm e = not (isPerm (e .prefix))
+
+-- the empty prefix in test 5
+abbrev pub isRoot : EntryList → Bool
+isRoot e = same [] (e .prefix)
+
+pub root-by-entries : (s : Scheme) → listed (map (λ (e : EntryList). e .prefix) (schemeIn s)) [] ≡ any isRoot (from (entryAt s) (s .count) 0)
+root-by-entries s = any-map (same []) (λ (e : EntryList). e .prefix) (schemeIn s) ∙ any-start isRoot (entryAt s) (s .count)
+
+pub same-empty : (n : ℕ) (l : List ℕ) → n ≡ 0 → same [] (padded n l) ≡ true
+unfolding same
+same-empty n l e = rw e refl
+
+pub same-none : (n : ℕ) (l : List ℕ) → (n ≡ 0 → ⊥) → same [] (padded n l) ≡ false
+unfolding same
+same-none n l h = go (padded n l) (length-padded n l)
+  where
+    go : (q : List ℕ) → length q ≡ n → same [] q ≡ false
+    go [] e = absurd (h (sym e))
+    go (x ∷ q) e = refl
+
+-- the prefixes of the entries before a place, the last first
+abbrev pub before : (ℕ → EntryList) → ℕ → List (List ℕ)
+before g i = map (λ (d : EntryList). d .prefix) (seen g i)
+
+-- whether an earlier entry has the prefix p, from the place of the nearest one
+pub nearest-listed : (p : List ℕ) (g : ℕ → EntryList) (i r : ℕ) → r ≡ nearestTwin (λ j. same p ((g j) .prefix)) i → ltb r i ≡ listed (before g i) p
+nearest-listed p g i r e =
+    ap (λ (n : ℕ). ltb n i) e ∙ nearest-seen (λ (d : EntryList). same p (d .prefix)) g i ∙ sym (any-map (same p) (λ (d : EntryList). d .prefix) (seen g i))
+
+-- a twin by its prefix, and else by its vectors
+module _ (seen : List EntryList) (e : EntryList) where
+  pub twin-prefix : listed (map (λ (d : EntryList). d .prefix) seen) (e .prefix) ≡ true → twinEntry seen e ≡ true
+  twin-prefix h = rw h refl
+
+  pub twin-gaps : listed (map (λ (d : EntryList). d .prefix) seen) (e .prefix) ≡ false → twinEntry seen e ≡ repeats (e .gaps)
+  twin-gaps h = rw h refl
+
+-- whether two lists are the same, from a place on
+module _ (a b : List ℕ) (e : length a ≡ length b) (i : ℕ) where
+  pub same-other : i < length a → (getD a i 0 ≡ getD b i 0 → ⊥) → same (drop i a) (drop i b) ≡ false
+  unfolding same
+  same-other h d =
+      let k : i < length b = omega arith in
+      rw (drop-cons a i 0 h, drop-cons b i 0 k, ne-eqb (getD a i 0) (getD b i 0) d) refl
+
+  pub same-next : i < length a → getD a i 0 ≡ getD b i 0 → same (drop i a) (drop i b) ≡ same (drop (i + 1) a) (drop (i + 1) b)
+  unfolding same
+  same-next h d =
+      let k : i < length b = omega arith in
+      rw (add-one i, drop-cons a i 0 h, drop-cons b i 0 k, eq-eqb (getD a i 0) (getD b i 0) d) refl
+
+  pub same-end : length a ≤ i → same (drop i a) (drop i b) ≡ true
+  unfolding same
+  same-end h =
+      let k : length b ≤ i = omega arith in
+      rw (drop-of-length-le a h, drop-of-length-le b k) refl
+
+-- test 2 of a scheme
+abbrev pub largeFinding : List EntryList → Finding
+largeFinding E = firstFault (test Oversize (ltb 128 (length E)) ∷ firstAt Oversize largeEntry 0 E ∷ [])
+
+module _ (s : Scheme) where
+  pub scheme-many : 128 < s .count → largeFinding (schemeIn s) ≡ fault Oversize 0
+  scheme-many h = rw (length-items (entryAt s) (s .count), lt-ltb 128 (s .count) h) refl
+
+  pub scheme-by-entries : s .count ≤ 128 → largeFinding (schemeIn s) ≡ firstAt Oversize largeEntry 0 (from (entryAt s) (s .count) 0)
+  scheme-by-entries h =
+      rw (length-items (entryAt s) (s .count), le-ltb 128 (s .count) h)
+      (single (firstAt Oversize largeEntry 0 (schemeIn s)) ∙ first-start Oversize largeEntry (entryAt s) (s .count))
+
+-- what test 2 leaves
+clean-test : (b : Bool) (x : Finding) → firstFault (test Oversize b ∷ x ∷ []) ≡ clean → (b ≡ false) × (x ≡ clean)
+clean-test true x e = let z : _≡_ {A = ℕ} 0 1 = cc in absurd (omega arith)
+clean-test false x e = (refl, sym (single x) ∙ e)
+
+sized-entry : (e : Entry) → largeEntry (entryIn e) ≡ false → SizedEntry e
+sized-entry e h =
+    let n = e .«gap_count» in
+    let long = ltb 6 (length (padded (e .length) (e .prefix))) in
+    let many = ltb 8 (length (map (gapAt e) (row 0 n))) in
+    let gaps = any largeGap (map (gapAt e) (row 0 n)) in
+    let rest : many || gaps ≡ false = or-right long (many || gaps) h in
+    let first = ltb-false 6 (length (padded (e .length) (e .prefix))) (or-left long (many || gaps) h) in
+    let second = ltb-false 8 (length (map (gapAt e) (row 0 n))) (or-left many gaps rest) in
+    record {
+      short = omega (arith, first, length-padded (e .length) (e .prefix));
+      few = omega (arith, second, length-items (gapAt e) n);
+      narrow = λ (j : ℕ) (k : j < n).
+          let b = getD (e .gaps) j noGap in
+          let small = any-clean (gapAt e) largeGap n j (or-right many gaps rest) k in
+          let wide = ltb-false 7 (length (gapIn b)) (or-left (ltb 7 (length (gapIn b))) (ltb 8 (total (gapIn b))) small) in
+          omega (arith, wide, length-padded (b .width) (b .parts));
+    }
+
+-- a scheme in which test 2 finds nothing lies within the ceilings
+pub sized-of-clean : (s : Scheme) → Clean ≡ faultOf (largeFinding (schemeIn s)) → Sized s
+sized-of-clean s h =
+    let parts = clean-test (ltb 128 (length (schemeIn s))) (firstAt Oversize largeEntry 0 (schemeIn s)) (clean-of (largeFinding (schemeIn s)) (sym h)) in
+    record {
+      few = omega (arith, ltb-false 128 (length (schemeIn s)) (parts .0), length-items (entryAt s) (s .count));
+      each = λ (i : ℕ) (k : i < s .count). sized-entry (getD (s .entries) i noEntry) (first-clean (entryAt s) Oversize largeEntry (s .count) i (parts .1) k);
+    }

@@ -1,0 +1,80 @@
+-- `wellformed::entry_tests::has_twin_gaps` meets its contract: a vector stands twice if one from the index on does.
+-- Assumes nothing.
+use Prim.Native.Nat.{_+_, _-_, _≤_}
+use mathlib.Core.Path.{_≡_, sym, ap, _∙_}
+use borrow.Author.Needs.{needs}
+use native.Mathlib.Omega.{arith}
+use Rattle.scheme.specs.WellFormed.{repeats}
+use Rattle.scheme.specs.SchemeMemory.{entryIn}
+use Rattle.word.specs.Lists.{any}
+use Rattle.cell.specs.Cell.{same}
+use Rattle.scheme.specs.TestLaws.{from-at, repeats-start, repeats-here, repeats-later, repeats-end, from}
+use Rattle.scheme.specs.SchemeMemory.{gapAt}
+use Rattle.wellformed.proofs.entry_tests.has_twin_gaps.Statement.{statement}
+use Rattle.wellformed.proofs.entry_tests.has_twin_gaps.Tie as tie
+
+abbrev Inv-loop : tie.InvT-loop
+Inv-loop e n j₀ j = (j ≤ n) × (repeats (entryIn e .gaps) ≡ repeats (from (gapAt e) n j))
+
+abbrev μ-loop : tie.MeasureT-loop
+μ-loop e n j₀ j = n - j
+
+loop-holds : tie.Need-loop-holds Inv-loop μ-loop
+loop-holds c = (omega arith, repeats-start (gapAt (c .args .t1)) (c .args .t1 .«gap_count»))
+
+mul-b : tie.Need-mul-b Inv-loop μ-loop
+mul-b c = search needs
+
+element-copy-out-b : tie.Need-element-copy-out-b Inv-loop μ-loop
+element-copy-out-b c = search needs
+
+add-stands-from : tie.Need-add-stands-from Inv-loop μ-loop
+add-stands-from c = search needs
+
+stands-from-requires : tie.Need-stands-from-requires Inv-loop μ-loop
+stands-from-requires c κs =
+    let l = c .before .before .loop in
+    (c .before .before .before .pre, omega arith, c .before .before .before .pre .narrow (l .j) (omega arith))
+
+returns : tie.Need-returns Inv-loop μ-loop
+returns c =
+    let e = c .before .before .before .before .before .args .t1 in
+    let l = c .before .before .before .before .loop in
+    let stands = c .before .stands-from .ensures ∙ ap (any (same (gapAt e (l .j)))) (from-at (gapAt e) (e .«gap_count») (l .j + 1)) in
+    sym (l .inv .1 ∙ repeats-here (gapAt e) (e .«gap_count») (l .j) (omega arith) (sym stands ∙ c .if1 .taken))
+
+add-j : tie.Need-add-j Inv-loop μ-loop
+add-j c = search needs
+
+loop-less : tie.Need-loop-less Inv-loop μ-loop
+loop-less c = search needs
+
+loop-again : tie.Need-loop-again Inv-loop μ-loop
+loop-again c =
+    let e = c .before .before .before .before .before .args .t1 in
+    let l = c .before .before .before .before .loop in
+    let stands = c .before .stands-from .ensures ∙ ap (any (same (gapAt e (l .j)))) (from-at (gapAt e) (e .«gap_count») (l .j + 1)) in
+    (omega arith, l .inv .1 ∙ repeats-later (gapAt e) (e .«gap_count») (l .j) (omega arith) (sym stands ∙ c .if1 .left))
+
+returns-2 : tie.Need-returns-2 Inv-loop μ-loop
+returns-2 c =
+    let e = c .before .before .args .t1 in
+    let l = c .before .loop in
+    sym (l .inv .1 ∙ repeats-end (gapAt e) (e .«gap_count») (l .j) (omega arith))
+
+pub has-twin-gaps-spec : {M : Type 1} → statement M
+has-twin-gaps-spec =
+    tie.close
+    (tie.spec
+    Inv-loop
+    μ-loop
+    loop-holds
+    mul-b
+    element-copy-out-b
+    add-stands-from
+    stands-from-requires
+    returns
+    add-j
+    loop-less
+    loop-again
+    returns-2)

@@ -1,0 +1,80 @@
+-- `wellformed::entry_tests::large_entry` meets its contract: the entry passes a ceiling if a vector from the index on does.
+-- Assumes nothing.
+use Prim.Native.Nat.{_-_, _≤_}
+use mathlib.Core.Path.{_≡_, sym, _∙_}
+use borrow.Author.Needs.{needs}
+use native.Mathlib.Omega.{arith}
+use Rattle.scheme.specs.WellFormed.{largeGap, largeEntry}
+use Rattle.scheme.specs.SchemeMemory.{entryIn}
+use Rattle.word.specs.Lists.{any}
+use Rattle.scheme.specs.TestLaws.{from, any-here, any-later, any-end}
+use Rattle.scheme.specs.SchemeMemory.{gapAt}
+use Rattle.wellformed.proofs.EntryTestLaws.{entry-long, entry-many, entry-by-gaps}
+use Rattle.wellformed.proofs.entry_tests.large_entry.Statement.{statement}
+use Rattle.wellformed.proofs.entry_tests.large_entry.Tie as tie
+
+abbrev Inv-loop : tie.InvT-loop
+Inv-loop e k n j₀ j = (j ≤ n) × (n ≤ 8) × (largeEntry (entryIn e) ≡ any largeGap (from (gapAt e) n j))
+
+abbrev μ-loop : tie.MeasureT-loop
+μ-loop e k n j₀ j = n - j
+
+returns : tie.Need-returns Inv-loop μ-loop
+returns c = sym (entry-long (c .before .args .t1) (c .if1 .taken))
+
+returns-2 : tie.Need-returns-2 Inv-loop μ-loop
+returns-2 c = sym (entry-many (c .before .before .args .t1) (c .before .if1 .left) (c .if2 .taken))
+
+loop-holds : tie.Need-loop-holds Inv-loop μ-loop
+loop-holds c = (omega arith, c .if2 .left, entry-by-gaps (c .before .before .args .t1) (c .before .if1 .left) (c .if2 .left))
+
+mul-b : tie.Need-mul-b Inv-loop μ-loop
+mul-b c = search needs
+
+element-copy-out-b : tie.Need-element-copy-out-b Inv-loop μ-loop
+element-copy-out-b c = search needs
+
+large-gap-requires : tie.Need-large-gap-requires Inv-loop μ-loop
+large-gap-requires c κs = search needs
+
+returns-3 : tie.Need-returns-3 Inv-loop μ-loop
+returns-3 c =
+    let e = c .before .before .before .before .before .before .before .args .t1 in
+    let l = c .before .before .before .before .loop in
+    sym (l .inv .2 ∙ any-here largeGap (gapAt e) (e .«gap_count») (l .j) (omega arith) (sym (c .before .large-gap .ensures) ∙ c .if3 .taken))
+
+add-j : tie.Need-add-j Inv-loop μ-loop
+add-j c = search needs
+
+loop-less : tie.Need-loop-less Inv-loop μ-loop
+loop-less c = search needs
+
+loop-again : tie.Need-loop-again Inv-loop μ-loop
+loop-again c =
+    let e = c .before .before .before .before .before .before .before .args .t1 in
+    let l = c .before .before .before .before .loop in
+    (omega arith, l .inv .1, l .inv .2 ∙ any-later largeGap (gapAt e) (e .«gap_count») (l .j) (omega arith) (sym (c .before .large-gap .ensures) ∙ c .if3 .left))
+
+returns-4 : tie.Need-returns-4 Inv-loop μ-loop
+returns-4 c =
+    let e = c .before .before .before .before .args .t1 in
+    let l = c .before .loop in
+    sym (l .inv .2 ∙ any-end largeGap (gapAt e) (e .«gap_count») (l .j) (omega arith))
+
+pub large-entry-spec : {M : Type 1} → statement M
+large-entry-spec =
+    tie.close
+    (tie.spec
+    Inv-loop
+    μ-loop
+    returns
+    returns-2
+    loop-holds
+    mul-b
+    element-copy-out-b
+    large-gap-requires
+    returns-3
+    add-j
+    loop-less
+    loop-again
+    returns-4)

@@ -1,0 +1,76 @@
+-- `wellformed::entry_tests::large_fault` meets its contract: the first entry at fault is the first one from the index on.
+-- Assumes nothing.
+use Prim.Native.Nat.{_-_, _≤_}
+use mathlib.Core.Path.{_≡_, sym, ap, _∙_}
+use borrow.Author.Needs.{needs}
+use native.Mathlib.Omega.{arith}
+use Rattle.scheme.specs.WellFormed.{firstAt, largeEntry}
+use Rattle.scheme.specs.SchemeMemory.{faultOf, schemeIn}
+use Rattle.word.specs.declared.refusal.Refusal.the-variants.{Oversize}
+use Rattle.scheme.specs.TestLaws.{from, first-here, first-later, first-end}
+use Rattle.scheme.specs.SchemeMemory.{entryAt}
+use Rattle.wellformed.proofs.EntryTestLaws.{largeFinding, scheme-many, scheme-by-entries}
+use Rattle.wellformed.proofs.entry_tests.large_fault.Statement.{statement}
+use Rattle.wellformed.proofs.entry_tests.large_fault.Tie as tie
+
+abbrev Inv-loop : tie.InvT-loop
+Inv-loop s n i₀ i = (i ≤ n) × (n ≤ 128) × (largeFinding (schemeIn s) ≡ firstAt Oversize largeEntry i (from (entryAt s) n i))
+
+abbrev μ-loop : tie.MeasureT-loop
+μ-loop s n i₀ i = n - i
+
+returns : tie.Need-returns Inv-loop μ-loop
+returns c = sym (ap faultOf (scheme-many (c .before .args .t1) (c .if1 .taken)))
+
+loop-holds : tie.Need-loop-holds Inv-loop μ-loop
+loop-holds c = (omega arith, c .if1 .left, scheme-by-entries (c .before .args .t1) (c .if1 .left))
+
+mul-e : tie.Need-mul-e Inv-loop μ-loop
+mul-e c = search needs
+
+element-copy-out-e : tie.Need-element-copy-out-e Inv-loop μ-loop
+element-copy-out-e c = search needs
+
+large-entry-requires : tie.Need-large-entry-requires Inv-loop μ-loop
+large-entry-requires c κs = search needs
+
+returns-2 : tie.Need-returns-2 Inv-loop μ-loop
+returns-2 c =
+    let s = c .before .before .before .before .before .before .args .t1 in
+    let l = c .before .before .before .before .loop in
+    sym (ap faultOf (l .inv .2 ∙ first-here Oversize largeEntry (entryAt s) (s .count) (l .i) (omega arith) (sym (c .before .large-entry .ensures) ∙ c .if2 .taken)))
+
+add-i : tie.Need-add-i Inv-loop μ-loop
+add-i c = search needs
+
+loop-less : tie.Need-loop-less Inv-loop μ-loop
+loop-less c = search needs
+
+loop-again : tie.Need-loop-again Inv-loop μ-loop
+loop-again c =
+    let s = c .before .before .before .before .before .before .args .t1 in
+    let l = c .before .before .before .before .loop in
+    (omega arith, l .inv .1, l .inv .2 ∙ first-later Oversize largeEntry (entryAt s) (s .count) (l .i) (omega arith) (sym (c .before .large-entry .ensures) ∙ c .if2 .left))
+
+returns-3 : tie.Need-returns-3 Inv-loop μ-loop
+returns-3 c =
+    let s = c .before .before .before .args .t1 in
+    let l = c .before .loop in
+    sym (ap faultOf (l .inv .2 ∙ first-end Oversize largeEntry (entryAt s) (s .count) (l .i) (omega arith)))
+
+pub large-fault-spec : {M : Type 1} → statement M
+large-fault-spec =
+    tie.close
+    (tie.spec
+    Inv-loop
+    μ-loop
+    returns
+    loop-holds
+    mul-e
+    element-copy-out-e
+    large-entry-requires
+    returns-2
+    add-i
+    loop-less
+    loop-again
+    returns-3)

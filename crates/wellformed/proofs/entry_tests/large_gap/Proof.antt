@@ -1,0 +1,87 @@
+-- `wellformed::entry_tests::large_gap` meets its contract: the vector passes a ceiling if the sum so far and the total of what is left do.
+-- Assumes nothing.
+use Prim.Native.Nat.{_+_, _-_, _≤_}
+use mathlib.Core.Path.{_≡_, refl, sym, ap, _∙_}
+use borrow.Author.Needs.{needs}
+use native.Mathlib.Omega.{arith}
+use lib.ListN.{length, drop}
+use lib.Dec.{ltb}
+use borrow.Author.Tests.{lt-ltb, le-ltb}
+use Rattle.scheme.specs.WellFormed.{largeGap}
+use Rattle.scheme.specs.SchemeMemory.{padded, gapIn}
+use Rattle.cell.specs.Cell.{total}
+use Rattle.wellformed.proofs.EntryTestLaws.{gap-wide, gap-by-total, total-more, total-none}
+use Rattle.wellformed.proofs.entry_tests.large_gap.Statement.{statement}
+use Rattle.wellformed.proofs.entry_tests.large_gap.Tie as tie
+
+abbrev Inv-loop : tie.InvT-loop
+Inv-loop b n sum₀ i₀ sum i = (sum ≤ 8) × (i ≤ n) × (n ≤ 7) × (n ≡ b .width) × (largeGap (gapIn b) ≡ ltb 8 (sum + total (drop i (padded n (b .parts)))))
+
+abbrev μ-loop : tie.MeasureT-loop
+μ-loop b n sum₀ i₀ sum i = n - i
+
+returns : tie.Need-returns Inv-loop μ-loop
+returns c = sym (gap-wide (c .before .args .t1) (c .if1 .taken))
+
+loop-holds : tie.Need-loop-holds Inv-loop μ-loop
+loop-holds c =
+    let b = c .before .args .t1 in
+    let start : total (gapIn b) ≡ 0 + total (gapIn b) = omega arith in
+    (omega arith, omega arith, c .if1 .left, refl, gap-by-total b (c .if1 .left) ∙ ap (ltb 8) start)
+
+element-copy-out-wide : tie.Need-element-copy-out-wide Inv-loop μ-loop
+element-copy-out-wide c = search needs
+
+wide-requires : tie.Need-wide-requires Inv-loop μ-loop
+wide-requires c κs = search needs
+
+add-sum : tie.Need-add-sum Inv-loop μ-loop
+add-sum c = search needs
+
+returns-2 : tie.Need-returns-2 Inv-loop μ-loop
+returns-2 c =
+    let b = c .before .before .before .before .before .before .args .t1 in
+    let l = c .before .before .before .before .loop in
+    let seven : length (b .parts) ≡ 7 = search needs in
+    let more = total-more (b .parts) (b .width) (omega arith) (l .i) (omega arith) in
+    sym (l .inv .4 ∙ lt-ltb 8 (l .sum + total (drop (l .i) (gapIn b))) (omega (arith, more, c .before .wide .ensures .0)))
+
+add-i : tie.Need-add-i Inv-loop μ-loop
+add-i c = search needs
+
+loop-less : tie.Need-loop-less Inv-loop μ-loop
+loop-less c = search needs
+
+loop-again : tie.Need-loop-again Inv-loop μ-loop
+loop-again c =
+    let b = c .before .before .before .before .before .before .args .t1 in
+    let l = c .before .before .before .before .loop in
+    let seven : length (b .parts) ≡ 7 = search needs in
+    let more = total-more (b .parts) (b .width) (omega arith) (l .i) (omega arith) in
+    let added : l .sum + total (drop (l .i) (gapIn b)) ≡ l .sum + c .before .wide .result + total (drop (l .i + 1) (gapIn b)) = omega (arith, more, c .before .wide .ensures .0) in
+    (omega arith, omega arith, l .inv .2, refl, l .inv .4 ∙ ap (ltb 8) added)
+
+returns-3 : tie.Need-returns-3 Inv-loop μ-loop
+returns-3 c =
+    let b = c .before .before .before .args .t1 in
+    let l = c .before .loop in
+    let seven : length (b .parts) ≡ 7 = search needs in
+    let none = total-none (b .parts) (b .width) (omega arith) (l .i) (omega arith) in
+    sym (l .inv .4 ∙ le-ltb 8 (l .sum + total (drop (l .i) (gapIn b))) (omega (arith, none)))
+
+pub large-gap-spec : {M : Type 1} → statement M
+large-gap-spec =
+    tie.close
+    (tie.spec
+    Inv-loop
+    μ-loop
+    returns
+    loop-holds
+    element-copy-out-wide
+    wide-requires
+    add-sum
+    returns-2
+    add-i
+    loop-less
+    loop-again
+    returns-3)

@@ -1,0 +1,73 @@
+-- `wellformed::entry_tests::width_fault` meets its contract: the first entry at fault is the first one from the index on.
+-- Assumes nothing.
+use Prim.Native.Nat.{_-_, _≤_}
+use mathlib.Core.Path.{_≡_, sym, ap, _∙_}
+use borrow.Author.Needs.{needs}
+use native.Mathlib.Omega.{arith}
+use Rattle.scheme.specs.WellFormed.{firstAt, wrongWidth}
+use Rattle.scheme.specs.SchemeMemory.{faultOf, schemeIn}
+use Rattle.word.specs.declared.refusal.Refusal.the-variants.{Width}
+use Rattle.scheme.specs.TestLaws.{from, first-start, first-here, first-later, first-end}
+use Rattle.scheme.specs.SchemeMemory.{entryAt}
+use Rattle.wellformed.proofs.entry_tests.width_fault.Statement.{statement}
+use Rattle.wellformed.proofs.entry_tests.width_fault.Tie as tie
+
+abbrev Inv-loop : tie.InvT-loop
+Inv-loop s n i₀ i = (i ≤ n) × (firstAt Width wrongWidth 0 (schemeIn s) ≡ firstAt Width wrongWidth i (from (entryAt s) n i))
+
+abbrev μ-loop : tie.MeasureT-loop
+μ-loop s n i₀ i = n - i
+
+loop-holds : tie.Need-loop-holds Inv-loop μ-loop
+loop-holds c = (omega arith, first-start Width wrongWidth (entryAt (c .args .t1)) (c .args .t1 .count))
+
+mul-e : tie.Need-mul-e Inv-loop μ-loop
+mul-e c = search needs
+
+element-copy-out-e : tie.Need-element-copy-out-e Inv-loop μ-loop
+element-copy-out-e c = search needs
+
+wrong-width-requires : tie.Need-wrong-width-requires Inv-loop μ-loop
+wrong-width-requires c κs =
+    let l = c .before .before .loop in
+    c .before .before .before .pre .each (l .i) (omega arith)
+
+returns : tie.Need-returns Inv-loop μ-loop
+returns c =
+    let s = c .before .before .before .before .before .args .t1 in
+    let l = c .before .before .before .before .loop in
+    sym (ap faultOf (l .inv .1 ∙ first-here Width wrongWidth (entryAt s) (s .count) (l .i) (omega arith) (sym (c .before .wrong-width .ensures) ∙ c .if1 .taken)))
+
+add-i : tie.Need-add-i Inv-loop μ-loop
+add-i c = search needs
+
+loop-less : tie.Need-loop-less Inv-loop μ-loop
+loop-less c = search needs
+
+loop-again : tie.Need-loop-again Inv-loop μ-loop
+loop-again c =
+    let s = c .before .before .before .before .before .args .t1 in
+    let l = c .before .before .before .before .loop in
+    (omega arith, l .inv .1 ∙ first-later Width wrongWidth (entryAt s) (s .count) (l .i) (omega arith) (sym (c .before .wrong-width .ensures) ∙ c .if1 .left))
+
+returns-2 : tie.Need-returns-2 Inv-loop μ-loop
+returns-2 c =
+    let s = c .before .before .args .t1 in
+    let l = c .before .loop in
+    sym (ap faultOf (l .inv .1 ∙ first-end Width wrongWidth (entryAt s) (s .count) (l .i) (omega arith)))
+
+pub width-fault-spec : {M : Type 1} → statement M
+width-fault-spec =
+    tie.close
+    (tie.spec
+    Inv-loop
+    μ-loop
+    loop-holds
+    mul-e
+    element-copy-out-e
+    wrong-width-requires
+    returns
+    add-i
+    loop-less
+    loop-again
+    returns-2)

@@ -1,0 +1,72 @@
+-- `wellformed::entry_tests::wrong_width` meets its contract: a vector has another width if one from the index on has.
+-- Assumes nothing.
+use Prim.Native.Nat.{_-_, _≤_}
+use mathlib.Core.Path.{_≡_, sym, _∙_}
+use borrow.Author.Needs.{needs}
+use native.Mathlib.Omega.{arith}
+use Rattle.scheme.specs.WellFormed.{wrongWidth}
+use Rattle.scheme.specs.SchemeMemory.{entryIn}
+use Rattle.word.specs.Lists.{any}
+use Rattle.scheme.specs.TestLaws.{from, any-here, any-later, any-end}
+use Rattle.scheme.specs.SchemeMemory.{gapAt}
+use Rattle.wellformed.proofs.EntryTestLaws.{otherWidth, width-by-gaps, width-other, width-right}
+use Rattle.wellformed.proofs.entry_tests.wrong_width.Statement.{statement}
+use Rattle.wellformed.proofs.entry_tests.wrong_width.Tie as tie
+
+abbrev Inv-loop : tie.InvT-loop
+Inv-loop e k n j₀ j = (j ≤ n) × (wrongWidth (entryIn e) ≡ any (otherWidth e) (from (gapAt e) n j))
+
+abbrev μ-loop : tie.MeasureT-loop
+μ-loop e k n j₀ j = n - j
+
+loop-holds : tie.Need-loop-holds Inv-loop μ-loop
+loop-holds c = (omega arith, width-by-gaps (c .args .t1))
+
+mul-b : tie.Need-mul-b Inv-loop μ-loop
+mul-b c = search needs
+
+element-copy-out-b : tie.Need-element-copy-out-b Inv-loop μ-loop
+element-copy-out-b c = search needs
+
+add-if1 : tie.Need-add-if1 Inv-loop μ-loop
+add-if1 c = search needs
+
+returns : tie.Need-returns Inv-loop μ-loop
+returns c =
+    let e = c .before .before .before .before .args .t1 in
+    let l = c .before .before .before .loop in
+    sym (l .inv .1 ∙ any-here (otherWidth e) (gapAt e) (e .«gap_count») (l .j) (omega arith) (width-other e (l .j) (c .if1 .taken)))
+
+add-j : tie.Need-add-j Inv-loop μ-loop
+add-j c = search needs
+
+loop-less : tie.Need-loop-less Inv-loop μ-loop
+loop-less c = search needs
+
+loop-again : tie.Need-loop-again Inv-loop μ-loop
+loop-again c =
+    let e = c .before .before .before .before .args .t1 in
+    let l = c .before .before .before .loop in
+    (omega arith, l .inv .1 ∙ any-later (otherWidth e) (gapAt e) (e .«gap_count») (l .j) (omega arith) (width-right e (l .j) (c .if1 .left)))
+
+returns-2 : tie.Need-returns-2 Inv-loop μ-loop
+returns-2 c =
+    let e = c .before .before .args .t1 in
+    let l = c .before .loop in
+    sym (l .inv .1 ∙ any-end (otherWidth e) (gapAt e) (e .«gap_count») (l .j) (omega arith))
+
+pub wrong-width-spec : {M : Type 1} → statement M
+wrong-width-spec =
+    tie.close
+    (tie.spec
+    Inv-loop
+    μ-loop
+    loop-holds
+    mul-b
+    element-copy-out-b
+    add-if1
+    returns
+    add-j
+    loop-less
+    loop-again
+    returns-2)

@@ -1,0 +1,3 @@
+-- The definitions of the crate wellformed, and their laws.
+pub mod Twin
+pub mod TwinLaws

@@ -1,6 +1,0 @@
--- The definitions and laws of the crate writer.
-pub mod Page
-pub mod Writable
-pub mod PageLaws
-pub mod TextLaws
-pub mod RoomLaws

@@ -1,0 +1,379 @@
+//! The differential test: the engine against the second implementation, on many inputs from a printed seed.
+//!
+//! `differential [COUNT] [SEED]` makes COUNT random inputs beside the fixed ones. It prints how many there were of each kind, how many were
+//! accepted and refused, and each disagreement with its input. The exit status is 1 where there was a disagreement, a crash or a hang.
+
+use twin::counting::{count, need, plain};
+use twin::engine;
+use twin::guarded::Guarded;
+use twin::inputs::{exact_need, fixed, Case, Maker};
+use twin::judging::judge_texts;
+use twin::listing::Listing;
+use twin::model::{Refusal, LONGEST_PLAIN};
+use twin::notation::{read_patterns, read_scheme, write_patterns, write_scheme};
+use twin::published::published;
+use twin::random::Random;
+use twin::table::table;
+use std::collections::BTreeMap;
+use std::fs;
+use std::path::{Path, PathBuf};
+use std::process::{exit, Command};
+use std::sync::atomic::{AtomicU64, Ordering};
+use std::thread;
+use std::time::{Duration, Instant, SystemTime};
+
+/// The stack that include/judge.h asks of a thread that calls the judge.
+const STACK: usize = 512 * 1024;
+/// A case that takes longer than this is a hang.
+const PATIENCE: u64 = 120;
+
+static STARTED: AtomicU64 = AtomicU64::new(0);
+
+fn main() {
+    let words: Vec<String> = std::env::args().skip(1).collect();
+    fs::create_dir_all(folder()).expect("a folder for the input at work");
+    if words.first().is_some_and(|w| w == "worker") {
+        let number = |i: usize| words[i].parse::<u64>().expect("a number");
+        let (count, seed) = (number(1) as usize, number(2));
+        watch();
+        let run = move || Test::new(seed).run(count);
+        let wrong = thread::Builder::new().stack_size(STACK).spawn(run).expect("a thread").join();
+        exit(!matches!(wrong, Ok(0)) as i32);
+    }
+    let number = |i: usize| words.get(i).map(|w| w.parse::<u64>().unwrap_or_else(|_| usage()));
+    let count = number(0).unwrap_or(20_000);
+    let seed = number(1).unwrap_or_else(|| SystemTime::UNIX_EPOCH.elapsed().map_or(1, |d| d.as_secs()));
+    println!("differential test: {count} random inputs, seed {seed}");
+    let me = std::env::current_exe().expect("the program's own place");
+    let status = Command::new(me).args(["worker", &count.to_string(), &seed.to_string()]).status().expect("the worker");
+    if status.code().is_none() {
+        println!("CRASH: the worker ended with {status}; its input stands in {}", current().display());
+    }
+    exit(!status.success() as i32);
+}
+
+fn usage() -> ! {
+    eprintln!("usage: differential [COUNT] [SEED]");
+    exit(2);
+}
+
+fn folder() -> PathBuf {
+    Path::new(env!("CARGO_MANIFEST_DIR")).join("target")
+}
+
+/// The file that holds the input at work.
+fn current() -> PathBuf {
+    folder().join("current-input")
+}
+
+/// Ends the process where one case takes too long.
+fn watch() {
+    thread::spawn(|| {
+        let (mut seen, mut since) = (0, Instant::now());
+        loop {
+            thread::sleep(Duration::from_secs(1));
+            let now = STARTED.load(Ordering::Relaxed);
+            if now != seen {
+                (seen, since) = (now, Instant::now());
+            }
+            if since.elapsed().as_secs() > PATIENCE {
+                println!("HANG: a case took more than {PATIENCE} seconds; its input stands in {}", current().display());
+                exit(1);
+            }
+        }
+    });
+}
+
+struct Test {
+    seed: u64,
+    /// where the engine's two texts stand
+    texts: [Guarded; 2],
+    kinds: BTreeMap<&'static str, (usize, usize)>,
+    verdicts: BTreeMap<u32, usize>,
+    /// inputs whose claims were judged; the first ones and one in eight of the others are listed
+    claims: usize,
+    listed: usize,
+    counted: usize,
+    wrong: usize,
+    slowest: (Duration, &'static str),
+    /// pairs of lines for the program that judges them, with the lines that it is to print
+    lines: Vec<(Vec<u8>, String)>,
+}
+
+impl Test {
+    fn new(seed: u64) -> Test {
+        let slowest = (Duration::ZERO, "");
+        Test {
+            seed,
+            texts: [Guarded::new(), Guarded::new()],
+            kinds: BTreeMap::new(),
+            verdicts: BTreeMap::new(),
+            claims: 0,
+            listed: 0,
+            counted: 0,
+            wrong: 0,
+            slowest,
+            lines: vec![],
+        }
+    }
+
+    /// The number of disagreements.
+    fn run(&mut self, count: usize) -> usize {
+        for p in published() {
+            let verdict = line(judge_texts(p.patterns.as_bytes(), p.scheme.as_bytes()));
+            if verdict != p.verdict {
+                self.report("the second implementation and the published verdict", p.verdict, &verdict, p.patterns.as_bytes(), p.scheme.as_bytes());
+            }
+            self.published_counts(&p);
+        }
+        for case in fixed() {
+            self.judge(&case);
+        }
+        let mut maker = Maker::new(self.seed, (count / 50).clamp(20, 600));
+        for _ in 0..count {
+            STARTED.fetch_add(1, Ordering::Relaxed);
+            let case = maker.next();
+            self.judge(&case);
+        }
+        self.print();
+        self.judgements();
+        self.tables(&mut maker);
+        println!("{} disagreements", self.wrong);
+        self.wrong
+    }
+
+    /// Both judges on one input.
+    fn judge(&mut self, case: &Case) {
+        STARTED.fetch_add(1, Ordering::Relaxed);
+        let mut input = case.patterns.clone();
+        input.push(b'\n');
+        input.extend(&case.scheme);
+        fs::write(current(), &input).expect("the file of the input at work");
+        let twin = judge_texts(&case.patterns, &case.scheme);
+        let number = twin.map_or_else(|r| r.0, |_| 0);
+        let [first, second] = &mut self.texts;
+        let (first, second) = (first.place(&case.patterns), second.place(&case.scheme));
+        let start = Instant::now();
+        let engine = engine::judge(first, second);
+        let took = start.elapsed();
+        if took > self.slowest.0 {
+            self.slowest = (took, case.kind);
+        }
+        if engine != number {
+            self.report("the engine's judge", &number.to_string(), &engine.to_string(), &case.patterns, &case.scheme);
+        }
+        let kind = self.kinds.entry(case.kind).or_default();
+        kind.0 += 1;
+        kind.1 += twin.is_ok() as usize;
+        *self.verdicts.entry(number).or_default() += 1;
+        if !input[..case.patterns.len()].contains(&b'\n') && !case.scheme.contains(&b'\n') && input.len() < 40_000 {
+            input.push(b'\n');
+            self.lines.push((input, line(twin)));
+        }
+        if number == 0 || number >= 10 {
+            self.list(case, twin);
+        }
+    }
+
+    /// The fast mode against the slow one, where the lengths are small.
+    fn list(&mut self, case: &Case, fast: Result<usize, Refusal>) {
+        let (Ok(patterns), Ok(scheme)) = (read_patterns(&case.patterns), read_scheme(&case.scheme)) else { return };
+        self.claims += 1;
+        if self.claims > 3_000 && self.claims % 8 != 0 {
+            return;
+        }
+        let m = twin::judging::longest(patterns.items());
+        let depth = scheme.entries.iter().map(|e| e.prefix.count()).max().unwrap_or(0);
+        if m + depth > 8 || scheme.entries.len() > 40 {
+            return;
+        }
+        let mut listing = Listing::of(&patterns);
+        if let Some(slow) = listing.judge(&scheme) {
+            self.listed += 1;
+            if slow != fast {
+                self.report("the slow mode and the fast one", &line(slow), &line(fast), &case.patterns, &case.scheme);
+            }
+        }
+        if fast.is_ok() {
+            self.counted += 1;
+            for n in 0..=6 {
+                let listed = listing.avoiders(n).len() as u64;
+                let mut cells = vec![0; need(&scheme, n) as usize];
+                let counted = count(&patterns, &scheme, n, &mut cells);
+                let evaluated = plain(&patterns, &scheme, n);
+                if counted != Ok(listed) || evaluated != Ok(listed) || cells.iter().any(|c| *c != 0) {
+                    let found = format!("{counted:?}, {evaluated:?}");
+                    self.report("counting and listing", &listed.to_string(), &found, &case.patterns, &case.scheme);
+                }
+            }
+        }
+        // What was read is written back without its spaces.
+        let written = (write_patterns(patterns.items()), write_scheme(&scheme.entries));
+        let bare = |text: &[u8]| text.iter().copied().filter(|b| *b != b' ').collect::<Vec<u8>>();
+        if written != (bare(&case.patterns), bare(&case.scheme)) {
+            self.report("reading and writing back", "", "", &case.patterns, &case.scheme);
+        }
+    }
+
+    fn published_counts(&mut self, p: &twin::published::Published) {
+        let (Ok(patterns), Ok(scheme)) = (read_patterns(p.patterns.as_bytes()), read_scheme(p.scheme.as_bytes())) else { return };
+        for (n, published) in p.counts.iter().enumerate() {
+            let mut cells = vec![0; need(&scheme, n) as usize];
+            let counted = count(&patterns, &scheme, n, &mut cells);
+            let evaluated = if n > LONGEST_PLAIN { counted } else { plain(&patterns, &scheme, n) };
+            if counted != Ok(*published) || evaluated != Ok(*published) {
+                self.report("counting and the published count", &published.to_string(), &format!("{counted:?}"), p.patterns.as_bytes(), p.scheme.as_bytes());
+            }
+        }
+    }
+
+    fn print(&self) {
+        println!("{:<28}{:>8}{:>10}", "kind", "inputs", "accepted");
+        for (kind, (inputs, accepted)) in &self.kinds {
+            println!("{kind:<28}{inputs:>8}{accepted:>10}");
+        }
+        let refused = |(number, count): (&u32, &usize)| match number {
+            0 => format!("accepted {count}"),
+            _ => format!("{number}: {count}"),
+        };
+        let verdicts: Vec<String> = self.verdicts.iter().map(refused).collect();
+        println!("{} inputs judged; {}", self.verdicts.values().sum::<usize>(), verdicts.join(", "));
+        println!("verdicts compared with listing: {}; schemes whose counts were compared with listing: {}", self.listed, self.counted);
+        println!("longest call of the engine: {:.1} ms ({})", self.slowest.0.as_secs_f64() * 1e3, self.slowest.1);
+    }
+
+    /// The program that judges pairs of lines says also the index and the number of compared cells.
+    fn judgements(&mut self) {
+        let Some(program) = engine::program("test_judge") else {
+            println!("skipped: target/bin/test_judge is not there, so no index is compared");
+            return;
+        };
+        let lines = std::mem::take(&mut self.lines);
+        let mut batches: Vec<(Vec<u8>, Vec<usize>)> = vec![];
+        for (i, (input, _)) in lines.iter().enumerate() {
+            match batches.last_mut() {
+                Some((bytes, members)) if members.len() < 150 && bytes.len() + input.len() <= 60_000 => {
+                    bytes.extend(input);
+                    members.push(i);
+                }
+                _ => batches.push((input.clone(), vec![i])),
+            }
+        }
+        for (bytes, members) in &batches {
+            STARTED.fetch_add(1, Ordering::Relaxed);
+            fs::write(current(), bytes).expect("the file of the input at work");
+            let output = engine::output(&program, bytes).unwrap_or_default();
+            let output = String::from_utf8_lossy(&output).into_owned();
+            let mut printed = output.lines();
+            for &i in members {
+                let (input, expected) = &lines[i];
+                let found = printed.next().unwrap_or("nothing");
+                if found != expected {
+                    self.report("target/bin/test_judge", expected, found, input, b"");
+                }
+            }
+        }
+        println!("{} verdicts with index or compared cells compared with target/bin/test_judge", lines.len());
+    }
+
+    /// The table program, one process an input.
+    fn tables(&mut self, maker: &mut Maker) {
+        let Some(program) = engine::program("table") else {
+            println!("skipped: target/bin/table is not there");
+            return;
+        };
+        let inputs = table_inputs(maker);
+        let mut refused = 0;
+        for input in &inputs {
+            STARTED.fetch_add(1, Ordering::Relaxed);
+            fs::write(current(), input).expect("the file of the input at work");
+            let expected = table(input);
+            let found = engine::output(&program, input);
+            refused += expected.starts_with(b"refused") as usize;
+            if found.as_deref() != Some(&expected[..]) {
+                let found = found.map_or("a fault".into(), |f| String::from_utf8_lossy(&f).into_owned());
+                self.report("target/bin/table", &String::from_utf8_lossy(&expected), &found, input, b"");
+            }
+        }
+        println!("{} inputs of target/bin/table compared, {refused} of them refused", inputs.len());
+    }
+
+    fn report(&mut self, what: &str, expected: &str, found: &str, first: &[u8], second: &[u8]) {
+        self.wrong += 1;
+        if self.wrong > 20 {
+            return;
+        }
+        println!("DISAGREEMENT: {what}: expected {expected:?}, found {found:?}");
+        for text in [first, second] {
+            if text.len() <= 3_000 {
+                println!("  {:?}", String::from_utf8_lossy(text));
+                if std::str::from_utf8(text).is_err() {
+                    println!("  as bytes: {text:02x?}");
+                }
+            } else {
+                let file = current().with_file_name(format!("disagreement-{}", self.wrong));
+                let text = [first, b"\n", second].concat();
+                println!("  {} bytes, in {}", text.len(), file.display());
+                drop(fs::write(file, text));
+                break;
+            }
+        }
+    }
+}
+
+fn line(verdict: Result<usize, Refusal>) -> String {
+    match verdict {
+        Ok(cells) => format!("accepted {cells}"),
+        Err(Refusal(number, index)) => format!("refused {number} {index}"),
+    }
+}
+
+/// Inputs of the table program: published schemes at every N, third lines of all kinds, lines too few and too many, damaged ones.
+fn table_inputs(maker: &mut Maker) -> Vec<Vec<u8>> {
+    let mut inputs: Vec<Vec<u8>> = vec![];
+    let join = |set: &[u8], scheme: &[u8], rest: &[u8]| [set, b"\n", scheme, b"\n", rest].concat();
+    for p in published() {
+        for rest in ["0", "6", "9\n", "12", "20\n"] {
+            inputs.push(join(p.patterns.as_bytes(), p.scheme.as_bytes(), rest.as_bytes()));
+        }
+    }
+    let (set, scheme) = ("{1423,1432}".as_bytes(), "{(ε,∅,∅),(1,∅,∅),(12,{⟨0,2,0⟩},{2}),(21,∅,{1})}".as_bytes());
+    let schemes: [&[u8]; 4] = [scheme, "{(ε,∅,∅),(1,∅,∅),(12,∅,{2}),(21,∅,{1})}".as_bytes(), b"", b"x"];
+    let thirds: [&str; 39] = [
+        "", "\n", "\n\n", "0", "0\n", "1", "6", "6\n", "6\n\n", "6\n ", "6\n6", "6 ", " 6", "06", "00", "00\n", "9", "10", "19", "20", "21", "21\n", "22",
+        "99", "100", "020", "+6", "-6", "6\r\n", "a", "6a", "²", "6\n\0", "\0", "6\0", "20\n\n", "1\n2\n3\n", " ", " \n",
+    ];
+    for scheme in schemes {
+        for third in thirds {
+            inputs.push(join(set, scheme, third.as_bytes()));
+            inputs.push(join(b"", scheme, third.as_bytes()));
+            inputs.push(join("∅".as_bytes(), scheme, third.as_bytes()));
+        }
+    }
+    for text in ["", "\n", "\n\n", "\n\n\n", "\n\n6", "{1}", "{1}\n", "{1}\n∅", "{1}\n∅\n", "{1}\n∅\n6", "6", "6\n6\n6"] {
+        inputs.push(text.into());
+    }
+    let exact = exact_need();
+    for n in ["9", "10", "11", "20"] {
+        inputs.push(join(&write_patterns(&exact.patterns), &write_scheme(&exact.entries), n.as_bytes()));
+    }
+    for (front, back) in [(1_019, 0), (1_020, 0), (0, 70_000), (32_768 - scheme.len(), 0), (32_769 - scheme.len(), 0), (70_000, 0), (0, 70_000)] {
+        let pad = |n: usize| vec![b' '; n];
+        inputs.push(join(&[pad(front), b"{123}".to_vec()].concat(), scheme, b"6"));
+        inputs.push(join(set, &[pad(front), scheme.to_vec()].concat(), b"6"));
+        inputs.push(join(set, &[pad(front), scheme.to_vec()].concat(), &[b"6\n".to_vec(), pad(back)].concat()));
+        inputs.push(join(set, scheme, &[b"6".to_vec(), pad(back)].concat()));
+        inputs.push([set.to_vec(), b"\n".to_vec(), pad(front)].concat());
+        inputs.push([pad(front), b"\n\n".to_vec(), pad(back)].concat());
+    }
+    let mut random = Random::new(maker.random.next());
+    for _ in 0..1_000 {
+        let case = maker.next();
+        let third = match random.below(4) {
+            0 => thirds[random.below(thirds.len())].to_string(),
+            _ => format!("{}{}", random.below(22), if random.one_in(2) { "\n" } else { "" }),
+        };
+        inputs.push(join(&case.patterns, &case.scheme, third.as_bytes()));
+    }
+    inputs
+}
