@@ -13,8 +13,8 @@ use spacing::is_free;
 use spacing::next_spacing;
 use word::copy::first_copy;
 use word::limits::DIGITS;
-use word::limits::ENTRIES;
 use word::limits::PATTERNS;
+use word::limits::WORD;
 ghost use mathlib.Core.Path.{_≡_};
 ghost use mathlib.Core.Bool.{not};
 ghost use mathlib.Core.List.{List};
@@ -98,7 +98,7 @@ fn contained_by(
     lengths: [u8; PATTERNS],
     count: usize,
     i: usize,
-    word: [u8; ENTRIES],
+    word: [u8; WORD],
     len: usize,
 ) -> bool
     requires { ⌜ (len ≤ 20) × (i < count) × (count ≤ 24) ⌝ }

@@ -2,12 +2,12 @@
 use crate::gaps::gap_rows;
 use crate::gaps::is_live;
 use candidate::search::irreversible;
-use scheme::limits::PREFIX;
 use scheme::memory::Entry;
 use scheme::memory::Rule;
 use spacing::compared_count;
 use word::limits::DIGITS;
 use word::limits::PATTERNS;
+use word::limits::PREFIX;
 ghost use mathlib.Core.Path.{_≡_};
 ghost use Prim.Native.Nat.{_≤_};
 ghost use Rattle.word.specs.Containment.{patternsOf};

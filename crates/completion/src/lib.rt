@@ -1,8 +1,8 @@
 // The emptiness search: whether a word of first entries can be completed to an avoider of a given length.
 use word::containment::any_in;
 use word::limits::DIGITS;
-use word::limits::ENTRIES;
 use word::limits::PATTERNS;
+use word::limits::WORD;
 ghost use mathlib.Core.Path.{_≡_};
 ghost use mathlib.Core.Bool.{true, not};
 ghost use mathlib.Core.List.{[], _∷_, _++_};
@@ -17,7 +17,7 @@ pub fn completable(
     set: [[u8; DIGITS]; PATTERNS],
     lengths: [u8; PATTERNS],
     count: usize,
-    word: [u8; ENTRIES],
+    word: [u8; WORD],
     len: usize,
     n: usize,
 ) -> bool
@@ -34,7 +34,7 @@ pub fn completable(
 }
 
 // Whether the first `len` entries of the word are from 1 to n, none of them twice.
-fn is_begun(word: [u8; ENTRIES], len: usize, n: usize) -> bool
+fn is_begun(word: [u8; WORD], len: usize, n: usize) -> bool
     requires { ⌜ len ≤ 20 ⌝ }
     ensures { λ r. ⌜ r ≡ begun n (take len word) ⌝ }
 {
@@ -56,7 +56,7 @@ fn is_begun(word: [u8; ENTRIES], len: usize, n: usize) -> bool
 }
 
 // Whether v stands among the first `len` entries of the word.
-fn stands(word: [u8; ENTRIES], len: usize, v: u8) -> bool
+fn stands(word: [u8; WORD], len: usize, v: u8) -> bool
     requires { ⌜ len ≤ 20 ⌝ }
     ensures { λ r. ⌜ r ≡ has v (take len word) ⌝ }
 {
@@ -76,7 +76,7 @@ fn goes_on(
     set: [[u8; DIGITS]; PATTERNS],
     lengths: [u8; PATTERNS],
     count: usize,
-    word: [u8; ENTRIES],
+    word: [u8; WORD],
     len: usize,
     n: usize,
 ) -> bool
@@ -110,7 +110,7 @@ fn all_allowed(
     set: [[u8; DIGITS]; PATTERNS],
     lengths: [u8; PATTERNS],
     count: usize,
-    word: [u8; ENTRIES],
+    word: [u8; WORD],
     len: usize,
     n: usize,
 ) -> bool
@@ -133,7 +133,7 @@ fn all_allowed(
 }
 
 // The word with v behind its first `len` entries.
-fn put(word: [u8; ENTRIES], len: usize, v: u8) -> [u8; ENTRIES]
+fn put(word: [u8; WORD], len: usize, v: u8) -> [u8; WORD]
     requires { ⌜ len < 20 ⌝ }
     ensures { λ r. ⌜ take (len + 1) r ≡ take len word ++ (v ∷ []) ⌝ }
 {
@@ -147,7 +147,7 @@ pub fn contained(
     set: [[u8; DIGITS]; PATTERNS],
     lengths: [u8; PATTERNS],
     count: usize,
-    word: [u8; ENTRIES],
+    word: [u8; WORD],
     len: usize,
 ) -> bool
     requires { ⌜ len ≤ 20 ⌝ }

@@ -1,10 +1,10 @@
 // The count by plain evaluation.
 use crate::evaluation::cell;
 use crate::sheet::fill_sheet;
-use scheme::limits::PREFIX;
 use scheme::links::Found;
 use scheme::links::find;
 use scheme::memory::Scheme;
+use word::limits::PREFIX;
 ghost use mathlib.Core.Path.{_≡_};
 ghost use mathlib.Core.List.{[]};
 ghost use Prim.Native.Nat.{_≤_};

@@ -1,6 +1,5 @@
 // The plan of each entry: its children and its target are looked up once for all cells.
 use crate::places::places_of;
-use scheme::limits::PREFIX;
 use scheme::links::Found;
 use scheme::links::child;
 use scheme::links::find;
@@ -10,6 +9,7 @@ use scheme::memory::Rule;
 use scheme::memory::Scheme;
 use spacing::walk::wide;
 use word::containment::any_in;
+use word::limits::PREFIX;
 ghost use mathlib.Core.Path.{_≡_};
 ghost use mathlib.Core.Bool.{true, cond};
 ghost use mathlib.Core.List.{[]};

@@ -1,5 +1,4 @@
 // Patterns and schemes in memory, and the lookup of entries by their prefix.
-pub mod limits;
 pub mod links;
 pub mod memory;
 pub mod order;

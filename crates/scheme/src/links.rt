@@ -1,9 +1,9 @@
 // Looking entries up by their prefix, and the tests 8 and 9 of a scheme list in memory.
-use crate::limits::PREFIX;
 use crate::memory::Entry;
 use crate::memory::Fault;
 use crate::memory::Rule;
 use crate::memory::Scheme;
+use word::limits::PREFIX;
 use word::refusal::Refusal;
 ghost use Prim.Native.Nat.{_+_, _-_, _≤_, _<_};
 ghost use mathlib.Core.Path.{_≡_};

@@ -1,10 +1,10 @@
 // Patterns and schemes in memory. A count or a length may be any number: one beyond its array is refused as oversize by that field alone.
-use crate::limits::COMPONENTS;
-use crate::limits::ENTRIES;
-use crate::limits::GAPS;
-use crate::limits::PREFIX;
+use word::limits::COMPONENTS;
 use word::limits::DIGITS;
+use word::limits::ENTRIES;
+use word::limits::GAPS;
 use word::limits::PATTERNS;
+use word::limits::PREFIX;
 use word::refusal::Refusal;
 
 // One pattern: its digits, and how many they are.

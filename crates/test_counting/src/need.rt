@@ -1,6 +1,6 @@
 // The cells that counting needs, found by addition: "2 times the sum of C(n, k) over all entries, k being the entry's length" (01).
-use scheme::limits::ENTRIES;
 use scheme::memory::Scheme;
+use word::limits::ENTRIES;
 
 // how many binomials of a row are kept: those for the lengths of prefixes, 0 to 6
 const ROW: usize = 7;

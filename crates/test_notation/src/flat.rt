@@ -4,14 +4,14 @@ use crate::texts::ROOM;
 use crate::texts::byte_at;
 use crate::texts::prefix;
 use crate::texts::wide;
-use scheme::limits::ENTRIES;
-use scheme::limits::GAPS;
 use scheme::memory::Entry;
 use scheme::memory::Gap;
 use scheme::memory::Pattern;
 use scheme::memory::Patterns;
 use scheme::memory::Rule;
 use scheme::memory::Scheme;
+use word::limits::ENTRIES;
+use word::limits::GAPS;
 use word::limits::PATTERNS;
 
 // no digit, no component and no position: these are at most 999

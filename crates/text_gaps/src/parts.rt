@@ -1,7 +1,7 @@
 // What the readers of numbers and gap vectors give: whether the part is spelt, the part in memory, and the cursor behind it.
-use scheme::limits::GAPS;
 use scheme::memory::Gap;
 use text_grammar::cursor::Cursor;
+use word::limits::GAPS;
 
 // A number of one to three digits.
 pub struct NumberRead {

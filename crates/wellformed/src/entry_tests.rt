@@ -1,14 +1,14 @@
 // The tests 2 to 7 of a scheme list in memory, each over the whole list: the first entry at fault.
-use scheme::limits::COMPONENTS;
-use scheme::limits::ENTRIES;
-use scheme::limits::GAPS;
-use scheme::limits::PREFIX;
-use scheme::limits::TOTAL;
 use scheme::memory::Entry;
 use scheme::memory::Fault;
 use scheme::memory::Gap;
 use scheme::memory::Rule;
 use scheme::memory::Scheme;
+use word::limits::COMPONENTS;
+use word::limits::ENTRIES;
+use word::limits::GAPS;
+use word::limits::PREFIX;
+use word::limits::TOTAL;
 use word::permutation::is_permutation;
 use word::refusal::Refusal;
 ghost use Prim.Native.Nat.{_+_, _-_, _≤_, _<_};

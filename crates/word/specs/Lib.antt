@@ -1,4 +1,5 @@
 -- The definitions of the crate word, and then its laws.
+pub mod Ceilings
 pub mod Lists
 pub mod Word
 pub mod Vocabulary

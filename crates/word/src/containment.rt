@@ -1,8 +1,8 @@
 // The public operation `contains`, and whether a word contains a pattern of a set.
 use crate::copy::first_copy;
 use crate::limits::DIGITS;
-use crate::limits::ENTRIES;
 use crate::limits::PATTERNS;
+use crate::limits::WORD;
 use crate::permutation::is_permutation;
 use crate::refusal::Refusal;
 ghost use mathlib.Core.Path.{_≡_};
@@ -33,7 +33,7 @@ pub fn contains(pattern: &[u8], permutation: &[u8]) -> Contained
     if !is_permutation(pattern) {
         return Contained::Refused(Refusal::NoPermutation, 0);
     }
-    if ENTRIES < permutation.len() {
+    if WORD < permutation.len() {
         return Contained::Refused(Refusal::Oversize, 0);
     }
     if !is_permutation(permutation) {

@@ -1,0 +1,62 @@
+-- The ceilings of document 01, and the sizes that follow from them; src/limits.rt has the same names
+-- for the code. Definitions only.
+use Prim.Native.Nat.{ℕ, _+_}
+
+-- "The set is up to 24 patterns of up to 8 digits each"
+abbrev pub DIGITS : ℕ
+DIGITS = 8
+
+abbrev pub PATTERNS : ℕ
+PATTERNS = 24
+
+-- "one permutation of up to 20 entries", in which a pattern is sought
+abbrev pub WORD : ℕ
+WORD = 20
+
+-- "Entries 128, prefix length 6, gap vectors per entry 8, components of a gap vector 7, total of a
+-- gap vector 8, n 20"
+abbrev pub ENTRIES : ℕ
+ENTRIES = 128
+
+abbrev pub PREFIX : ℕ
+PREFIX = 6
+
+abbrev pub COMPONENTS : ℕ
+COMPONENTS = PREFIX + 1
+
+abbrev pub GAPS : ℕ
+GAPS = 8
+
+abbrev pub TOTAL : ℕ
+TOTAL = 8
+
+-- the largest length that is counted
+abbrev pub LENGTH : ℕ
+LENGTH = 20
+
+-- counts for the lengths from 0 on
+abbrev pub COUNTS : ℕ
+COUNTS = LENGTH + 1
+
+-- "a plain evaluation for n up to 9"
+abbrev pub PLAIN_LENGTH : ℕ
+PLAIN_LENGTH = 9
+
+-- columns of binomials: C(z, 0) .. C(z, 7)
+abbrev pub COLUMNS : ℕ
+COLUMNS = PREFIX + 2
+
+-- places of the children of an entry, or of its target, and one that stays 0
+abbrev pub LINKS : ℕ
+LINKS = PREFIX + 2
+
+-- "Pattern text 1,024 bytes, scheme text 32,768"
+abbrev pub PATTERN_TEXT : ℕ
+PATTERN_TEXT = 1024
+
+abbrev pub SCHEME_TEXT : ℕ
+SCHEME_TEXT = 32768
+
+-- "It holds 4,096 cells"
+abbrev pub CELLS : ℕ
+CELLS = 4096
