@@ -8,6 +8,7 @@ use mathlib.Core.Bool.{Bool, true, false, not}
 use mathlib.Core.List.{List, [], _∷_, map, List·Memᴰ, List·Memᴰ·head, List·Memᴰ·tail}
 use lib.ListN.{length, getD, take, replicate, length-map}
 use lib.Seq.{length-take-le}
+use Rattle.word.specs.Ceilings.{DIGITS, PREFIX, COMPONENTS, TOTAL, WORD}
 use Rattle.word.specs.Lists.{any, keep, each, row}
 use Rattle.word.specs.Word.{isPerm}
 use Rattle.word.specs.ListLaws.{and-left, and-right, any-out, map-same}
@@ -44,11 +45,11 @@ level-whole (x ∷ g) = ap (λ n. x + n) (level-whole g)
 
 -- where nothing is flagged, all values are kept
 kept-all : (p g levels : List ℕ) (k : ℕ) → ((a : ℕ) → List·Memᴰ a p → a ≤ k) → Says levels (k + 1) (level g) → k + total g < 256 →
-    keptValues levels (replicate 9 0) p ≡ map (val g) p
+    keptValues levels (replicate (DIGITS + 1) 0) p ≡ map (val g) p
 unfolding keptValues val
 kept-all p g levels k low says small =
-    ap (map (λ a. min (a + entryOf levels a) 255)) (keep-all (λ a. not (flagged (replicate 9 0) a)) p
-    (λ a m. ap not (or-left (flagged (replicate 9 0) a) false (flag-none 9 a false)))) ∙
+    ap (map (λ a. min (a + entryOf levels a) 255)) (keep-all (λ a. not (flagged (replicate (DIGITS + 1) 0) a)) p
+    (λ a m. ap not (or-left (flagged (replicate (DIGITS + 1) 0) a) false (flag-none (DIGITS + 1) a false)))) ∙
     map-same (λ a. min (a + entryOf levels a) 255) (val g) p at
   where
     at : (a : ℕ) → List·Memᴰ a p → min (a + entryOf levels a) 255 ≡ a + level g a
@@ -58,12 +59,12 @@ kept-all p g levels k low says small =
         rw e (omega arith)
 
 -- the parts of a vector of k + 1 components; `parts` is its array
-pub gap-is : (b : Gap) (k : ℕ) (parts : List ℕ) → b .width ≡ suc k → parts ≡ b .parts → length parts ≡ 7 → k ≤ 6 → gapIn b ≡ take (k + 1) parts
+pub gap-is : (b : Gap) (k : ℕ) (parts : List ℕ) → b .width ≡ suc k → parts ≡ b .parts → length parts ≡ COMPONENTS → k ≤ PREFIX → gapIn b ≡ take (k + 1) parts
 gap-is b k parts wide same seven short =
     ap₂ padded (wide ∙ sym (add-one k)) (sym same) ∙ padded-within (k + 1) parts (omega (arith, seven))
 
 -- A spacing of k + 1 components in an array of seven.
-module _ (k : ℕ) (parts : List ℕ) (seven : length parts ≡ 7) (short : k ≤ 6) (small : total (take (k + 1) parts) ≤ 8) (levels : List ℕ)
+module _ (k : ℕ) (parts : List ℕ) (seven : length parts ≡ COMPONENTS) (short : k ≤ PREFIX) (small : total (take (k + 1) parts) ≤ TOTAL) (levels : List ℕ)
     (says : Says levels (k + 1) (level (take (k + 1) parts))) where
   spacing-size : length (take (k + 1) parts) ≡ k + 1
   spacing-size = length-take-le (k + 1) parts (omega (arith, seven))
@@ -75,8 +76,8 @@ module _ (k : ℕ) (parts : List ℕ) (seven : length parts ≡ 7) (short : k �
       ap (level (take (k + 1) parts)) (sym spacing-size) ∙ level-whole (take (k + 1) parts)
 
   -- the first entries can be completed exactly if the cell is not empty
-  pub live-is : (P : List (List ℕ)) (prefix entries : List ℕ) (n len : ℕ) → length prefix ≡ 6 → isPerm (take k prefix) ≡ true → length entries ≡ 20 →
-      len ≤ 6 → take len entries ≡ keptValues levels (replicate 9 0) (take k prefix) → n ≡ k + (getD levels k 0 + getD parts k 0) →
+  pub live-is : (P : List (List ℕ)) (prefix entries : List ℕ) (n len : ℕ) → length prefix ≡ PREFIX → isPerm (take k prefix) ≡ true → length entries ≡ WORD →
+      len ≤ PREFIX → take len entries ≡ keptValues levels (replicate (DIGITS + 1) 0) (take k prefix) → n ≡ k + (getD levels k 0 + getD parts k 0) →
       completable P n (take k entries) ≡ not (isEmpty (cell P (take k prefix) (take (k + 1) parts)))
   live-is P prefix entries n len six perm twenty few kept whole =
       let p = take k prefix in

@@ -9,6 +9,7 @@ use mathlib.Core.List.{List, [], _∷_, map, List·Memᴰ, List·Memᴰ·head, L
 use mathlib.Core.Logic.{_↔_}
 use lib.ListN.{length, getD, take, set}
 use lib.Seq.{length-take-le}
+use Rattle.word.specs.Ceilings.{DIGITS, PATTERNS, PREFIX, GAPS}
 use Rattle.word.specs.Lists.{all, keep, each, row}
 use Rattle.word.specs.Word.{isPerm, within}
 use Rattle.word.specs.ListLaws.{and-left}
@@ -46,7 +47,7 @@ pub expands-differs : (P : List (List ℕ)) (e : Entry) → e .rule ≡ Expand �
 unfolding differs
 expands-differs P e q = ap (λ (x : Rule). differs P ((entryIn e) .prefix) ((entryIn e) .gaps) (doesOf x)) q
 
-module _ (e : Entry) (proper : ProperEntry (entryIn e)) (six : length (e .prefix) ≡ 6) (r : ℕ) (rule : DeletesAt e r) where
+module _ (e : Entry) (proper : ProperEntry (entryIn e)) (six : length (e .prefix) ≡ PREFIX) (r : ℕ) (rule : DeletesAt e r) where
   deletes-inside : outside (length ((entryIn e) .prefix)) (deletes r) ≡ false
   deletes-inside = ap (λ (x : Rule). outside (length ((entryIn e) .prefix)) (doesOf x)) (sym rule) ∙ proper .inside
 
@@ -55,7 +56,7 @@ module _ (e : Entry) (proper : ProperEntry (entryIn e)) (six : length (e .prefix
       ap (λ (u : List ℕ). all (within (length u)) (r ∷ [])) (sym (prefix-is e proper six)) ∙
       position-inside (length ((entryIn e) .prefix)) r deletes-inside
 
-  pub position-bound : r ≤ 6
+  pub position-bound : r ≤ PREFIX
   position-bound = omega (arith, position-at-most, proper .short)
     where
       position-at-most : r ≤ length ((entryIn e) .prefix)
@@ -64,7 +65,7 @@ module _ (e : Entry) (proper : ProperEntry (entryIn e)) (six : length (e .prefix
           (and-left (within (length ((entryIn e) .prefix)) r) true (position-inside (length ((entryIn e) .prefix)) r deletes-inside)) .1
 
   -- what the search is given
-  pub given : (set : List (List ℕ)) (lengths : List ℕ) (count : ℕ) → length set ≡ 24 → length lengths ≡ 24 → ProperSet set lengths count →
+  pub given : (set : List (List ℕ)) (lengths : List ℕ) (count : ℕ) → length set ≡ PATTERNS → length lengths ≡ PATTERNS → ProperSet set lengths count →
       Given set lengths count (take (e .length) (e .prefix)) (r ∷ [])
   given set lengths count hs hl q =
       record {
@@ -76,7 +77,7 @@ module _ (e : Entry) (proper : ProperEntry (entryIn e)) (six : length (e .prefix
       }
 
   -- what it answers
-  pub answers : (P : List (List ℕ)) (rows : List (List ℕ)) (b : Bool) → length rows ≡ 8 → HasRows (e .gaps) rows →
+  pub answers : (P : List (List ℕ)) (rows : List (List ℕ)) (b : Bool) → length rows ≡ GAPS → HasRows (e .gaps) rows →
       EntryAnswer P (take (e .length) (e .prefix)) (gapsOf rows (e .length + 1) (e .«gap_count»)) (r ∷ []) b →
       b ≡ differs P ((entryIn e) .prefix) ((entryIn e) .gaps) ((entryIn e) .rule)
   answers P rows b eight has a =
@@ -95,7 +96,7 @@ expands-compared m e q =
       small = omega arith;
     }
 
-pub deletes-compared : (m : ℕ) (e : Entry) (r : ℕ) (rows : List (List ℕ)) (n : ℕ) → m ≤ 8 → ProperEntry (entryIn e) → e .rule ≡ Delete r → length rows ≡ 8 →
+pub deletes-compared : (m : ℕ) (e : Entry) (r : ℕ) (rows : List (List ℕ)) (n : ℕ) → m ≤ DIGITS → ProperEntry (entryIn e) → e .rule ≡ Delete r → length rows ≡ GAPS →
     HasRows (e .gaps) rows → n ≡ length (keep (free (gapsOf rows (e .length + 1) (e .«gap_count»))) (each (vectors (suc (e .length))) (row 0 m))) →
     ComparedAnswer m (entryIn e) n
 unfolding comparedWith compared

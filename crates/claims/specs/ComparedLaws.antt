@@ -7,23 +7,25 @@ use mathlib.Core.List.{List, List·Memᴰ}
 use lib.ListN.{length}
 use lib.Dec.{leb}
 use borrow.Author.Tests.{leb-true}
+use Rattle.word.specs.Ceilings.{DIGITS, PREFIX, COMPONENTS}
 use Rattle.word.specs.Lists.{all, keep, each, row}
 use Rattle.word.specs.ListLaws.{all-out, row-in}
 use Rattle.cell.specs.Cell.{free, vectors}
 use Rattle.cell.specs.Binomial.{binomial}
 use Rattle.cell.specs.BinomialLaws.{vectors-below, keep-shorter}
+use Rattle.claims.specs.EntryMemory.{COMPARED}
 
 -- C(m + k, k + 1) for the lengths of prefixes and patterns, by computation
-small-binomials : all (λ k. all (λ m. leb (binomial (m + k) (suc k)) 3432) (row 0 9)) (row 0 7) ≡ true
+small-binomials : all (λ k. all (λ m. leb (binomial (m + k) (suc k)) COMPARED) (row 0 (DIGITS + 1))) (row 0 COMPONENTS) ≡ true
 unfolding binomial
 small-binomials = refl
 
-pub binomial-small : (m k : ℕ) → m ≤ 8 → k ≤ 6 → binomial (m + k) (suc k) ≤ 3432
+pub binomial-small : (m k : ℕ) → m ≤ DIGITS → k ≤ PREFIX → binomial (m + k) (suc k) ≤ COMPARED
 binomial-small m k h l =
-    leb-true (binomial (m + k) (suc k)) 3432
-    (all-out (λ (i : ℕ). leb (binomial (i + k) (suc k)) 3432) (row-in 0 9 m (omega arith) (omega arith))
-    (all-out (λ (j : ℕ). all (λ (i : ℕ). leb (binomial (i + j) (suc j)) 3432) (row 0 9)) (row-in 0 7 k (omega arith) (omega arith)) small-binomials))
+    leb-true (binomial (m + k) (suc k)) COMPARED
+    (all-out (λ (i : ℕ). leb (binomial (i + k) (suc k)) COMPARED) (row-in 0 (DIGITS + 1) m (omega arith) (omega arith))
+    (all-out (λ (j : ℕ). all (λ (i : ℕ). leb (binomial (i + j) (suc j)) COMPARED) (row 0 (DIGITS + 1))) (row-in 0 COMPONENTS k (omega arith) (omega arith)) small-binomials))
 
-pub compared-small : (m k : ℕ) (B : List (List ℕ)) → m ≤ 8 → k ≤ 6 → length (keep (free B) (each (vectors (suc k)) (row 0 m))) ≤ 3432
+pub compared-small : (m k : ℕ) (B : List (List ℕ)) → m ≤ DIGITS → k ≤ PREFIX → length (keep (free B) (each (vectors (suc k)) (row 0 m))) ≤ COMPARED
 compared-small m k B h l =
     omega (arith, binomial-small m k h l, vectors-below k m, keep-shorter (free B) (each (vectors (suc k)) (row 0 m)))

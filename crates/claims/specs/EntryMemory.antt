@@ -4,6 +4,7 @@ use mathlib.Core.Path.{_≡_}
 use mathlib.Core.Bool.{true}
 use mathlib.Core.List.{List, [], List·Memᴰ}
 use lib.ListN.{length, getD}
+use Rattle.word.specs.Ceilings.{PATTERNS, COMPONENTS, GAPS}
 use Rattle.word.specs.Word.{isPerm}
 use Rattle.word.specs.Containment.{patternsOf}
 use Rattle.cell.specs.Cell.{mOf}
@@ -16,18 +17,23 @@ use Rattle.verdict.specs.Verdict.{comparedWith}
 
 -- each row has the components of a gap vector
 abbrev pub HasRows : List Gap → List (List ℕ) → Type 0
-HasRows gaps rows = (j : ℕ) → j < 8 → (getD rows j [] ≡ (getD gaps j noGap) .parts) × (length (getD rows j []) ≡ 7)
+HasRows gaps rows = (j : ℕ) → j < GAPS → (getD rows j [] ≡ (getD gaps j noGap) .parts) × (length (getD rows j []) ≡ COMPONENTS)
 
--- a set in memory of at most 24 permutations
+-- a set in memory of at most PATTERNS permutations
 pub record ProperSet (set : List (List ℕ)) (lengths : List ℕ) (count : ℕ) : Type 0 where
-  pub few : count ≤ 24
+  pub few : count ≤ PATTERNS
   pub perms : (β : List ℕ) → List·Memᴰ β (patternsOf set lengths count) → isPerm β ≡ true
 
 -- the entry deletes position r
 abbrev pub DeletesAt : Entry → ℕ → Type 0
 DeletesAt e r = e .rule ≡ Delete r
 
+-- C(14, 7), the compared cells of an entry at most: DIGITS + PREFIX and PREFIX + 1
+-- (ComparedLaws.binomial-small)
+abbrev pub COMPARED : ℕ
+COMPARED = 3432
+
 -- the number of compared cells of an entry, for every set whose m is this one; it is small
 pub record ComparedAnswer (m : ℕ) (e : EntryList) (r : ℕ) : Type 0 where
   pub compares : (P : List (List ℕ)) → mOf P ≡ m → r ≡ comparedWith P (e .prefix) (e .gaps) (e .rule)
-  pub small : r ≤ 3432
+  pub small : r ≤ COMPARED

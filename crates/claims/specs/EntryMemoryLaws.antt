@@ -8,6 +8,7 @@ use mathlib.Core.List.{List, [], _∷_, map, map-map, List·Memᴰ, Memᴰ·map}
 use lib.ListN.{length, getD, take, set}
 use lib.Seq.{getD-set-same, getD-set-other}
 use mathlib.Core.Logic.{_⊎_, inl, inr}
+use Rattle.word.specs.Ceilings.{PREFIX, COMPONENTS, GAPS, TOTAL}
 use Rattle.word.specs.Lists.{row}
 use Rattle.word.specs.Word.{isPerm}
 use Rattle.word.specs.ListLaws.{same-or-not, map-same, row-out, row-in}
@@ -45,10 +46,10 @@ take-row (x ∷ l) d (suc n) h = ap (λ u. x ∷ u) (take-row l d n (omega arith
     shift n = later 0 n
 
 module _ (e : Entry) (proper : ProperEntry (entryIn e)) where
-  pub entry-short : e .length ≤ 6
+  pub entry-short : e .length ≤ PREFIX
   entry-short = omega (arith, proper .short, length-padded (e .length) (e .prefix))
 
-  pub entry-few : e .«gap_count» ≤ 8
+  pub entry-few : e .«gap_count» ≤ GAPS
   entry-few = omega (arith, proper .few, length-items (λ i. gapIn (getD (e .gaps) i noGap)) (e .«gap_count»))
 
   gap-member : (j : ℕ) → j < e .«gap_count» → List·Memᴰ (gapIn (getD (e .gaps) j noGap)) ((entryIn e) .gaps)
@@ -59,11 +60,11 @@ module _ (e : Entry) (proper : ProperEntry (entryIn e)) where
       let b = getD (e .gaps) j noGap in
       sym (length-padded (b .width) (b .parts)) ∙ proper .wide (gapIn b) (gap-member j h) ∙ ap suc (length-padded (e .length) (e .prefix))
 
-  pub gap-total : (j : ℕ) → j < e .«gap_count» → total (gapIn (getD (e .gaps) j noGap)) ≤ 8
+  pub gap-total : (j : ℕ) → j < e .«gap_count» → total (gapIn (getD (e .gaps) j noGap)) ≤ TOTAL
   gap-total j h = proper .small (gapIn (getD (e .gaps) j noGap)) (gap-member j h)
 
   -- the rows hold the gap vectors
-  pub rows-hold : (rows : List (List ℕ)) → length rows ≡ 8 → HasRows (e .gaps) rows → gapsOf rows (e .length + 1) (e .«gap_count») ≡ (entryIn e) .gaps
+  pub rows-hold : (rows : List (List ℕ)) → length rows ≡ GAPS → HasRows (e .gaps) rows → gapsOf rows (e .length + 1) (e .«gap_count») ≡ (entryIn e) .gaps
   unfolding gapsOf
   rows-hold rows eight has =
       let n = e .«gap_count» in
@@ -77,12 +78,12 @@ module _ (e : Entry) (proper : ProperEntry (entryIn e)) where
           let b = getD (e .gaps) i noGap in
           let (same, seven) = has i (omega (arith, entry-few)) in
           let w : b .width ≡ e .length + 1 = gap-width i h ∙ sym (add-one (e .length)) in
-          let s : length (b .parts) ≡ 7 = sym (ap length same) ∙ seven in
+          let s : length (b .parts) ≡ COMPONENTS = sym (ap length same) ∙ seven in
           ap (take (e .length + 1)) same ∙ sym (padded-within (e .length + 1) (b .parts) (omega (arith, entry-short, s))) ∙
           ap (λ n. padded n (b .parts)) (sym w)
 
   -- the prefix, once its array is known to have six digits
-  module _ (six : length (e .prefix) ≡ 6) where
+  module _ (six : length (e .prefix) ≡ PREFIX) where
     pub prefix-is : (entryIn e) .prefix ≡ take (e .length) (e .prefix)
     prefix-is = padded-within (e .length) (e .prefix) (omega (arith, entry-short, six))
 

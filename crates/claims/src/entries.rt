@@ -10,6 +10,7 @@ use word::limits::PATTERNS;
 use word::limits::PREFIX;
 ghost use mathlib.Core.Path.{_≡_};
 ghost use Prim.Native.Nat.{_≤_};
+ghost use Rattle.word.specs.Ceilings.{DIGITS};
 ghost use Rattle.word.specs.Containment.{patternsOf};
 ghost use Rattle.scheme.specs.SchemeMemory.{entryIn};
 ghost use Rattle.verdict.specs.Verdict.{liveGap, differs};
@@ -80,7 +81,7 @@ fn loses(
 
 // How many cells are compared for one entry, m being the length of the longest pattern.
 pub fn compared_with(m: usize, e: Entry) -> usize
-    requires { ⌜ (m ≤ 8) × ProperEntry (entryIn e) ⌝ }
+    requires { ⌜ (m ≤ DIGITS) × ProperEntry (entryIn e) ⌝ }
     ensures { λ r. ⌜ ComparedAnswer m (entryIn e) r ⌝ }
 {
     let k = e.length;

@@ -17,6 +17,7 @@ ghost use mathlib.Core.Bool.{true, not};
 ghost use Prim.Native.Nat.{suc, _+_, _≤_, _<_};
 ghost use lib.ListN.{length, take};
 ghost use lib.Dec.{leb};
+ghost use Rattle.word.specs.Ceilings.{PREFIX, COMPONENTS, TOTAL};
 ghost use Rattle.word.specs.Word.{isPerm};
 ghost use Rattle.word.specs.Containment.{patternsOf};
 ghost use Rattle.cell.specs.Cell.{total, cell};
@@ -25,9 +26,12 @@ ghost use Rattle.verdict.specs.Verdict.{isEmpty};
 ghost use Rattle.claims.specs.EntryMemory.{HasRows};
 ghost use Rattle.claims.specs.EmptyBelow.{showsEmpty, emptyAt, emptyBelow};
 
+// A flag for each value from 0 to DIGITS.
+const FLAGS: usize = DIGITS + 1;
+
 // The components of a gap vector.
 fn parts_of(b: Gap) -> [u8; COMPONENTS]
-    ensures { λ r. ⌜ (r ≡ b .parts) × (length r ≡ 7) ⌝ }
+    ensures { λ r. ⌜ (r ≡ b .parts) × (length r ≡ COMPONENTS) ⌝ }
 {
     b.parts
 }
@@ -63,7 +67,7 @@ pub fn is_live(
     k: usize,
     b: Gap,
 ) -> bool
-    requires { ⌜ (k ≤ 6) × (isPerm (take k prefix) ≡ true) × (b .width ≡ suc k) × (total (gapIn b) ≤ 8) ⌝ }
+    requires { ⌜ (k ≤ PREFIX) × (isPerm (take k prefix) ≡ true) × (b .width ≡ suc k) × (total (gapIn b) ≤ TOTAL) ⌝ }
     ensures { λ r. ⌜ r ≡ not (isEmpty (cell (patternsOf set lengths count) (take k prefix) (gapIn b))) ⌝ }
 {
     let parts = parts_of(b);
@@ -82,11 +86,11 @@ fn is_live_at(
     k: usize,
     parts: [u8; COMPONENTS],
 ) -> bool
-    requires { ⌜ (k ≤ 6) × (isPerm (take k prefix) ≡ true) × (total (take (k + 1) parts) ≤ 8) ⌝ }
+    requires { ⌜ (k ≤ PREFIX) × (isPerm (take k prefix) ≡ true) × (total (take (k + 1) parts) ≤ TOTAL) ⌝ }
     ensures { λ r. ⌜ r ≡ not (isEmpty (cell (patternsOf set lengths count) (take k prefix) (take (k + 1) parts))) ⌝ }
 {
     let levels = levels_of(parts, k);
-    let w = kept(prefix, k, levels, [0u8; 9]);
+    let w = kept(prefix, k, levels, [0u8; FLAGS]);
     let entries = w.entries;
     let n = k + wide(levels[k]) + wide(parts[k]);
     completable(set, lengths, count, entries, k, n)
@@ -101,7 +105,7 @@ fn has_empty_below(
     k: usize,
     parts: [u8; COMPONENTS],
 ) -> bool
-    requires { ⌜ (k ≤ 6) × (isPerm (take k prefix) ≡ true) × (total (take (k + 1) parts) ≤ 8) ⌝ }
+    requires { ⌜ (k ≤ PREFIX) × (isPerm (take k prefix) ≡ true) × (total (take (k + 1) parts) ≤ TOTAL) ⌝ }
     ensures { λ r. ⌜ r ≡ emptyBelow (patternsOf set lengths count) (take k prefix) (take (k + 1) parts) k ⌝ }
 {
     let mut t: usize = 0;
@@ -119,7 +123,7 @@ fn has_empty_below(
 
 // Whether the total of the first k + 1 components is at most t.
 fn is_at_most(parts: [u8; COMPONENTS], k: usize, t: usize) -> bool
-    requires { ⌜ k ≤ 6 ⌝ }
+    requires { ⌜ k ≤ PREFIX ⌝ }
     ensures { λ r. ⌜ r ≡ leb (total (take (k + 1) parts)) t ⌝ }
 {
     let mut sum: usize = 0;
@@ -141,7 +145,7 @@ fn has_empty(
     parts: [u8; COMPONENTS],
     t: usize,
 ) -> bool
-    requires { ⌜ (k ≤ 6) × (isPerm (take k prefix) ≡ true) × (t ≤ 8) ⌝ }
+    requires { ⌜ (k ≤ PREFIX) × (isPerm (take k prefix) ≡ true) × (t ≤ TOTAL) ⌝ }
     ensures { λ r. ⌜ r ≡ emptyAt (patternsOf set lengths count) (take k prefix) (take (k + 1) parts) k t ⌝ }
 {
     let mut g = first_spacing(k, t as u8);
@@ -167,7 +171,7 @@ fn is_empty_below(
     parts: [u8; COMPONENTS],
     g: [u8; COMPONENTS],
 ) -> bool
-    requires { ⌜ (k ≤ 6) × (isPerm (take k prefix) ≡ true) × (total (take (k + 1) g) ≤ 8) ⌝ }
+    requires { ⌜ (k ≤ PREFIX) × (isPerm (take k prefix) ≡ true) × (total (take (k + 1) g) ≤ TOTAL) ⌝ }
     ensures { λ r. ⌜ r ≡ showsEmpty (patternsOf set lengths count) (take k prefix) (take (k + 1) parts) (take (k + 1) g) ⌝ }
 {
     if !at_least(parts, g, k) {

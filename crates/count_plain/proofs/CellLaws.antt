@@ -10,6 +10,7 @@ use mathlib.Core.List.{List, [], _∷_, map}
 use lib.ListN.{length, take}
 use lib.Seq.{length-take-le}
 use borrow.Author.Tests.{eq-eqb, ne-eqb}
+use Rattle.word.specs.Ceilings.{ENTRIES, PREFIX, COMPONENTS, GAPS, PLAIN_LENGTH}
 use Rattle.word.specs.Lists.{all, row}
 use Rattle.word.specs.Word.{avoids, entry}
 use Rattle.cell.specs.Cell.{total, atLeast, free, deleted, merged, mergeValues}
@@ -29,6 +30,7 @@ use Rattle.count_step.specs.Step.{LARGEST, capped}
 use Rattle.count_step.specs.StepLaws.{below-cap}
 use Rattle.count_step.proofs.SumLaws.{cap-more, cap-end}
 use Rattle.count_rows.specs.Rows.{Solves, sumFrom}
+use Rattle.count_plain.specs.SheetSizes.{FIELDS, HEAD, CARD}
 use Rattle.count_plain.specs.Pieces.{splitAt, HeldAt}
 use Rattle.count_plain.specs.Reading.{fieldOf, vectorOf, gapsAt, Names, RuleRow, Row, CellAt, Evaluates, Sums}
 
@@ -36,27 +38,27 @@ use Rattle.count_plain.specs.Reading.{fieldOf, vectorOf, gapsAt, Names, 
 
 abbrev pub freeFrom : List ℕ → ℕ → ℕ → ℕ → List ℕ → ℕ → Bool
 freeFrom sheet e k n g v =
-    all (λ b. not (atLeast g b)) (map (λ u. take (k + 1) (vectorOf sheet (80 * e + 16 + 7 * u))) (row v (n - v)))
+    all (λ b. not (atLeast g b)) (map (λ u. take (k + 1) (vectorOf sheet (CARD * e + HEAD + COMPONENTS * u))) (row v (n - v)))
 
 module _ (sheet : List ℕ) (e k n : ℕ) (g : List ℕ) where
   pub free-start : n ≡ fieldOf sheet e 3 → free (gapsAt sheet e k) g ≡ freeFrom sheet e k n g 0
   unfolding free
   free-start q =
-      ap (λ m. all (λ b. not (atLeast g b)) (map (λ u. take (k + 1) (vectorOf sheet (80 * e + 16 + 7 * u))) (row 0 m))) (sym q ∙ sym (sub-zero n))
+      ap (λ m. all (λ b. not (atLeast g b)) (map (λ u. take (k + 1) (vectorOf sheet (CARD * e + HEAD + COMPONENTS * u))) (row 0 m))) (sym q ∙ sym (sub-zero n))
 
   free-cons : (v : ℕ) → v < n →
-      freeFrom sheet e k n g v ≡ not (atLeast g (take (k + 1) (vectorOf sheet (80 * e + 16 + 7 * v)))) && freeFrom sheet e k n g (suc v)
+      freeFrom sheet e k n g v ≡ not (atLeast g (take (k + 1) (vectorOf sheet (CARD * e + HEAD + COMPONENTS * v)))) && freeFrom sheet e k n g (suc v)
   free-cons v h =
-      ap (λ (r : List ℕ). all (λ b. not (atLeast g b)) (map (λ u. take (k + 1) (vectorOf sheet (80 * e + 16 + 7 * u))) r)) (row-next n v h)
+      ap (λ (r : List ℕ). all (λ b. not (atLeast g b)) (map (λ u. take (k + 1) (vectorOf sheet (CARD * e + HEAD + COMPONENTS * u))) r)) (row-next n v h)
 
-  pub free-covered : (v : ℕ) → v < n → atLeast g (take (k + 1) (vectorOf sheet (80 * e + 16 + 7 * v))) ≡ true → freeFrom sheet e k n g v ≡ false
+  pub free-covered : (v : ℕ) → v < n → atLeast g (take (k + 1) (vectorOf sheet (CARD * e + HEAD + COMPONENTS * v))) ≡ true → freeFrom sheet e k n g v ≡ false
   free-covered v h q = free-cons v h ∙ rw q refl
 
-  pub free-later : (v : ℕ) → v < n → atLeast g (take (k + 1) (vectorOf sheet (80 * e + 16 + 7 * v))) ≡ false → freeFrom sheet e k n g v ≡ freeFrom sheet e k n g (v + 1)
+  pub free-later : (v : ℕ) → v < n → atLeast g (take (k + 1) (vectorOf sheet (CARD * e + HEAD + COMPONENTS * v))) ≡ false → freeFrom sheet e k n g v ≡ freeFrom sheet e k n g (v + 1)
   free-later v h q = free-cons v h ∙ rw (q, add-one v) refl
 
   pub free-end : (v : ℕ) → n ≤ v → freeFrom sheet e k n g v ≡ true
-  free-end v h = ap (λ (r : List ℕ). all (λ b. not (atLeast g b)) (map (λ u. take (k + 1) (vectorOf sheet (80 * e + 16 + 7 * u))) r)) (row-end n v h)
+  free-end v h = ap (λ (r : List ℕ). all (λ b. not (atLeast g b)) (map (λ u. take (k + 1) (vectorOf sheet (CARD * e + HEAD + COMPONENTS * u))) r)) (row-end n v h)
 
 -- twice the number that falls at each cell: "eight times the length less the prefix length falls at each cell" (01)
 abbrev pub measureOf : List ℕ → ℕ → ℕ → ℕ
@@ -71,7 +73,7 @@ record Deleting (s : Scheme) (e : ℕ) (sheet : List ℕ) (w : ℕ) : Type 0 whe
   value : w ≡ entry (prefixAt s e) (suc r)
   low : 1 ≤ w
   high : w ≤ length (prefixAt s e)
-  names : Names s (deleted (suc r ∷ []) (prefixAt s e)) (fieldOf sheet e 8)
+  names : Names s (deleted (suc r ∷ []) (prefixAt s e)) (fieldOf sheet e FIELDS)
 
 module _ (P : List (List ℕ)) (s : Scheme) (sheet : List ℕ) (e : ℕ) (proper : Proper s) (inside : e < s .count) (row-e : Row P s sheet e) where
   deleting : (w : ℕ) → w ≡ fieldOf sheet e 1 → (w ≡ 0 → ⊥) → Deleting s e sheet w
@@ -97,16 +99,16 @@ module _ (sheet : List ℕ) (e : ℕ) (g : List ℕ) (t : ℕ) (c : CellAt sheet
   row-at : Row (c .of .P) (c .of .s) sheet e
   row-at = c .of .rows e (c .inside)
 
-  pub index-small : e < 128
+  pub index-small : e < ENTRIES
   index-small = omega (arith, c .inside, count-few (c .of .s) (c .of .proper))
 
-  pub few : fieldOf sheet e 3 ≤ 8
+  pub few : fieldOf sheet e 3 ≤ GAPS
   few = row-at .few
 
-  pub length-small : fieldOf sheet e 0 ≤ 6
+  pub length-small : fieldOf sheet e 0 ≤ PREFIX
   length-small = omega (arith, row-at .size, entry-short (c .of .s) (c .of .proper) e (c .inside))
 
-  pub measure-room : fieldOf sheet e 0 + t ≤ 9
+  pub measure-room : fieldOf sheet e 0 + t ≤ PLAIN_LENGTH
   measure-room = omega (arith, row-at .size, c .fits)
 
   module _ (k : ℕ) (ke : k ≡ fieldOf sheet e 0) where
@@ -180,12 +182,12 @@ module _ (sheet : List ℕ) (e : ℕ) (g : List ℕ) (t : ℕ) (c : CellAt sheet
       pub deleted-high : w ≤ k
       deleted-high = omega (arith, del .high, prefix-length (c .of .s) e, k-is)
 
-      target-length : lengthAt (c .of .s) (fieldOf sheet e 8) + 1 ≡ k
+      target-length : lengthAt (c .of .s) (fieldOf sheet e FIELDS) + 1 ≡ k
       target-length =
           let o = position (c .of .s) (c .of .proper) e (c .inside) (suc (del .r)) (del .rule) in
           omega (
             arith,
-            sym (prefix-length (c .of .s) (fieldOf sheet e 8)),
+            sym (prefix-length (c .of .s) (fieldOf sheet e FIELDS)),
             ap length (del .names .named),
             deleted-size (del .r) (prefixAt (c .of .s) e) (entry-proper (c .of .s) (c .of .proper) e (c .inside) .perm)
                 (omega (arith, o .1, prefix-length (c .of .s) e)),
@@ -193,12 +195,12 @@ module _ (sheet : List ℕ) (e : ℕ) (g : List ℕ) (t : ℕ) (c : CellAt sheet
             k-is,
           )
 
-      module _ (h : List ℕ) (long : length h ≡ 7) (m : take k h ≡ mergeValues (w ∷ []) (take (k + 1) g)) where
-        target-spacing : take (lengthAt (c .of .s) (fieldOf sheet e 8) + 1) h ≡ merged (suc (del .r) ∷ []) (prefixAt (c .of .s) e) (take (k + 1) g)
+      module _ (h : List ℕ) (long : length h ≡ COMPONENTS) (m : take k h ≡ mergeValues (w ∷ []) (take (k + 1) g)) where
+        target-spacing : take (lengthAt (c .of .s) (fieldOf sheet e FIELDS) + 1) h ≡ merged (suc (del .r) ∷ []) (prefixAt (c .of .s) e) (take (k + 1) g)
         unfolding merged
         target-spacing = ap (λ x. take x h) target-length ∙ m ∙ ap (λ (x : ℕ). mergeValues (x ∷ []) (take (k + 1) g)) (del .value)
 
-        pub target-at : CellAt sheet (fieldOf sheet e 8) h t
+        pub target-at : CellAt sheet (fieldOf sheet e FIELDS) h t
         target-at =
             record {
               of = c .of;
@@ -208,11 +210,11 @@ module _ (sheet : List ℕ) (e : ℕ) (g : List ℕ) (t : ℕ) (c : CellAt sheet
               fits = omega (arith, target-length, k-is, c .fits);
             }
 
-        pub target-falls : 2 * (8 * (fieldOf sheet (fieldOf sheet e 8) 0 + t) - fieldOf sheet (fieldOf sheet e 8) 0) < 2 * (8 * (fieldOf sheet e 0 + t) - fieldOf sheet e 0)
-        target-falls = omega (arith, c .of .rows (fieldOf sheet e 8) (del .names .inside) .size, target-length, ke)
+        pub target-falls : 2 * (8 * (fieldOf sheet (fieldOf sheet e FIELDS) 0 + t) - fieldOf sheet (fieldOf sheet e FIELDS) 0) < 2 * (8 * (fieldOf sheet e 0 + t) - fieldOf sheet e 0)
+        target-falls = omega (arith, c .of .rows (fieldOf sheet e FIELDS) (del .names .inside) .size, target-length, ke)
 
         target-value : (v : List ℕ → List ℕ → ℕ) → Solves v (c .of .P) (c .of .s) → free (gapsAt sheet e k) (take (k + 1) g) ≡ true → (x : ℕ) →
-            x ≡ v (prefixAt (c .of .s) (fieldOf sheet e 8)) (take (lengthAt (c .of .s) (fieldOf sheet e 8) + 1) h) →
+            x ≡ v (prefixAt (c .of .s) (fieldOf sheet e FIELDS)) (take (lengthAt (c .of .s) (fieldOf sheet e FIELDS) + 1) h) →
             x ≡ v (prefixAt (c .of .s) e) (take (lengthAt (c .of .s) e + 1) g)
         unfolding ruleValue
         target-value v solved f x y =
@@ -220,7 +222,7 @@ module _ (sheet : List ℕ) (e : ℕ) (g : List ℕ) (t : ℕ) (c : CellAt sheet
             sym (rule-value v solved f (deletes (suc (del .r))) (del .rule))
 
         pub target-evaluates : (v : List ℕ → List ℕ → ℕ) → Solves v (c .of .P) (c .of .s) → free (gapsAt sheet e k) (take (k + 1) g) ≡ true → (x : ℕ) →
-            Evaluates sheet (fieldOf sheet e 8) h t x → x ≡ v (prefixAt (c .of .s) e) (take (lengthAt (c .of .s) e + 1) g)
+            Evaluates sheet (fieldOf sheet e FIELDS) h t x → x ≡ v (prefixAt (c .of .s) e) (take (lengthAt (c .of .s) e + 1) g)
         unfolding target-at
         target-evaluates v solved f x ev = target-value v solved f x (ev target-at v solved)
 
@@ -229,30 +231,30 @@ module _ (sheet : List ℕ) (e : ℕ) (g : List ℕ) (t : ℕ) (c : CellAt sheet
       row-child : RuleRow (c .of .P) (c .of .s) (prefixAt (c .of .s) e) expands sheet e
       row-child = expanding (c .of .P) (c .of .s) sheet e (c .of .proper) (c .inside) row-at z .1
 
-      pub length-less : k ≤ 5
+      pub length-less : k < PREFIX
       length-less = omega (arith, row-child .2, prefix-length (c .of .s) e, k-is)
 
-      names : Names (c .of .s) (childAt (prefixAt (c .of .s) e) (suc i)) (fieldOf sheet e (8 + i))
+      names : Names (c .of .s) (childAt (prefixAt (c .of .s) e) (suc i)) (fieldOf sheet e (FIELDS + i))
       names = row-child .3 i (omega (arith, held .reach, prefix-length (c .of .s) e, k-is))
 
-      child-size : lengthAt (c .of .s) (fieldOf sheet e (8 + i)) ≡ k + 1
+      child-size : lengthAt (c .of .s) (fieldOf sheet e (FIELDS + i)) ≡ k + 1
       child-size =
           omega (
             arith,
-            sym (prefix-length (c .of .s) (fieldOf sheet e (8 + i))),
+            sym (prefix-length (c .of .s) (fieldOf sheet e (FIELDS + i))),
             ap length (names .named),
             child-length (prefixAt (c .of .s) e) (suc i),
             prefix-length (c .of .s) e,
             k-is,
           )
 
-      module _ (h : List ℕ) (long : length h ≡ 7) (m : take (k + 2) h ≡ splitAt (take (k + 1) g) i l) where
-        child-spacing : take (lengthAt (c .of .s) (fieldOf sheet e (8 + i)) + 1) h ≡ split (take (lengthAt (c .of .s) e + 1) g) q
+      module _ (h : List ℕ) (long : length h ≡ COMPONENTS) (m : take (k + 2) h ≡ splitAt (take (k + 1) g) i l) where
+        child-spacing : take (lengthAt (c .of .s) (fieldOf sheet e (FIELDS + i)) + 1) h ≡ split (take (lengthAt (c .of .s) e + 1) g) q
         child-spacing =
-            let o : lengthAt (c .of .s) (fieldOf sheet e (8 + i)) + 1 ≡ k + 2 = omega (arith, child-size) in
+            let o : lengthAt (c .of .s) (fieldOf sheet e (FIELDS + i)) + 1 ≡ k + 2 = omega (arith, child-size) in
             ap (λ x. take x h) o ∙ m ∙ sym (held .split-is) ∙ ap (λ (u : List ℕ). split u q) spacing-is
 
-        pub child-at : CellAt sheet (fieldOf sheet e (8 + i)) h (t - 1)
+        pub child-at : CellAt sheet (fieldOf sheet e (FIELDS + i)) h (t - 1)
         child-at =
             record {
               of = c .of;
@@ -265,18 +267,18 @@ module _ (sheet : List ℕ) (e : ℕ) (g : List ℕ) (t : ℕ) (c : CellAt sheet
             less : total (split (take (lengthAt (c .of .s) e + 1) g) q) ≡ t - 1
             less = omega (arith, split-total (take (lengthAt (c .of .s) e + 1) g) q one (omega (arith, c .whole)), c .whole)
 
-        pub child-falls : 2 * (8 * (fieldOf sheet (fieldOf sheet e (8 + i)) 0 + (t - 1)) - fieldOf sheet (fieldOf sheet e (8 + i)) 0) <
+        pub child-falls : 2 * (8 * (fieldOf sheet (fieldOf sheet e (FIELDS + i)) 0 + (t - 1)) - fieldOf sheet (fieldOf sheet e (FIELDS + i)) 0) <
             2 * (8 * (fieldOf sheet e 0 + t) - fieldOf sheet e 0) - 1
-        child-falls = omega (arith, c .of .rows (fieldOf sheet e (8 + i)) (names .inside) .size, child-size, ke)
+        child-falls = omega (arith, c .of .rows (fieldOf sheet e (FIELDS + i)) (names .inside) .size, child-size, ke)
 
         child-value : (v : List ℕ → List ℕ → ℕ) (x : ℕ) →
-            x ≡ v (prefixAt (c .of .s) (fieldOf sheet e (8 + i))) (take (lengthAt (c .of .s) (fieldOf sheet e (8 + i)) + 1) h) →
+            x ≡ v (prefixAt (c .of .s) (fieldOf sheet e (FIELDS + i))) (take (lengthAt (c .of .s) (fieldOf sheet e (FIELDS + i)) + 1) h) →
             x ≡ v (childAt (prefixAt (c .of .s) e) (slot (take (lengthAt (c .of .s) e + 1) g) q)) (split (take (lengthAt (c .of .s) e + 1) g) q)
         child-value v x y =
             let sl : slot (take (lengthAt (c .of .s) e + 1) g) q ≡ suc i = ap (λ (u : List ℕ). slot u q) (sym spacing-is) ∙ held .slot-is in
             y ∙ ap₂ v (names .named ∙ ap (childAt (prefixAt (c .of .s) e)) (sym sl)) child-spacing
 
-        pub child-evaluates : (v : List ℕ → List ℕ → ℕ) → Solves v (c .of .P) (c .of .s) → (x : ℕ) → Evaluates sheet (fieldOf sheet e (8 + i)) h (t - 1) x →
+        pub child-evaluates : (v : List ℕ → List ℕ → ℕ) → Solves v (c .of .P) (c .of .s) → (x : ℕ) → Evaluates sheet (fieldOf sheet e (FIELDS + i)) h (t - 1) x →
             x ≡ v (childAt (prefixAt (c .of .s) e) (slot (take (lengthAt (c .of .s) e + 1) g) q)) (split (take (lengthAt (c .of .s) e + 1) g) q)
         unfolding child-at
         child-evaluates v solved x ev = child-value v x (ev child-at v solved)

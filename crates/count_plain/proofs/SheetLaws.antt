@@ -7,6 +7,7 @@ use mathlib.Core.Logic.{_⊎_, inl, inr}
 use mathlib.Core.List.{List}
 use lib.ListN.{length, getD, set, replicate, length-set, length-replicate}
 use lib.Seq.{getD-set-same, getD-set-other}
+use Rattle.word.specs.Ceilings.{ENTRIES, COMPONENTS, GAPS}
 use Rattle.word.specs.ListLaws.{below-or-not}
 use Rattle.scheme.specs.SchemeMemory.{noGap, noEntry}
 use Rattle.scheme.specs.declared.memory.Gap.{Gap}
@@ -16,6 +17,7 @@ use Rattle.count_plan.specs.Layout.{entryAt}
 use Rattle.count_plan.specs.Plan.{EntryItem}
 use Rattle.count_plan.specs.declared.items.Item.{Item}
 use Rattle.count_plan.proofs.PlanItemLaws.{set-near, zeros-near}
+use Rattle.count_plain.specs.SheetSizes.{HEAD, CARD}
 use Rattle.count_plain.specs.SheetForm.{Put, headOf, GapsIn, CardIn, CardFor, SheetTo, Indices}
 
 -- the first m bytes of a part are written
@@ -66,55 +68,55 @@ pub gaps-start : (gaps : List Gap) (at : ℕ) (before : List ℕ) → GapsIn gap
 gaps-start gaps at before =
     record {
       size = refl;
-      parts = λ (v j : ℕ) (h : v < 0) (k : j < 7). absurd (omega arith);
-      other = λ (x : ℕ) (h : (x < at) ⊎ (at + 7 * 0 ≤ x)). refl;
+      parts = λ (v j : ℕ) (h : v < 0) (k : j < COMPONENTS). absurd (omega arith);
+      other = λ (x : ℕ) (h : (x < at) ⊎ (at + COMPONENTS * 0 ≤ x)). refl;
     }
 
-pub gaps-more : (gaps : List Gap) (m at : ℕ) (before now after : List ℕ) (part : List ℕ) → length part ≡ 7 → part ≡ (getD gaps m noGap) .parts →
-    GapsIn gaps m at before now → Put (at + 7 * m) part now after → GapsIn gaps (m + 1) at before after
+pub gaps-more : (gaps : List Gap) (m at : ℕ) (before now after : List ℕ) (part : List ℕ) → length part ≡ COMPONENTS → part ≡ (getD gaps m noGap) .parts →
+    GapsIn gaps m at before now → Put (at + COMPONENTS * m) part now after → GapsIn gaps (m + 1) at before after
 gaps-more gaps m at before now after part l q g p =
     record {
       size = p .size ∙ g .size;
-      parts = λ (v j : ℕ) (h : v < m + 1) (k : j < 7). go v j h k (below-or-not v m);
-      other = λ (x : ℕ) (o : (x < at) ⊎ (at + 7 * (m + 1) ≤ x)). far x o;
+      parts = λ (v j : ℕ) (h : v < m + 1) (k : j < COMPONENTS). go v j h k (below-or-not v m);
+      other = λ (x : ℕ) (o : (x < at) ⊎ (at + COMPONENTS * (m + 1) ≤ x)). far x o;
     }
   where
-    go : (v j : ℕ) → v < m + 1 → j < 7 → (v < m) ⊎ (m ≤ v) → getD after (at + (7 * v + j)) 0 ≡ getD ((getD gaps v noGap) .parts) j 0
-    go v j h k (inl a) = p .other (at + (7 * v + j)) (inl (omega arith)) ∙ g .parts v j a k
+    go : (v j : ℕ) → v < m + 1 → j < COMPONENTS → (v < m) ⊎ (m ≤ v) → getD after (at + (COMPONENTS * v + j)) 0 ≡ getD ((getD gaps v noGap) .parts) j 0
+    go v j h k (inl a) = p .other (at + (COMPONENTS * v + j)) (inl (omega arith)) ∙ g .parts v j a k
     go v j h k (inr a) =
         let s : v ≡ m = omega arith in
-        let x : at + (7 * v + j) ≡ at + 7 * m + j = omega arith in
+        let x : at + (COMPONENTS * v + j) ≡ at + COMPONENTS * m + j = omega arith in
         ap (λ n. getD after n 0) x ∙ p .here j (omega arith) ∙ ap (λ (u : List ℕ). getD u j 0) q ∙
         ap (λ n. getD ((getD gaps n noGap) .parts) j 0) (sym s)
 
-    far : (x : ℕ) → (x < at) ⊎ (at + 7 * (m + 1) ≤ x) → getD after x 0 ≡ getD before x 0
+    far : (x : ℕ) → (x < at) ⊎ (at + COMPONENTS * (m + 1) ≤ x) → getD after x 0 ≡ getD before x 0
     far x (inl a) = p .other x (inl (omega arith)) ∙ g .other x (inl a)
     far x (inr a) = p .other x (inr (omega arith)) ∙ g .other x (inr (omega arith))
 
 -- an entry: its first bytes, and then its gap vectors
 pub card-made : (e : Entry) (t : Item) (at : ℕ) (before now after head : List ℕ) → head ≡ headOf t (e .«gap_count») → Put at head before now →
-    GapsIn (e .gaps) 8 (at + 16) now after → CardIn e t at before after
+    GapsIn (e .gaps) GAPS (at + HEAD) now after → CardIn e t at before after
 card-made e t at before now after head q p g =
-    let l : length head ≡ 16 = ap length q in
+    let l : length head ≡ HEAD = ap length q in
     record {
       size = g .size ∙ p .size;
-      head = λ (f : ℕ) (h : f < 16).
+      head = λ (f : ℕ) (h : f < HEAD).
           g .other (at + f) (inl (omega arith)) ∙ p .here f (omega arith) ∙ ap (λ (u : List ℕ). getD u f 0) q;
-      parts = λ (v j : ℕ) (h : v < 8) (k : j < 7). g .parts v j h k;
-      other = λ (x : ℕ) (o : (x < at) ⊎ (at + 80 ≤ x)). far (ap length q) x o;
+      parts = λ (v j : ℕ) (h : v < GAPS) (k : j < COMPONENTS). g .parts v j h k;
+      other = λ (x : ℕ) (o : (x < at) ⊎ (at + CARD ≤ x)). far (ap length q) x o;
     }
   where
-    far : length head ≡ 16 → (x : ℕ) → (x < at) ⊎ (at + 80 ≤ x) → getD after x 0 ≡ getD before x 0
+    far : length head ≡ HEAD → (x : ℕ) → (x < at) ⊎ (at + CARD ≤ x) → getD after x 0 ≡ getD before x 0
     far l x (inl a) = g .other x (inl (omega arith)) ∙ p .other x (inl a)
     far l x (inr a) = g .other x (inr (omega arith)) ∙ p .other x (inr (omega arith))
 
 -- The indices
 
-pub indices-start : Indices 0 (replicate 128 0)
+pub indices-start : Indices 0 (replicate ENTRIES 0)
 indices-start =
-    record { long = length-replicate {A = ℕ} 128 0; at = λ (d : ℕ) (h : d < 0). absurd (omega arith); near = zeros-near 128 }
+    record { long = length-replicate {A = ℕ} ENTRIES 0; at = λ (d : ℕ) (h : d < 0). absurd (omega arith); near = zeros-near ENTRIES }
 
-pub indices-more : (m : ℕ) (places : List ℕ) → m < 128 → Indices m places → Indices (m + 1) (set places m m)
+pub indices-more : (m : ℕ) (places : List ℕ) → m < ENTRIES → Indices m places → Indices (m + 1) (set places m m)
 indices-more m places h p =
     record {
       long = length-set places m m ∙ p .long;
@@ -131,8 +133,8 @@ indices-more m places h p =
 -- The sheet
 
 -- the cards of other entries stay
-pub sheet-more : (P : List (List ℕ)) (s : Scheme) (m : ℕ) (sheet after places : List ℕ) (item : Item) → SheetTo P s m sheet → Indices 128 places →
-    EntryItem P s (entryAt s m) places 0 item → CardIn (getD (s .entries) m noEntry) item (80 * m) sheet after → SheetTo P s (m + 1) after
+pub sheet-more : (P : List (List ℕ)) (s : Scheme) (m : ℕ) (sheet after places : List ℕ) (item : Item) → SheetTo P s m sheet → Indices ENTRIES places →
+    EntryItem P s (entryAt s m) places 0 item → CardIn (getD (s .entries) m noEntry) item (CARD * m) sheet after → SheetTo P s (m + 1) after
 sheet-more P s m sheet after places item st ix is c =
     record {
       long = c .size ∙ st .long;
@@ -152,9 +154,9 @@ sheet-more P s m sheet after places item st ix is c =
           before = after;
           card = record {
             size = refl;
-            head = λ (f : ℕ) (l : f < 16). c .other (80 * i + f) (inl (omega arith)) ∙ k .card .head f l;
-            parts = λ (v j : ℕ) (a : v < 8) (b : j < 7). c .other (80 * i + 16 + (7 * v + j)) (inl (omega arith)) ∙ k .card .parts v j a b;
-            other = λ (x : ℕ) (o : (x < 80 * i) ⊎ (80 * i + 80 ≤ x)). refl;
+            head = λ (f : ℕ) (l : f < HEAD). c .other (CARD * i + f) (inl (omega arith)) ∙ k .card .head f l;
+            parts = λ (v j : ℕ) (a : v < GAPS) (b : j < COMPONENTS). c .other (CARD * i + HEAD + (COMPONENTS * v + j)) (inl (omega arith)) ∙ k .card .parts v j a b;
+            other = λ (x : ℕ) (o : (x < CARD * i) ⊎ (CARD * i + CARD ≤ x)). refl;
           };
         }
 

@@ -4,6 +4,7 @@ use mathlib.Core.Path.{_≡_}
 use mathlib.Core.Bool.{cond}
 use mathlib.Core.List.{List, [], _∷_, map}
 use lib.ListN.{length, getD, take}
+use Rattle.word.specs.Ceilings.{PREFIX, COMPONENTS, GAPS, PLAIN_LENGTH}
 use Rattle.word.specs.Lists.{row}
 use Rattle.word.specs.Word.{avoids, entry}
 use Rattle.cell.specs.Cell.{total, deleted}
@@ -16,12 +17,13 @@ use Rattle.count_plan.specs.Layout.{entryAt, prefixAt, lengthAt}
 use Rattle.count_plan.specs.Plan.{Proper}
 use Rattle.count_step.specs.Step.{capped}
 use Rattle.count_rows.specs.Rows.{Solves, sumFrom}
+use Rattle.count_plain.specs.SheetSizes.{FIELDS, HEAD, CARD, SHEET}
 
 -- byte f of the entry with index e
 abbrev pub fieldOf : List ℕ → ℕ → ℕ → ℕ
-fieldOf sheet e f = getD sheet (80 * e + f) 0
+fieldOf sheet e f = getD sheet (CARD * e + f) 0
 
--- seven bytes from `at` on
+-- the components of a gap vector, seven bytes from `at` on
 abbrev pub vectorOf : List ℕ → ℕ → List ℕ
 vectorOf sheet at =
     getD sheet at 0 ∷ getD sheet (at + 1) 0 ∷ getD sheet (at + 2) 0 ∷ getD sheet (at + 3) 0 ∷ getD sheet (at + 4) 0 ∷ getD sheet (at + 5) 0 ∷
@@ -29,7 +31,7 @@ vectorOf sheet at =
 
 -- the gap vectors of an entry, with k + 1 components each
 abbrev pub gapsAt : List ℕ → ℕ → ℕ → List (List ℕ)
-gapsAt sheet e k = map (λ v. take (k + 1) (vectorOf sheet (80 * e + 16 + 7 * v))) (row 0 (fieldOf sheet e 3))
+gapsAt sheet e k = map (λ v. take (k + 1) (vectorOf sheet (CARD * e + HEAD + COMPONENTS * v))) (row 0 (fieldOf sheet e 3))
 
 -- d is the index of the entry with the prefix q
 pub record Names (s : Scheme) (q : List ℕ) (d : ℕ) : Type 0 where
@@ -44,15 +46,15 @@ indexFound Nothing = 0
 -- what the sheet says of a rule
 abbrev pub RuleRow : List (List ℕ) → Scheme → List ℕ → Does → List ℕ → ℕ → Type 0
 RuleRow P s p expands sheet e =
-    (fieldOf sheet e 1 ≡ 0) × (fieldOf sheet e 2 ≡ cond (avoids P p) 1 0) × (length p ≤ 5) ×
-    ((a : ℕ) → a ≤ length p → Names s (childAt p (suc a)) (fieldOf sheet e (8 + a)))
+    (fieldOf sheet e 1 ≡ 0) × (fieldOf sheet e 2 ≡ cond (avoids P p) 1 0) × (length p < PREFIX) ×
+    ((a : ℕ) → a ≤ length p → Names s (childAt p (suc a)) (fieldOf sheet e (FIELDS + a)))
 RuleRow P s p (deletes r) sheet e =
-    (fieldOf sheet e 1 ≡ entry p r) × (1 ≤ entry p r) × (entry p r ≤ length p) × Names s (deleted (r ∷ []) p) (fieldOf sheet e 8)
+    (fieldOf sheet e 1 ≡ entry p r) × (1 ≤ entry p r) × (entry p r ≤ length p) × Names s (deleted (r ∷ []) p) (fieldOf sheet e FIELDS)
 
 -- what it says of the entry with index e
 pub record Row (P : List (List ℕ)) (s : Scheme) (sheet : List ℕ) (e : ℕ) : Type 0 where
   pub size : fieldOf sheet e 0 ≡ lengthAt s e
-  pub few : fieldOf sheet e 3 ≤ 8
+  pub few : fieldOf sheet e 3 ≤ GAPS
   pub gaps : gapsAt sheet e (lengthAt s e) ≡ (entryAt s e) .gaps
   pub rule : RuleRow P s (prefixAt s e) ((entryAt s e) .rule) sheet e
 
@@ -61,16 +63,16 @@ pub record Sheet (sheet : List ℕ) : Type 0 where
   pub P : List (List ℕ)
   pub s : Scheme
   pub proper : Proper s
-  pub long : length sheet ≡ 10240
+  pub long : length sheet ≡ SHEET
   pub rows : (e : ℕ) → e < s .count → Row P s sheet e
 
 -- the cell of the entry with index e at the spacing in g, whose total is t
 pub record CellAt (sheet : List ℕ) (e : ℕ) (g : List ℕ) (t : ℕ) : Type 0 where
   pub of : Sheet sheet
   pub inside : e < of .s .count
-  pub seven : length g ≡ 7
+  pub seven : length g ≡ COMPONENTS
   pub whole : total (take (lengthAt (of .s) e + 1) g) ≡ t
-  pub fits : lengthAt (of .s) e + t ≤ 9
+  pub fits : lengthAt (of .s) e + t ≤ PLAIN_LENGTH
 
 -- the value there, for every function that solves the recursion
 abbrev pub Evaluates : List ℕ → ℕ → List ℕ → ℕ → ℕ → Type 0

@@ -8,6 +8,7 @@ use mathlib.Core.List.{List, [], _∷_, _++_, map}
 use mathlib.Core.Option.{Option, none, some}
 use lib.ListN.{length, getD, take, replicate}
 use lib.Seq.{length-take-le, getD-take, ext-getD}
+use Rattle.word.specs.Ceilings.{ENTRIES, PREFIX, COMPONENTS, PLAIN_LENGTH, LINKS}
 use Rattle.word.specs.Lists.{row}
 use Rattle.word.specs.Word.{avoids, entry}
 use Rattle.word.specs.ListLaws.{true-not-false, map-same, row-out, getD-mem}
@@ -31,26 +32,27 @@ use Rattle.count_plan.specs.LayoutLaws.{prefix-length, entry-member, entry-prop
 use Rattle.count_plan.specs.Plan.{Proper, placeFound, RuleItem}
 use Rattle.count_plan.specs.declared.items.Item.{Item}
 use Rattle.count_plan.proofs.PlanItemLaws.{found-row, expands-short, position}
+use Rattle.count_plain.specs.SheetSizes.{FIELDS, HEAD, CARD}
 use Rattle.count_plain.specs.SheetForm.{headOf, CardFor, SheetTo}
 use Rattle.count_plain.specs.Reading.{fieldOf, vectorOf, gapsAt, Names, indexFound, RuleRow, Row, Sheet, CellAt, Evaluates}
 
 -- an entry that is found, by its index
-found-names : (s : Scheme) (q places : List ℕ) → Proper s → ((d : ℕ) → d < 128 → getD places d 0 ≡ d) → listed (prefixesIn s) q ≡ true →
-    Names s q (placeFound (foundOf (findIn (prefixesIn s) q)) places) × (placeFound (foundOf (findIn (prefixesIn s) q)) places < 128)
+found-names : (s : Scheme) (q places : List ℕ) → Proper s → ((d : ℕ) → d < ENTRIES → getD places d 0 ≡ d) → listed (prefixesIn s) q ≡ true →
+    Names s q (placeFound (foundOf (findIn (prefixesIn s) q)) places) × (placeFound (foundOf (findIn (prefixesIn s) q)) places < ENTRIES)
 found-names s q places proper ix l = go (findIn (prefixesIn s) q) refl
   where
     go : (o : Option ℕ) → findIn (prefixesIn s) q ≡ o →
-        Names s q (placeFound (foundOf (findIn (prefixesIn s) q)) places) × (placeFound (foundOf (findIn (prefixesIn s) q)) places < 128)
+        Names s q (placeFound (foundOf (findIn (prefixesIn s) q)) places) × (placeFound (foundOf (findIn (prefixesIn s) q)) places < ENTRIES)
     go none e = absurd (true-not-false (sym l ∙ listed-found 0 (prefixesIn s) q ∙ ap present e))
     go (some d) e =
         let r = found-row (prefixAt s) q 0 (s .count) d (ap (λ (ps : List (List ℕ)). findIn ps q) (sym (prefixes-at s)) ∙ e) in
         let k : d < s .count = omega (arith, r .0) in
-        let h : d < 128 = omega (arith, count-few s proper) in
+        let h : d < ENTRIES = omega (arith, count-few s proper) in
         let p : placeFound (foundOf (findIn (prefixesIn s) q)) places ≡ d = ap (λ (x : Option ℕ). placeFound (foundOf x) places) e ∙ ix d h in
         (subst (λ (x : ℕ). Names s q x) (sym p) (record { inside = k; named = r .1 }), omega (arith, p))
 
 -- the links in the first bytes
-head-link : (t : Item) (n a : ℕ) → a < 8 → getD (headOf t n) (8 + a) 0 ≡ getD (t .links) a 0 % 256
+head-link : (t : Item) (n a : ℕ) → a < LINKS → getD (headOf t n) (FIELDS + a) 0 ≡ getD (t .links) a 0 % 256
 head-link t n zero h = refl
 head-link t n (suc zero) h = refl
 head-link t n (suc (suc zero)) h = refl
@@ -76,7 +78,7 @@ padded-at n l j h = getD-take n (l ++ replicate n 0) j 0 h ∙ go l n j
     go (x ∷ l) m (suc j) = go l m j
 
 -- seven bytes by their index
-vector-at : (sheet : List ℕ) (at j : ℕ) → j < 7 → getD (vectorOf sheet at) j 0 ≡ getD sheet (at + j) 0
+vector-at : (sheet : List ℕ) (at j : ℕ) → j < COMPONENTS → getD (vectorOf sheet at) j 0 ≡ getD sheet (at + j) 0
 vector-at sheet at zero h = let e : at ≡ at + 0 = omega arith in ap (λ n. getD sheet n 0) e
 vector-at sheet at (suc zero) h = refl
 vector-at sheet at (suc (suc zero)) h = refl
@@ -91,41 +93,41 @@ module _ (P : List (List ℕ)) (s : Scheme) (proper : Proper s) (sheet : List �
   count-is = c .card .head 3 (omega arith) ∙ mod-eq-of-lt (let h = gaps-few s proper e inside in omega arith)
 
   vector-is : (v : ℕ) → v < (getD (s .entries) e noEntry) .«gap_count» →
-      take (lengthAt s e + 1) (vectorOf sheet (80 * e + 16 + 7 * v)) ≡ gapIn (getD ((getD (s .entries) e noEntry) .gaps) v noGap)
+      take (lengthAt s e + 1) (vectorOf sheet (CARD * e + HEAD + COMPONENTS * v)) ≡ gapIn (getD ((getD (s .entries) e noEntry) .gaps) v noGap)
   vector-is v h =
       let b = getD ((getD (s .entries) e noEntry) .gaps) v noGap in
       let short = entry-short s proper e inside in
       let w = gap-width s proper e inside v h in
-      let l : length (take (lengthAt s e + 1) (vectorOf sheet (80 * e + 16 + 7 * v))) ≡ lengthAt s e + 1 =
-      length-take-le (lengthAt s e + 1) (vectorOf sheet (80 * e + 16 + 7 * v)) (omega arith) in
-      ext-getD 0 (take (lengthAt s e + 1) (vectorOf sheet (80 * e + 16 + 7 * v))) (gapIn (getD ((getD (s .entries) e noEntry) .gaps) v noGap))
+      let l : length (take (lengthAt s e + 1) (vectorOf sheet (CARD * e + HEAD + COMPONENTS * v))) ≡ lengthAt s e + 1 =
+      length-take-le (lengthAt s e + 1) (vectorOf sheet (CARD * e + HEAD + COMPONENTS * v)) (omega arith) in
+      ext-getD 0 (take (lengthAt s e + 1) (vectorOf sheet (CARD * e + HEAD + COMPONENTS * v))) (gapIn (getD ((getD (s .entries) e noEntry) .gaps) v noGap))
       (l ∙ sym (length-padded (b .width) (b .parts) ∙ w))
-      (λ (j : ℕ) (i : j < length (take (lengthAt s e + 1) (vectorOf sheet (80 * e + 16 + 7 * v)))). one j (omega arith))
+      (λ (j : ℕ) (i : j < length (take (lengthAt s e + 1) (vectorOf sheet (CARD * e + HEAD + COMPONENTS * v)))). one j (omega arith))
     where
       one : (j : ℕ) → j < lengthAt s e + 1 →
-          getD (take (lengthAt s e + 1) (vectorOf sheet (80 * e + 16 + 7 * v))) j 0 ≡ getD (gapIn (getD ((getD (s .entries) e noEntry) .gaps) v noGap)) j 0
+          getD (take (lengthAt s e + 1) (vectorOf sheet (CARD * e + HEAD + COMPONENTS * v))) j 0 ≡ getD (gapIn (getD ((getD (s .entries) e noEntry) .gaps) v noGap)) j 0
       one j i =
           let b = getD ((getD (s .entries) e noEntry) .gaps) v noGap in
           let short = entry-short s proper e inside in
           let fg = gaps-few s proper e inside in
-          let at : 80 * e + 16 + 7 * v + j ≡ 80 * e + 16 + (7 * v + j) = omega arith in
-          getD-take (lengthAt s e + 1) (vectorOf sheet (80 * e + 16 + 7 * v)) j 0 i ∙ vector-at sheet (80 * e + 16 + 7 * v) j (omega arith) ∙
+          let at : CARD * e + HEAD + COMPONENTS * v + j ≡ CARD * e + HEAD + (COMPONENTS * v + j) = omega arith in
+          getD-take (lengthAt s e + 1) (vectorOf sheet (CARD * e + HEAD + COMPONENTS * v)) j 0 i ∙ vector-at sheet (CARD * e + HEAD + COMPONENTS * v) j (omega arith) ∙
           ap (λ n. getD sheet n 0) at ∙ c .card .parts v j (omega arith) (omega arith) ∙
           sym (padded-at (b .width) (b .parts) j (omega (arith, gap-width s proper e inside v h)))
 
   gaps-are : gapsAt sheet e (lengthAt s e) ≡ (entryAt s e) .gaps
   gaps-are =
-      ap (λ n. map (λ v. take (lengthAt s e + 1) (vectorOf sheet (80 * e + 16 + 7 * v))) (row 0 n)) count-is ∙
-      map-same (λ v. take (lengthAt s e + 1) (vectorOf sheet (80 * e + 16 + 7 * v))) (λ i. gapIn (getD ((getD (s .entries) e noEntry) .gaps) i noGap))
+      ap (λ n. map (λ v. take (lengthAt s e + 1) (vectorOf sheet (CARD * e + HEAD + COMPONENTS * v))) (row 0 n)) count-is ∙
+      map-same (λ v. take (lengthAt s e + 1) (vectorOf sheet (CARD * e + HEAD + COMPONENTS * v))) (λ i. gapIn (getD ((getD (s .entries) e noEntry) .gaps) i noGap))
       (row 0 ((getD (s .entries) e noEntry) .«gap_count»))
       (λ v m. let (low, high) = row-out 0 ((getD (s .entries) e noEntry) .«gap_count») m in vector-is v (omega arith))
 
-  link-is : (a d : ℕ) → a < 8 → getD (c .item .links) a 0 ≡ d → d < 128 → fieldOf sheet e (8 + a) ≡ d
+  link-is : (a d : ℕ) → a < LINKS → getD (c .item .links) a 0 ≡ d → d < ENTRIES → fieldOf sheet e (FIELDS + a) ≡ d
   link-is a d h q l =
-      c .card .head (8 + a) (omega arith) ∙ head-link (c .item) ((getD (s .entries) e noEntry) .«gap_count») a h ∙ ap (λ n. n % 256) q ∙
+      c .card .head (FIELDS + a) (omega arith) ∙ head-link (c .item) ((getD (s .entries) e noEntry) .«gap_count») a h ∙ ap (λ n. n % 256) q ∙
       mod-eq-of-lt (omega arith)
 
-  small : (x y : ℕ) → x ≡ y → y ≤ 6 → x % 256 ≡ y
+  small : (x y : ℕ) → x ≡ y → y ≤ PREFIX → x % 256 ≡ y
   small x y q h = mod-eq-of-lt (omega arith) ∙ q
 
   rule-row : (rule : Does) → (entryAt s e) .rule ≡ rule → RuleItem P s (prefixAt s e) (c .places) 0 rule (c .item) →
@@ -147,7 +149,7 @@ module _ (P : List (List ℕ)) (s : Scheme) (proper : Proper s) (sheet : List �
       one true q = omega arith
       one false q = omega arith
 
-      child : (a : ℕ) → a ≤ length (prefixAt s e) → Names s (childAt (prefixAt s e) (suc a)) (fieldOf sheet e (8 + a))
+      child : (a : ℕ) → a ≤ length (prefixAt s e) → Names s (childAt (prefixAt s e) (suc a)) (fieldOf sheet e (FIELDS + a))
       child a h =
           let short = expands-short s proper e inside r in
           let (names, low) = found-names s (childAt (prefixAt s e) (suc a)) (c .places) proper (c .indices)
@@ -194,14 +196,14 @@ root-names s proper = go (findIn (prefixesIn s) []) refl
         subst (λ (x : ℕ). Names s [] x) (sym (ap (λ (x : Option ℕ). indexFound (foundOf x)) e)) (record { inside = k; named = r .1 })
 
 -- the cell of ε with spacing (n)
-unfoldable pub root-cell : (sheet : List ℕ) (o : Sheet sheet) (e n : ℕ) (g : List ℕ) → Names (o .s) [] e → n ≤ 9 → length g ≡ 7 → take 1 g ≡ n ∷ [] → CellAt sheet e g n
+unfoldable pub root-cell : (sheet : List ℕ) (o : Sheet sheet) (e n : ℕ) (g : List ℕ) → Names (o .s) [] e → n ≤ PLAIN_LENGTH → length g ≡ COMPONENTS → take 1 g ≡ n ∷ [] → CellAt sheet e g n
 unfolding total
 root-cell sheet o e n g names h seven q =
     let z : lengthAt (o .s) e ≡ 0 = sym (prefix-length (o .s) e) ∙ ap length (names .named) in
     let w : total (take (lengthAt (o .s) e + 1) g) ≡ total (n ∷ []) = ap (λ m. total (take (m + 1) g)) z ∙ ap total q in
     record { of = o; inside = names .inside; seven = seven; whole = w ∙ (omega arith); fits = omega (arith, z) }
 
-pub root-value : (sheet : List ℕ) (o : Sheet sheet) (e n : ℕ) (g : List ℕ) → Names (o .s) [] e → n ≤ 9 → length g ≡ 7 → take 1 g ≡ n ∷ [] →
+pub root-value : (sheet : List ℕ) (o : Sheet sheet) (e n : ℕ) (g : List ℕ) → Names (o .s) [] e → n ≤ PLAIN_LENGTH → length g ≡ COMPONENTS → take 1 g ≡ n ∷ [] →
     WellFormed (o .P) (schemeIn (o .s)) → AllTrue (o .P) (schemeIn (o .s)) → (x : ℕ) → Evaluates sheet e g n x → x ≡ countOf (o .P) (schemeIn (o .s)) n
 unfolding root-cell
 root-value sheet o e n g names h seven q formed truth x ev =
@@ -211,7 +213,7 @@ root-value sheet o e n g names h seven q formed truth x ev =
 
 -- the same for the sheet of a scheme
 module _ (P : List (List ℕ)) (s : Scheme) (sheet : List ℕ) (proper : Proper s) (t : SheetTo P s (s .count) sheet) (e n : ℕ) (g : List ℕ)
-    (names : Names s [] e) (h : n ≤ 9) (seven : length g ≡ 7) (q : take 1 g ≡ n ∷ []) where
+    (names : Names s [] e) (h : n ≤ PLAIN_LENGTH) (seven : length g ≡ COMPONENTS) (q : take 1 g ≡ n ∷ []) where
   pub counted-cell : CellAt sheet e g n
   unfolding sheet-of
   counted-cell = root-cell sheet (sheet-of P s sheet proper t) e n g names h seven q

@@ -1,13 +1,18 @@
 // The count by plain evaluation.
 use crate::evaluation::cell;
+use crate::sheet::SHEET;
 use crate::sheet::fill_sheet;
 use scheme::links::Found;
 use scheme::links::find;
 use scheme::memory::Scheme;
+use word::limits::COMPONENTS;
+use word::limits::DIGITS;
+use word::limits::PATTERNS;
 use word::limits::PREFIX;
 ghost use mathlib.Core.Path.{_≡_};
 ghost use mathlib.Core.List.{[]};
 ghost use Prim.Native.Nat.{_≤_};
+ghost use Rattle.word.specs.Ceilings.{PLAIN_LENGTH};
 ghost use Rattle.word.specs.Containment.{patternsOf};
 ghost use Rattle.scheme.specs.SchemeMemory.{schemeIn};
 ghost use Rattle.verdict.specs.Truth.{WellFormed, AllTrue};
@@ -16,14 +21,20 @@ ghost use Rattle.count_plan.specs.Plan.{Proper};
 ghost use Rattle.count_plain.specs.Reading.{Names, indexFound};
 
 // The count for n of a scheme that is accepted for the patterns, without a table.
-pub fn plain_count(set: [[u8; 8]; 24], lengths: [u8; 24], count: usize, s: Scheme, n: usize) -> u64
-    requires { ⌜ (n ≤ 9) × WellFormed (patternsOf set lengths count) (schemeIn s) × AllTrue (patternsOf set lengths count) (schemeIn s) ⌝ }
+pub fn plain_count(
+    set: [[u8; DIGITS]; PATTERNS],
+    lengths: [u8; PATTERNS],
+    count: usize,
+    s: Scheme,
+    n: usize,
+) -> u64
+    requires { ⌜ (n ≤ PLAIN_LENGTH) × WellFormed (patternsOf set lengths count) (schemeIn s) × AllTrue (patternsOf set lengths count) (schemeIn s) ⌝ }
     ensures { λ r. ⌜ r ≡ countOf (patternsOf set lengths count) (schemeIn s) n ⌝ }
 {
-    let mut sheet = [0u8; 10240];
+    let mut sheet = [0u8; SHEET];
     fill_sheet(&mut sheet, set, lengths, count, s);
     let root = root_of(s);
-    let mut g = [0u8; 7];
+    let mut g = [0u8; COMPONENTS];
     g[0] = n as u8;
     cell(&sheet, root, g, n)
 }

@@ -1,16 +1,18 @@
 // The plain evaluation: a cell asks for its children's sum, and the sum asks for cells.
 use crate::reading::field;
 use crate::reading::is_free_at;
+use crate::sheet::FIELDS;
 use crate::spacings::held;
 use crate::spacings::merged_spacing;
 use crate::spacings::split_spacing;
 use count_step::sums::capped_sum;
+use word::limits::COMPONENTS;
 ghost use Prim.Native.Nat.{_≤_};
 ghost use mathlib.Core.Path.{_≡_};
 ghost use Rattle.count_plain.specs.Reading.{fieldOf, CellAt, Evaluates, Sums};
 
 // The value at the entry with index e and the spacing g, whose total is t.
-pub fn cell(sheet: &[u8], e: usize, g: [u8; 7], t: usize) -> u64
+pub fn cell(sheet: &[u8], e: usize, g: [u8; COMPONENTS], t: usize) -> u64
     requires { ⌜ CellAt (now sheet) e g t ⌝ }
     ensures { λ r. ⌜ Evaluates (now (sheet .entry)) e g t r ⌝ }
 {
@@ -20,7 +22,7 @@ pub fn cell(sheet: &[u8], e: usize, g: [u8; 7], t: usize) -> u64
     }
     let v = field(sheet, e, 1);
     if v != 0 {
-        let target = field(sheet, e, 8);
+        let target = field(sheet, e, FIELDS);
         let h = merged_spacing(g, k, v);
         return cell(sheet, target, h, t);
     }
@@ -31,7 +33,7 @@ pub fn cell(sheet: &[u8], e: usize, g: [u8; 7], t: usize) -> u64
 }
 
 // The sum over every next entry.
-fn next_sum(sheet: &[u8], e: usize, k: usize, g: [u8; 7], t: usize) -> u64
+fn next_sum(sheet: &[u8], e: usize, k: usize, g: [u8; COMPONENTS], t: usize) -> u64
     requires { ⌜ CellAt (now sheet) e g t × (k ≡ fieldOf (now sheet) e 0) × (fieldOf (now sheet) e 1 ≡ 0) × (1 ≤ t) ⌝ }
     ensures { λ r. ⌜ Sums (now (sheet .entry)) e g t r ⌝ }
 {
@@ -40,7 +42,7 @@ fn next_sum(sheet: &[u8], e: usize, k: usize, g: [u8; 7], t: usize) -> u64
     while q <= t {
         let at = held(g, k, q);
         let h = split_spacing(g, k, at.index, at.left);
-        let child = field(sheet, e, 8 + at.index);
+        let child = field(sheet, e, FIELDS + at.index);
         let x = cell(sheet, child, h, t - 1);
         sum = capped_sum(sum, x);
         q += 1;

@@ -1,23 +1,28 @@
 // Reading the sheet.
+use crate::sheet::CARD;
+use crate::sheet::HEAD;
 use spacing::at_least;
 use spacing::walk::wide;
+use word::limits::COMPONENTS;
 ghost use mathlib.Core.Path.{_≡_};
 ghost use Prim.Native.Nat.{_+_, _≤_, _<_};
 ghost use lib.ListN.{length, take};
+ghost use Rattle.word.specs.Ceilings.{ENTRIES, PREFIX, COMPONENTS, GAPS};
 ghost use Rattle.cell.specs.Cell.{free};
+ghost use Rattle.count_plain.specs.SheetSizes.{CARD, SHEET};
 ghost use Rattle.count_plain.specs.Reading.{fieldOf, vectorOf, gapsAt};
 
 // Byte f of the entry with index e.
 pub fn field(sheet: &[u8], e: usize, f: usize) -> usize
-    requires { ⌜ (e < 128) × (f < 80) × (length (now sheet) ≡ 10240) ⌝ }
+    requires { ⌜ (e < ENTRIES) × (f < CARD) × (length (now sheet) ≡ SHEET) ⌝ }
     ensures { λ r. ⌜ r ≡ fieldOf (now (sheet .entry)) e f ⌝ }
 {
-    wide(sheet[80 * e + f])
+    wide(sheet[CARD * e + f])
 }
 
-// Seven bytes from `at` on.
-fn vector(sheet: &[u8], at: usize) -> [u8; 7]
-    requires { ⌜ at + 7 ≤ length (now sheet) ⌝ }
+// The components of a gap vector: seven bytes from `at` on.
+fn vector(sheet: &[u8], at: usize) -> [u8; COMPONENTS]
+    requires { ⌜ at + COMPONENTS ≤ length (now sheet) ⌝ }
     ensures { λ r. ⌜ r ≡ vectorOf (now (sheet .entry)) at ⌝ }
 {
     [
@@ -32,14 +37,14 @@ fn vector(sheet: &[u8], at: usize) -> [u8; 7]
 }
 
 // Whether a spacing is at least none of the gap vectors of the entry with index e.
-pub fn is_free_at(sheet: &[u8], e: usize, k: usize, g: [u8; 7]) -> bool
-    requires { ⌜ (e < 128) × (k ≤ 6) × (length (now sheet) ≡ 10240) × (fieldOf (now sheet) e 3 ≤ 8) ⌝ }
+pub fn is_free_at(sheet: &[u8], e: usize, k: usize, g: [u8; COMPONENTS]) -> bool
+    requires { ⌜ (e < ENTRIES) × (k ≤ PREFIX) × (length (now sheet) ≡ SHEET) × (fieldOf (now sheet) e 3 ≤ GAPS) ⌝ }
     ensures { λ r. ⌜ r ≡ free (gapsAt (now (sheet .entry)) e k) (take (k + 1) g) ⌝ }
 {
     let n = field(sheet, e, 3);
     let mut v: usize = 0;
     while v < n {
-        let b = vector(sheet, 80 * e + 16 + 7 * v);
+        let b = vector(sheet, CARD * e + HEAD + COMPONENTS * v);
         if at_least(g, b, k) {
             return false;
         }

@@ -1,19 +1,36 @@
-// The sheet of a scheme: what the plain evaluation has to know of each entry, 80 bytes an entry.
+// The sheet of a scheme: what the plain evaluation has to know of each entry.
 use count_plan::items::Item;
 use count_plan::items::entry_item;
 use scheme::memory::Entry;
 use scheme::memory::Gap;
 use scheme::memory::Scheme;
+use word::limits::COMPONENTS;
+use word::limits::DIGITS;
+use word::limits::ENTRIES;
+use word::limits::GAPS;
+use word::limits::LINKS;
+use word::limits::PATTERNS;
 ghost use mathlib.Core.Path.{_≡_};
 ghost use Prim.Native.Nat.{_+_, _*_, _%_, _≤_, _<_};
 ghost use lib.ListN.{length};
+ghost use Rattle.word.specs.Ceilings.{ENTRIES, COMPONENTS, GAPS};
+ghost use Rattle.count_plain.specs.SheetSizes.{CARD, SHEET};
 ghost use Rattle.count_plain.specs.SheetForm.{Put, PutGap, headOf, GapsIn, CardIn, SheetTo, Indices};
 ghost use Rattle.count_plan.specs.Plan.{Proper};
 ghost use Rattle.word.specs.Containment.{patternsOf};
 
+// Bytes before the links: four numbers of an entry, and four zeros.
+pub const FIELDS: usize = 8;
+// Bytes before the gap vectors.
+pub const HEAD: usize = FIELDS + LINKS;
+// Bytes of an entry.
+pub const CARD: usize = HEAD + COMPONENTS * GAPS;
+// Bytes of all entries.
+pub const SHEET: usize = ENTRIES * CARD;
+
 // Writes a part into the sheet.
 fn put(sheet: &mut [u8], at: usize, part: &[u8])
-    requires { ⌜ (at + length (now part) ≤ length (now sheet)) × (length (now sheet) ≤ 10240) ⌝ }
+    requires { ⌜ (at + length (now part) ≤ length (now sheet)) × (length (now sheet) ≤ SHEET) ⌝ }
     ensures { λ r. ⌜ Put at (now (part .entry)) (now (sheet .entry)) (now (sheet .exit)) ⌝ }
 {
     let mut f: usize = 0;
@@ -37,8 +54,8 @@ fn low_long(x: u64) -> u8
     (x % 256) as u8
 }
 
-// The first 16 bytes of an entry.
-fn head_of(item: Item, n: usize) -> [u8; 16]
+// The bytes of an entry before its gap vectors.
+fn head_of(item: Item, n: usize) -> [u8; HEAD]
     ensures { λ r. ⌜ r ≡ headOf item n ⌝ }
 {
     let l = item.links;
@@ -64,7 +81,7 @@ fn head_of(item: Item, n: usize) -> [u8; 16]
 
 // Writes the components of one gap vector.
 fn put_gap(sheet: &mut [u8], at: usize, gap: Gap)
-    requires { ⌜ (at + 7 ≤ length (now sheet)) × (length (now sheet) ≤ 10240) ⌝ }
+    requires { ⌜ (at + COMPONENTS ≤ length (now sheet)) × (length (now sheet) ≤ SHEET) ⌝ }
     ensures { λ r. ⌜ PutGap at gap (now (sheet .entry)) (now (sheet .exit)) ⌝ }
 {
     let parts = gap.parts;
@@ -73,35 +90,35 @@ fn put_gap(sheet: &mut [u8], at: usize, gap: Gap)
 
 // Writes the components of all gap vectors of an entry.
 fn put_gaps(sheet: &mut [u8], at: usize, e: Entry)
-    requires { ⌜ (at + 56 ≤ length (now sheet)) × (length (now sheet) ≤ 10240) ⌝ }
-    ensures { λ r. ⌜ GapsIn (e .gaps) 8 at (now (sheet .entry)) (now (sheet .exit)) ⌝ }
+    requires { ⌜ (at + COMPONENTS * GAPS ≤ length (now sheet)) × (length (now sheet) ≤ SHEET) ⌝ }
+    ensures { λ r. ⌜ GapsIn (e .gaps) GAPS at (now (sheet .entry)) (now (sheet .exit)) ⌝ }
 {
     let gaps = e.gaps;
     let mut v: usize = 0;
-    while v < 8 {
+    while v < GAPS {
         let gap = gaps[v];
-        put_gap(sheet, at + 7 * v, gap);
+        put_gap(sheet, at + COMPONENTS * v, gap);
         v += 1;
     }
 }
 
-// Writes the 80 bytes of an entry.
+// Writes the bytes of an entry.
 fn put_card(sheet: &mut [u8], at: usize, e: Entry, item: Item)
-    requires { ⌜ (at + 80 ≤ length (now sheet)) × (length (now sheet) ≤ 10240) ⌝ }
+    requires { ⌜ (at + CARD ≤ length (now sheet)) × (length (now sheet) ≤ SHEET) ⌝ }
     ensures { λ r. ⌜ CardIn e item at (now (sheet .entry)) (now (sheet .exit)) ⌝ }
 {
     let head = head_of(item, e.gap_count);
     put(sheet, at, &head);
-    put_gaps(sheet, at + 16, e);
+    put_gaps(sheet, at + HEAD, e);
 }
 
-// All numbers from 0 to 127.
-fn indices() -> [usize; 128]
-    ensures { λ r. ⌜ Indices 128 r ⌝ }
+// The indices of all entries.
+fn indices() -> [usize; ENTRIES]
+    ensures { λ r. ⌜ Indices ENTRIES r ⌝ }
 {
-    let mut places = [0usize; 128];
+    let mut places = [0usize; ENTRIES];
     let mut i: usize = 0;
-    while i < 128 {
+    while i < ENTRIES {
         places[i] = i;
         i += 1;
     }
@@ -111,24 +128,30 @@ fn indices() -> [usize; 128]
 // Writes the entry with index i.
 fn put_entry(
     sheet: &mut [u8],
-    set: [[u8; 8]; 24],
-    lengths: [u8; 24],
+    set: [[u8; DIGITS]; PATTERNS],
+    lengths: [u8; PATTERNS],
     count: usize,
     s: Scheme,
     i: usize,
-    places: [usize; 128],
+    places: [usize; ENTRIES],
 )
-    requires { ⌜ Proper s × (i < s .count) × Indices 128 places × SheetTo (patternsOf set lengths count) s i (now sheet) ⌝ }
+    requires { ⌜ Proper s × (i < s .count) × Indices ENTRIES places × SheetTo (patternsOf set lengths count) s i (now sheet) ⌝ }
     ensures { λ r. ⌜ SheetTo (patternsOf set lengths count) s (i + 1) (now (sheet .exit)) ⌝ }
 {
     let e = s.entries[i];
     let item = entry_item(set, lengths, count, s, e, 0, places);
-    put_card(sheet, 80 * i, e, item);
+    put_card(sheet, CARD * i, e, item);
 }
 
 // Writes the sheet of a scheme.
-pub fn fill_sheet(sheet: &mut [u8], set: [[u8; 8]; 24], lengths: [u8; 24], count: usize, s: Scheme)
-    requires { ⌜ Proper s × (length (now sheet) ≡ 10240) ⌝ }
+pub fn fill_sheet(
+    sheet: &mut [u8],
+    set: [[u8; DIGITS]; PATTERNS],
+    lengths: [u8; PATTERNS],
+    count: usize,
+    s: Scheme,
+)
+    requires { ⌜ Proper s × (length (now sheet) ≡ SHEET) ⌝ }
     ensures { λ r. ⌜ SheetTo (patternsOf set lengths count) s (s .count) (now (sheet .exit)) ⌝ }
 {
     let places = indices();

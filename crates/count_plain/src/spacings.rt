@@ -1,9 +1,11 @@
 // The spacings of a child and of a target.
 use spacing::walk::wide;
+use word::limits::COMPONENTS;
 ghost use mathlib.Core.Path.{_≡_};
 ghost use mathlib.Core.List.{[], _∷_};
 ghost use Prim.Native.Nat.{_+_, _≤_, _<_};
 ghost use lib.ListN.{getD, take};
+ghost use Rattle.word.specs.Ceilings.{PREFIX, COMPONENTS, LENGTH};
 ghost use Rattle.cell.specs.Cell.{total, mergeValues};
 ghost use Rattle.count_plain.specs.Pieces.{splitAt, mergeAt, HeldAt};
 
@@ -14,8 +16,8 @@ pub struct Place {
 }
 
 // Where the s-th of the values that the first entries leave is held.
-pub fn held(g: [u8; 7], k: usize, s: usize) -> Place
-    requires { ⌜ (k ≤ 6) × (1 ≤ s) × (s ≤ total (take (k + 1) g)) ⌝ }
+pub fn held(g: [u8; COMPONENTS], k: usize, s: usize) -> Place
+    requires { ⌜ (k ≤ PREFIX) × (1 ≤ s) × (s ≤ total (take (k + 1) g)) ⌝ }
     ensures { λ r. ⌜ HeldAt (take (k + 1) g) k s (r .index) (r .left) ⌝ }
 {
     let mut left = s;
@@ -38,8 +40,8 @@ pub fn held(g: [u8; 7], k: usize, s: usize) -> Place
 }
 
 // One component of the child's spacing.
-fn split_piece(g: [u8; 7], i: usize, left: usize, j: usize) -> u8
-    requires { ⌜ (i < 7) × (j < 7) × (1 ≤ left) × (left ≤ getD g i 0) × (getD g i 0 ≤ 20) ⌝ }
+fn split_piece(g: [u8; COMPONENTS], i: usize, left: usize, j: usize) -> u8
+    requires { ⌜ (i < COMPONENTS) × (j < COMPONENTS) × (1 ≤ left) × (left ≤ getD g i 0) × (getD g i 0 ≤ LENGTH) ⌝ }
     ensures { λ r. ⌜ r ≡ getD (splitAt g i left) j 0 ⌝ }
 {
     if j < i {
@@ -63,8 +65,8 @@ fn narrow(x: usize) -> u8
 }
 
 // The spacing of the child whose new value is the one with number `left` in component i.
-pub fn split_spacing(g: [u8; 7], k: usize, i: usize, left: usize) -> [u8; 7]
-    requires { ⌜ (k ≤ 5) × (i ≤ k) × (1 ≤ left) × (left ≤ getD (take (k + 1) g) i 0) × (total (take (k + 1) g) ≤ 20) ⌝ }
+pub fn split_spacing(g: [u8; COMPONENTS], k: usize, i: usize, left: usize) -> [u8; COMPONENTS]
+    requires { ⌜ (k < PREFIX) × (i ≤ k) × (1 ≤ left) × (left ≤ getD (take (k + 1) g) i 0) × (total (take (k + 1) g) ≤ LENGTH) ⌝ }
     ensures { λ r. ⌜ take (k + 2) r ≡ splitAt (take (k + 1) g) i left ⌝ }
 {
     let mut r = g;
@@ -78,8 +80,8 @@ pub fn split_spacing(g: [u8; 7], k: usize, i: usize, left: usize) -> [u8; 7]
 }
 
 // One component of the target's spacing.
-fn merged_piece(g: [u8; 7], v: usize, j: usize) -> u8
-    requires { ⌜ (j < 6) × (v < 7) × (1 ≤ v) × (getD g j 0 + getD g (j + 1) 0 ≤ 255) ⌝ }
+fn merged_piece(g: [u8; COMPONENTS], v: usize, j: usize) -> u8
+    requires { ⌜ (j < PREFIX) × (v < COMPONENTS) × (1 ≤ v) × (getD g j 0 + getD g (j + 1) 0 ≤ 255) ⌝ }
     ensures { λ r. ⌜ r ≡ getD (mergeAt g v) j 0 ⌝ }
 {
     if j + 1 < v {
@@ -92,8 +94,8 @@ fn merged_piece(g: [u8; 7], v: usize, j: usize) -> u8
 }
 
 // The spacing of the target: components v - 1 and v added into one.
-pub fn merged_spacing(g: [u8; 7], k: usize, v: usize) -> [u8; 7]
-    requires { ⌜ (k ≤ 6) × (1 ≤ v) × (v ≤ k) × (total (take (k + 1) g) ≤ 20) ⌝ }
+pub fn merged_spacing(g: [u8; COMPONENTS], k: usize, v: usize) -> [u8; COMPONENTS]
+    requires { ⌜ (k ≤ PREFIX) × (1 ≤ v) × (v ≤ k) × (total (take (k + 1) g) ≤ LENGTH) ⌝ }
     ensures { λ r. ⌜ take k r ≡ mergeValues (v ∷ []) (take (k + 1) g) ⌝ }
 {
     let mut r = g;

@@ -11,6 +11,7 @@ use lib.ListN.{length, getD, set, take, replicate, length-set}
 use lib.Dec.{eqb, ltb}
 use borrow.Author.Tests.{eqb-false, ltb-false}
 use lib.Seq.{getD-set-same, getD-set-other}
+use Rattle.word.specs.Ceilings.{PREFIX, LINKS}
 use Rattle.word.specs.Lists.{row}
 use Rattle.word.specs.Word.{isPerm, entry}
 use Rattle.word.specs.ListLaws.{true-not-false, below-or-not, same-or-not, getD-mem}
@@ -19,6 +20,7 @@ use Rattle.cell.specs.Cell.{same, deleted}
 use Rattle.cell.specs.BuiltCells.{same-out}
 use Rattle.cell.specs.Child.{childAt}
 use Rattle.cell.specs.ChildLaws.{child-length}
+use Rattle.spacing.specs.Sizes.{NEAR}
 use Rattle.scheme.specs.SchemeList.{Does, expands, deletes}
 use Rattle.scheme.specs.SchemeMemory.{noEntry, padded, doesOf, schemeIn}
 use Rattle.scheme.specs.WellFormed.{listed, outside}
@@ -64,21 +66,21 @@ found-leads n s q places p l = go (findIn (prefixesIn s) q) refl
 
 -- The links of the children
 
-pub links-start : (s : Scheme) (p places links : List ℕ) → length links ≡ 8 → NearPlaces links → ChildLinks s p places 0 links
+pub links-start : (s : Scheme) (p places links : List ℕ) → length links ≡ LINKS → NearPlaces links → ChildLinks s p places 0 links
 links-start s p places links e n = record { size = e; at = λ (a : ℕ) (h : a < 0). absurd (omega arith); near = n }
 
-pub set-near : (links : List ℕ) (i x : ℕ) → i < length links → x ≤ 134217728 → NearPlaces links → NearPlaces (set links i x)
+pub set-near : (links : List ℕ) (i x : ℕ) → i < length links → x ≤ NEAR → NearPlaces links → NearPlaces (set links i x)
 set-near links i x h b n d = go (same-or-not d i)
   where
-    go : (d ≡ i) ⊎ (d ≡ i → ⊥) → getD (set links i x) d 0 ≤ 134217728
+    go : (d ≡ i) ⊎ (d ≡ i → ⊥) → getD (set links i x) d 0 ≤ NEAR
     go (inl q) = omega (arith, ap (λ m. getD (set links i x) m 0) q, getD-set-same links i x 0 h)
     go (inr q) = omega (arith, getD-set-other links i d x 0 q, n d)
 
-pub found-near : (f : Found) (places : List ℕ) → NearPlaces places → placeFound f places ≤ 134217728
+pub found-near : (f : Found) (places : List ℕ) → NearPlaces places → placeFound f places ≤ NEAR
 found-near (At i) places n = n i
 found-near Nothing places n = omega arith
 
-pub links-more : (s : Scheme) (p places links : List ℕ) (m x : ℕ) → m < 8 → NearPlaces places →
+pub links-more : (s : Scheme) (p places links : List ℕ) (m x : ℕ) → m < LINKS → NearPlaces places →
     x ≡ placeFound (foundOf (findIn (prefixesIn s) (childAt p (m + 1)))) places → ChildLinks s p places m links →
     ChildLinks s p places (m + 1) (set links m x)
 links-more s p places links m x h n e c =
@@ -109,8 +111,8 @@ module _ (s : Scheme) (proper : Proper s) (i : ℕ) (h : i < s .count) where
   perm : isPerm (prefixAt s i) ≡ true
   perm = entry-proper s proper i h .perm
 
-  -- an expanding entry has children, so it is shorter than 6
-  pub expands-short : (entryAt s i) .rule ≡ expands → lengthAt s i < 6
+  -- an expanding entry has children, so it is shorter than PREFIX
+  pub expands-short : (entryAt s i) .rule ≡ expands → lengthAt s i < PREFIX
   expands-short r =
       let l = child-listed [] (schemeIn s) proper (entryAt s i) (entry-member s i h) r 1 (omega arith) (omega arith) in
       let (d, m, f, q) = entry-found (schemeIn s) (childAt (prefixAt s i) 1) l in
@@ -205,5 +207,5 @@ pub links-sized : (s : Scheme) (p places links : List ℕ) (k : ℕ) → length 
     ChildLinks s p places (suc (length p)) links
 links-sized s p places links k e c = let q : k + 1 ≡ suc (length p) = omega arith in rw (← q) c
 
-pub first-near : (x : ℕ) (f : Found) (places : List ℕ) → x ≡ placeFound f places → NearPlaces places → NearPlaces (set (replicate 8 0) 0 x)
-first-near x f places e n = set-near (replicate 8 0) 0 x (omega arith) (omega (arith, e, found-near f places n)) (zeros-near 8)
+pub first-near : (x : ℕ) (f : Found) (places : List ℕ) → x ≡ placeFound f places → NearPlaces places → NearPlaces (set (replicate LINKS 0) 0 x)
+first-near x f places e n = set-near (replicate LINKS 0) 0 x (omega arith) (omega (arith, e, found-near f places n)) (zeros-near LINKS)

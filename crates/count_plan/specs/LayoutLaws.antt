@@ -7,10 +7,12 @@ use mathlib.Core.Logic.{_⊎_, inl, inr}
 use mathlib.Core.List.{List, [], _∷_, map, map-append, map-map, List·Memᴰ, Memᴰ·map}
 use lib.ListN.{length, getD, set, replicate, length-map, length-set, length-replicate}
 use lib.Seq.{getD-set-same, getD-set-other}
+use Rattle.word.specs.Ceilings.{ENTRIES, PREFIX, GAPS, LENGTH}
 use Rattle.word.specs.Lists.{row}
 use Rattle.word.specs.ListLaws.{below-or-not, same-or-not, length-row, row-in}
 use Rattle.cell.specs.Cell.{total}
 use Rattle.cell.specs.Binomial.{binomial}
+use Rattle.spacing.specs.Sizes.{CHOICES, NEAR}
 use Rattle.spacing.specs.TotalLaws.{total-append, row-cut}
 use Rattle.spacing.specs.PascalLaws.{binomial-small}
 use Rattle.scheme.specs.SchemeList.{EntryList}
@@ -31,17 +33,17 @@ pub entry-member : (s : Scheme) (i : ℕ) → i < s .count → List·Memᴰ (ent
 entry-member s i h = Memᴰ·map (entryAt s) (row-in 0 (s .count) i (omega arith) (omega arith))
 
 module _ (s : Scheme) (proper : Proper s) where
-  pub count-few : s .count ≤ 128
+  pub count-few : s .count ≤ ENTRIES
   count-few = omega (arith, few-entries (schemeIn s) proper, length-map (row 0 (s .count)) (entryAt s), length-row 0 (s .count))
 
   pub entry-proper : (i : ℕ) → i < s .count → ProperEntry (entryAt s i)
   entry-proper i h = proper-entry (schemeIn s) proper (entryAt s i) (entry-member s i h)
 
-  pub entry-short : (i : ℕ) → i < s .count → lengthAt s i ≤ 6
+  pub entry-short : (i : ℕ) → i < s .count → lengthAt s i ≤ PREFIX
   entry-short i h = omega (arith, entry-proper i h .short, prefix-length s i)
 
   -- the gap vectors in memory
-  pub gaps-few : (i : ℕ) → i < s .count → (getD (s .entries) i noEntry) .«gap_count» ≤ 8
+  pub gaps-few : (i : ℕ) → i < s .count → (getD (s .entries) i noEntry) .«gap_count» ≤ GAPS
   gaps-few i h =
       omega (
         arith,
@@ -68,7 +70,7 @@ place-step : (n : ℕ) (s : Scheme) (i : ℕ) → placeAt n s (suc i) ≡ placeA
 unfolding placeAt
 place-step n s i = refl
 
-pub place-small : (n : ℕ) (s : Scheme) (i : ℕ) → n ≤ 20 → placeAt n s i ≤ i * 1048576
+pub place-small : (n : ℕ) (s : Scheme) (i : ℕ) → n ≤ LENGTH → placeAt n s i ≤ i * CHOICES
 unfolding placeAt
 place-small n s zero h = omega arith
 place-small n s (suc i) h = omega (arith, place-small n s i h, binomial-small n (lengthAt s i) h)
@@ -111,22 +113,22 @@ width-sum n s =
 
 -- Filling the places in memory
 pub record PlacesTo (n : ℕ) (s : Scheme) (i : ℕ) (places : List ℕ) (at : ℕ) : Type 0 where
-  pub size : length places ≡ 128
+  pub size : length places ≡ ENTRIES
   pub before : (d : ℕ) → d < i → getD places d 0 ≡ placeAt n s d
   pub here : at ≡ placeAt n s i
   pub near : NearPlaces places
 
-pub places-start : (n : ℕ) (s : Scheme) → PlacesTo n s 0 (replicate 128 0) 0
+pub places-start : (n : ℕ) (s : Scheme) → PlacesTo n s 0 (replicate ENTRIES 0) 0
 unfolding placeAt
 places-start n s =
-    record { size = length-replicate {A = ℕ} 128 0; before = λ (d : ℕ) (h : d < 0). absurd (omega arith); here = refl; near = λ (d : ℕ). go 128 d }
+    record { size = length-replicate {A = ℕ} ENTRIES 0; before = λ (d : ℕ) (h : d < 0). absurd (omega arith); here = refl; near = λ (d : ℕ). go ENTRIES d }
   where
-    go : (m d : ℕ) → getD (replicate m 0) d 0 ≤ 134217728
+    go : (m d : ℕ) → getD (replicate m 0) d 0 ≤ NEAR
     go zero d = omega arith
     go (suc m) zero = omega arith
     go (suc m) (suc d) = go m d
 
-pub places-more : (n : ℕ) (s : Scheme) (i : ℕ) (places : List ℕ) (at c : ℕ) → PlacesTo n s i places at → i < 128 → n ≤ 20 → c ≡ binomial n (lengthAt s i) →
+pub places-more : (n : ℕ) (s : Scheme) (i : ℕ) (places : List ℕ) (at c : ℕ) → PlacesTo n s i places at → i < ENTRIES → n ≤ LENGTH → c ≡ binomial n (lengthAt s i) →
     PlacesTo n s (i + 1) (set places i at) (at + c)
 places-more n s i places at c p h m e =
     record {
@@ -136,7 +138,7 @@ places-more n s i places at c p h m e =
       near = λ (d : ℕ). close d (same-or-not d i);
     }
   where
-    close : (d : ℕ) → (d ≡ i) ⊎ (d ≡ i → ⊥) → getD (set places i at) d 0 ≤ 134217728
+    close : (d : ℕ) → (d ≡ i) ⊎ (d ≡ i → ⊥) → getD (set places i at) d 0 ≤ NEAR
     close d (inl q) =
         omega (arith, ap (λ m. getD (set places i at) m 0) q, getD-set-same places i at 0 (omega (arith, p .size)), p .here, place-small n s i m)
     close d (inr q) = omega (arith, getD-set-other places i d at 0 q, p .near d)

@@ -4,10 +4,12 @@ use mathlib.Core.Path.{_≡_}
 use mathlib.Core.Bool.{cond}
 use mathlib.Core.List.{List, [], _∷_}
 use lib.ListN.{length, getD}
+use Rattle.word.specs.Ceilings.{ENTRIES, PREFIX, LINKS}
 use Rattle.word.specs.Word.{avoids, entry}
 use Rattle.word.specs.Finding.{clean, firstFault}
 use Rattle.cell.specs.Cell.{deleted}
 use Rattle.cell.specs.Child.{childAt}
+use Rattle.spacing.specs.Sizes.{NEAR}
 use Rattle.scheme.specs.SchemeList.{Does, expands, deletes, EntryList}
 use Rattle.scheme.specs.SchemeMemory.{doesOf, schemeIn}
 use Rattle.scheme.specs.declared.memory.Entry.{Entry}
@@ -41,8 +43,8 @@ pub record Planned (n : ℕ) (P : List (List ℕ)) (s : Scheme) (i : ℕ) (t : I
   pub size : t .length ≡ lengthAt s i
   pub placed : t .place ≡ placeAt n s i
   pub rule : RulePlan n P s (prefixAt s i) ((entryAt s i) .rule) t
-  pub near : (a : ℕ) → getD (t .links) a 0 ≤ 134217728
-  pub long : length (t .links) ≡ 8
+  pub near : (a : ℕ) → getD (t .links) a 0 ≤ NEAR
+  pub long : length (t .links) ≡ LINKS
 
 -- the checker's own default value of an item
 abbrev pub noItem : Item
@@ -54,12 +56,12 @@ Plan n P s items = (i : ℕ) → i < s .count → Planned n P s i (getD items i 
 
 -- the places of the entries, in memory
 pub record Places (n : ℕ) (s : Scheme) (places : List ℕ) : Type 0 where
-  pub size : length places ≡ 128
+  pub size : length places ≡ ENTRIES
   pub at : (i : ℕ) → i < s .count → getD places i 0 ≡ placeAt n s i
 
--- places in a row are below 2 ^ 27
+-- places in a row
 abbrev pub NearPlaces : List ℕ → Type 0
-NearPlaces places = (i : ℕ) → getD places i 0 ≤ 134217728
+NearPlaces places = (i : ℕ) → getD places i 0 ≤ NEAR
 
 -- the place of an entry that was found
 abbrev pub placeFound : Found → List ℕ → ℕ
@@ -68,7 +70,7 @@ placeFound Nothing places = 0
 
 -- the places of the children with the last entries 1 to m
 pub record ChildLinks (s : Scheme) (p places : List ℕ) (m : ℕ) (links : List ℕ) : Type 0 where
-  pub size : length links ≡ 8
+  pub size : length links ≡ LINKS
   pub at : (a : ℕ) → a < m → getD links a 0 ≡ placeFound (foundOf (findIn (prefixesIn s) (childAt p (suc a)))) places
   pub near : NearPlaces links
 
@@ -87,11 +89,11 @@ pub record Deletes (s : Scheme) (p places : List ℕ) (r place : ℕ) (t : Item)
   pub value : t .deleted ≡ getD p (r - 1) 0
   pub link : getD (t .links) 0 0 ≡ placeFound (foundOf (findIn (prefixesIn s) (deleted (r ∷ []) p))) places
   pub near : NearPlaces (t .links)
-  pub long : length (t .links) ≡ 8
+  pub long : length (t .links) ≡ LINKS
 
--- an expanding entry that has children is shorter than 6
+-- an expanding entry that has children is shorter than PREFIX
 abbrev pub Shorter : Entry → Type 0
-Shorter e = doesOf (e .rule) ≡ expands → e .length < 6
+Shorter e = doesOf (e .rule) ≡ expands → e .length < PREFIX
 
 -- what an entry is given, by its rule
 abbrev pub RuleItem : List (List ℕ) → Scheme → List ℕ → List ℕ → ℕ → Does → Item → Type 0

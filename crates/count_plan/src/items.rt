@@ -9,15 +9,21 @@ use scheme::memory::Rule;
 use scheme::memory::Scheme;
 use spacing::walk::wide;
 use word::containment::any_in;
+use word::limits::DIGITS;
+use word::limits::ENTRIES;
+use word::limits::LINKS;
+use word::limits::PATTERNS;
 use word::limits::PREFIX;
 ghost use mathlib.Core.Path.{_≡_};
 ghost use mathlib.Core.Bool.{true, cond};
 ghost use mathlib.Core.List.{[]};
 ghost use Prim.Native.Nat.{_+_, _≤_, _<_};
 ghost use lib.ListN.{getD, take};
+ghost use Rattle.word.specs.Ceilings.{ENTRIES, PREFIX, LENGTH};
 ghost use Rattle.word.specs.Word.{avoids, isPerm};
 ghost use Rattle.word.specs.Containment.{patternsOf};
 ghost use Rattle.cell.specs.Child.{childAt};
+ghost use Rattle.spacing.specs.Sizes.{NEAR};
 ghost use Rattle.spacing.specs.Pascal.{Pascal};
 ghost use Rattle.scheme.specs.Links.{findIn, foundOf, prefixesIn, LinkedEntry};
 ghost use Rattle.scheme.specs.SchemeMemory.{entryIn};
@@ -30,11 +36,11 @@ pub struct Item {
     pub place: usize,
     pub deleted: usize,
     pub alone: u64,
-    pub links: [usize; 8],
+    pub links: [usize; LINKS],
 }
 
 // Where in a row the cells of an entry that was found begin.
-fn place_of(found: Found, places: [usize; 128]) -> usize
+fn place_of(found: Found, places: [usize; ENTRIES]) -> usize
     ensures { λ r. ⌜ r ≡ placeFound found places ⌝ }
 {
     match found {
@@ -44,18 +50,18 @@ fn place_of(found: Found, places: [usize; 128]) -> usize
 }
 
 // The place with index i; 0 behind the end.
-fn place_at(places: [usize; 128], i: usize) -> usize
+fn place_at(places: [usize; ENTRIES], i: usize) -> usize
     ensures { λ r. ⌜ r ≡ getD places i 0 ⌝ }
 {
-    if 128 <= i {
+    if ENTRIES <= i {
         return 0;
     }
     places[i]
 }
 
 // Where in a row the cells of the child with the last entry a begin.
-fn child_place(s: Scheme, prefix: [u8; PREFIX], k: usize, a: u8, places: [usize; 128]) -> usize
-    requires { ⌜ (s .count ≤ 128) × (k < 6) × (isPerm (take k prefix) ≡ true) ⌝ }
+fn child_place(s: Scheme, prefix: [u8; PREFIX], k: usize, a: u8, places: [usize; ENTRIES]) -> usize
+    requires { ⌜ (s .count ≤ ENTRIES) × (k < PREFIX) × (isPerm (take k prefix) ≡ true) ⌝ }
     ensures { λ r. ⌜ r ≡ placeFound (foundOf (findIn (prefixesIn s) (childAt (take k prefix) a))) places ⌝ }
 {
     let q = child(prefix, k, a);
@@ -64,11 +70,16 @@ fn child_place(s: Scheme, prefix: [u8; PREFIX], k: usize, a: u8, places: [usize;
 }
 
 // Where in a row the cells of each child begin.
-fn child_links(s: Scheme, prefix: [u8; PREFIX], k: usize, places: [usize; 128]) -> [usize; 8]
-    requires { ⌜ (s .count ≤ 128) × (k < 6) × (isPerm (take k prefix) ≡ true) × NearPlaces places ⌝ }
+fn child_links(
+    s: Scheme,
+    prefix: [u8; PREFIX],
+    k: usize,
+    places: [usize; ENTRIES],
+) -> [usize; LINKS]
+    requires { ⌜ (s .count ≤ ENTRIES) × (k < PREFIX) × (isPerm (take k prefix) ≡ true) × NearPlaces places ⌝ }
     ensures { λ r. ⌜ ChildLinks s (take k prefix) places (k + 1) r ⌝ }
 {
-    let mut links = [0usize; 8];
+    let mut links = [0usize; LINKS];
     let mut a: usize = 0;
     while a <= k {
         let place = child_place(s, prefix, k, (a as u8) + 1, places);
@@ -80,13 +91,13 @@ fn child_links(s: Scheme, prefix: [u8; PREFIX], k: usize, places: [usize; 128]) 
 
 // The value at total 0: 1 if the prefix avoids all patterns, else 0.
 fn alone_value(
-    set: [[u8; 8]; 24],
-    lengths: [u8; 24],
+    set: [[u8; DIGITS]; PATTERNS],
+    lengths: [u8; PATTERNS],
     count: usize,
     prefix: [u8; PREFIX],
     k: usize,
 ) -> u64
-    requires { ⌜ k ≤ 6 ⌝ }
+    requires { ⌜ k ≤ PREFIX ⌝ }
     ensures { λ r. ⌜ r ≡ cond (avoids (patternsOf set lengths count) (take k prefix)) 1 0 ⌝ }
 {
     if any_in(set, lengths, count, &prefix[..k]) {
@@ -98,16 +109,16 @@ fn alone_value(
 
 // The item of an expanding entry.
 fn expanding(
-    set: [[u8; 8]; 24],
-    lengths: [u8; 24],
+    set: [[u8; DIGITS]; PATTERNS],
+    lengths: [u8; PATTERNS],
     count: usize,
     s: Scheme,
     prefix: [u8; PREFIX],
     k: usize,
     place: usize,
-    places: [usize; 128],
+    places: [usize; ENTRIES],
 ) -> Item
-    requires { ⌜ (s .count ≤ 128) × (k < 6) × (isPerm (take k prefix) ≡ true) × NearPlaces places ⌝ }
+    requires { ⌜ (s .count ≤ ENTRIES) × (k < PREFIX) × (isPerm (take k prefix) ≡ true) × NearPlaces places ⌝ }
     ensures { λ r. ⌜ Expands (patternsOf set lengths count) s (take k prefix) places place r ⌝ }
 {
     let alone = alone_value(set, lengths, count, prefix, k);
@@ -128,16 +139,16 @@ fn deleting(
     k: usize,
     r: usize,
     place: usize,
-    places: [usize; 128],
+    places: [usize; ENTRIES],
 ) -> Item
-    requires { ⌜ (s .count ≤ 128) × (1 ≤ r) × (r ≤ k) × (k ≤ 6) × (isPerm (take k prefix) ≡ true) × NearPlaces places ⌝ }
+    requires { ⌜ (s .count ≤ ENTRIES) × (1 ≤ r) × (r ≤ k) × (k ≤ PREFIX) × (isPerm (take k prefix) ≡ true) × NearPlaces places ⌝ }
     ensures { λ t. ⌜ Deletes s (take k prefix) places r place t ⌝ }
 {
     let value = wide(prefix[r - 1]);
     let q = shorter(prefix, k, r);
     let found = find(s, q, k - 1);
     let target = place_of(found, places);
-    let mut links = [0usize; 8];
+    let mut links = [0usize; LINKS];
     links[0] = target;
     Item {
         length: k,
@@ -150,15 +161,15 @@ fn deleting(
 
 // The item of an entry, by its rule.
 pub fn entry_item(
-    set: [[u8; 8]; 24],
-    lengths: [u8; 24],
+    set: [[u8; DIGITS]; PATTERNS],
+    lengths: [u8; PATTERNS],
     count: usize,
     s: Scheme,
     e: Entry,
     place: usize,
-    places: [usize; 128],
+    places: [usize; ENTRIES],
 ) -> Item
-    requires { ⌜ (s .count ≤ 128) × LinkedEntry e × Shorter e × NearPlaces places ⌝ }
+    requires { ⌜ (s .count ≤ ENTRIES) × LinkedEntry e × Shorter e × NearPlaces places ⌝ }
     ensures { λ r. ⌜ EntryItem (patternsOf set lengths count) s (entryIn e) places place r ⌝ }
 {
     let prefix = e.prefix;
@@ -172,12 +183,12 @@ pub fn entry_item(
 
 // The item of the entry with index i.
 fn item_of(
-    set: [[u8; 8]; 24],
-    lengths: [u8; 24],
+    set: [[u8; DIGITS]; PATTERNS],
+    lengths: [u8; PATTERNS],
     count: usize,
     s: Scheme,
     i: usize,
-    places: [usize; 128],
+    places: [usize; ENTRIES],
 ) -> Item
     requires { ⌜ Proper s × (i < s .count) × NearPlaces places ⌝ }
     ensures { λ r. ⌜ ItemFor (patternsOf set lengths count) s i places r ⌝ }
@@ -189,14 +200,14 @@ fn item_of(
 
 // The items of all entries.
 pub fn plan_of(
-    set: [[u8; 8]; 24],
-    lengths: [u8; 24],
+    set: [[u8; DIGITS]; PATTERNS],
+    lengths: [u8; PATTERNS],
     count: usize,
     s: Scheme,
     n: usize,
     b: &[usize],
-) -> [Item; 128]
-    requires { ⌜ Proper s × (n ≤ 20) × Pascal (now b) ⌝ }
+) -> [Item; ENTRIES]
+    requires { ⌜ Proper s × (n ≤ LENGTH) × Pascal (now b) ⌝ }
     ensures { λ r. ⌜ Plan n (patternsOf set lengths count) s r ⌝ }
 {
     let places = places_of(s, n, b);
@@ -206,9 +217,9 @@ pub fn plan_of(
         place: 0,
         deleted: 0,
         alone: 0,
-        links: [0usize; 8],
+        links: [0usize; LINKS],
     };
-    let mut items = [none; 128];
+    let mut items = [none; ENTRIES];
     let mut i: usize = 0;
     while i < entries {
         let item = item_of(set, lengths, count, s, i, places);
@@ -220,8 +231,8 @@ pub fn plan_of(
 
 // Where in a row the cells of ε begin.
 pub fn root_place(s: Scheme, n: usize, b: &[usize]) -> usize
-    requires { ⌜ Proper s × (n ≤ 20) × Pascal (now b) ⌝ }
-    ensures { λ r. ⌜ LeadsTo n s [] r × (r ≤ 134217728) ⌝ }
+    requires { ⌜ Proper s × (n ≤ LENGTH) × Pascal (now b) ⌝ }
+    ensures { λ r. ⌜ LeadsTo n s [] r × (r ≤ NEAR) ⌝ }
 {
     let places = places_of(s, n, b);
     let found = find(s, [0u8; PREFIX], 0);

@@ -9,9 +9,11 @@ use mathlib.Core.Logic.{_⊎_, inl, inr}
 use mathlib.Core.List.{List, [], _∷_, map, map-map, List·Memᴰ}
 use lib.ListN.{length, getD, set, take, length-set, length-map}
 use lib.Seq.{getD-set-same, getD-set-other, ext-getD}
+use Rattle.word.specs.Ceilings.{PREFIX, COMPONENTS, GAPS}
 use Rattle.word.specs.Lists.{row}
 use Rattle.word.specs.ListLaws.{below-or-not, map-same, row-out}
 use Rattle.cell.specs.BuiltLaws.{getD-map}
+use Rattle.spacing.specs.Sizes.{NEAR, FAR}
 use Rattle.spacing.specs.GapRows.{gapsOf}
 use Rattle.scheme.specs.SchemeMemory.{noGap, padded, gapIn, entryIn}
 use Rattle.scheme.specs.MemoryLaws.{padded-within}
@@ -23,11 +25,11 @@ use Rattle.count_rows.specs.Rows.{Components}
 
 -- The gap vectors
 
-pub components-start : (gaps : List Gap) (rows : List (List ℕ)) → length rows ≡ 8 → Components gaps 0 rows
+pub components-start : (gaps : List Gap) (rows : List (List ℕ)) → length rows ≡ GAPS → Components gaps 0 rows
 components-start gaps rows e =
     record { size = e; at = λ (i : ℕ) (h : i < 0). absurd (omega arith); long = λ (i : ℕ) (h : i < 0). absurd (omega arith) }
 
-pub components-more : (gaps : List Gap) (rows : List (List ℕ)) (m : ℕ) (parts : List ℕ) → m < 8 → parts ≡ (getD gaps m noGap) .parts → length parts ≡ 7 →
+pub components-more : (gaps : List Gap) (rows : List (List ℕ)) (m : ℕ) (parts : List ℕ) → m < GAPS → parts ≡ (getD gaps m noGap) .parts → length parts ≡ COMPONENTS →
     Components gaps m rows → Components gaps (m + 1) (set rows m parts)
 components-more gaps rows m parts h e l c =
     record {
@@ -46,7 +48,7 @@ components-more gaps rows m parts h e l c =
     here i k (inl b) = kept i b ∙ c .at i b
     here i k (inr b) = let q : i ≡ m = omega arith in stored i q ∙ e ∙ ap (λ n. (getD gaps n noGap) .parts) (sym q)
 
-    sized : (i : ℕ) → i < m + 1 → (i < m) ⊎ (m ≤ i) → length (getD (set rows m parts) i []) ≡ 7
+    sized : (i : ℕ) → i < m + 1 → (i < m) ⊎ (m ≤ i) → length (getD (set rows m parts) i []) ≡ COMPONENTS
     sized i k (inl b) = ap length (kept i b) ∙ c .long i b
     sized i k (inr b) = let q : i ≡ m = omega arith in ap length (stored i q) ∙ l
 
@@ -60,7 +62,7 @@ take-row (r ∷ rows) (suc n) h = ap (λ (l : List (List ℕ)). r ∷ l) (take-r
     shift a zero = refl
     shift a (suc n) = ap (λ (l : List (List ℕ)). getD rows a [] ∷ l) (shift (suc a) n)
 
-pub gaps-memory : (e : Entry) (rows : List (List ℕ)) → Components (e .gaps) 8 rows → e .length ≤ 6 → e .«gap_count» ≤ 8 →
+pub gaps-memory : (e : Entry) (rows : List (List ℕ)) → Components (e .gaps) GAPS rows → e .length ≤ PREFIX → e .«gap_count» ≤ GAPS →
     ((i : ℕ) → i < e .«gap_count» → (getD (e .gaps) i noGap) .width ≡ e .length + 1) →
     gapsOf rows (e .length + 1) (e .«gap_count») ≡ (entryIn e) .gaps
 unfolding gapsOf
@@ -75,7 +77,7 @@ gaps-memory e rows c short few wide =
         let h : i < e .«gap_count» = omega arith in
         let parts = (getD (e .gaps) i noGap) .parts in
         let q : getD rows i [] ≡ (getD (e .gaps) i noGap) .parts = c .at i (omega arith) in
-        let l : length ((getD (e .gaps) i noGap) .parts) ≡ 7 = ap length (sym q) ∙ c .long i (omega arith) in
+        let l : length ((getD (e .gaps) i noGap) .parts) ≡ COMPONENTS = ap length (sym q) ∙ c .long i (omega arith) in
         ap (take (e .length + 1)) q ∙ sym (padded-within (e .length + 1) ((getD (e .gaps) i noGap) .parts) (omega arith)) ∙
         ap (λ w. padded w ((getD (e .gaps) i noGap) .parts)) (sym (wide i h))
 
@@ -103,11 +105,11 @@ shifted-end offset links r i h s =
     ext-getD 0 r (map (λ x. offset + x) links) (s .size ∙ sym (length-map links (λ x. offset + x)))
     (λ (a : ℕ) (k : a < length r). s .at a (omega (arith, s .size)) ∙ sym (getD-map (λ x. offset + x) links a (omega (arith, s .size))))
 
-pub shifted-near : (offset : ℕ) (links : List ℕ) → offset ≤ 134217728 → ((a : ℕ) → getD links a 0 ≤ 134217728) →
-    (a : ℕ) → getD (map (λ x. offset + x) links) a 0 ≤ 1099511627776
+pub shifted-near : (offset : ℕ) (links : List ℕ) → offset ≤ NEAR → ((a : ℕ) → getD links a 0 ≤ NEAR) →
+    (a : ℕ) → getD (map (λ x. offset + x) links) a 0 ≤ FAR
 shifted-near offset links h n a = go links a (λ (i : ℕ). n i)
   where
-    go : (l : List ℕ) (a : ℕ) → ((i : ℕ) → getD l i 0 ≤ 134217728) → getD (map (λ x. offset + x) l) a 0 ≤ 1099511627776
+    go : (l : List ℕ) (a : ℕ) → ((i : ℕ) → getD l i 0 ≤ NEAR) → getD (map (λ x. offset + x) l) a 0 ≤ FAR
     go [] a n = omega arith
     go (x ∷ l) zero n = omega (arith, n 0)
     go (x ∷ l) (suc a) n = go l a (λ (i : ℕ). n (suc i))
@@ -120,9 +122,9 @@ filled-as w alone k t at m T₀ T p q f = subst₂ (λ (B : List (List ℕ)) (l 
 pub filled-sized : (step : List ℕ → List ℕ → ℕ) (k t at : ℕ) (T₀ T : List ℕ) {m n : ℕ} → m ≡ n → Filled step k t at m m T₀ T → Filled step k t at n n T₀ T
 filled-sized step k t at T₀ T e f = subst (λ (m : ℕ). Filled step k t at m m T₀ T) e f
 
-pub cond-near : (w here before : ℕ) → here ≤ 134217728 → before ≤ 134217728 → cond (eqb w 0) here before ≤ 134217728
+pub cond-near : (w here before : ℕ) → here ≤ NEAR → before ≤ NEAR → cond (eqb w 0) here before ≤ NEAR
 cond-near w here before h b = go (eqb w 0)
   where
-    go : (t : Bool) → cond t here before ≤ 134217728
+    go : (t : Bool) → cond t here before ≤ NEAR
     go true = h
     go false = b

@@ -10,6 +10,7 @@ use mathlib.Core.Option.{some}
 use lib.ListN.{length, getD}
 use lib.Dec.{eqb}
 use borrow.Author.Tests.{ne-eqb}
+use Rattle.word.specs.Ceilings.{LENGTH}
 use Rattle.word.specs.Lists.{row, oneTo}
 use Rattle.word.specs.Word.{avoids}
 use Rattle.cell.specs.Cell.{total, free}
@@ -21,7 +22,7 @@ use Rattle.scheme.specs.SchemeMemory.{schemeIn}
 use Rattle.scheme.specs.declared.memory.Scheme.{Scheme}
 use Rattle.verdict.specs.Truth.{WellFormed, AllTrue}
 use Rattle.verdict.specs.Value.{ruleValue, entryValue}
-use Rattle.verdict.specs.Size.{size}
+use Rattle.verdict.specs.Size.{size, HIGHEST}
 use Rattle.verdict.specs.ValueLaws.{factorial-at-most, entry-solves}
 use Rattle.count_step.specs.Step.{capped, childrenOf}
 use Rattle.count_step.specs.StepLaws.{nextCell, child-sum, below-cap}
@@ -37,7 +38,7 @@ use Rattle.count_rows.specs.RunLaws.{sizes-solved}
 pub record SumFits (P : List (List ℕ)) (p g : List ℕ) (sum : ℕ) : Type 0 where
   pub cell : sum ≤ size P p g
   -- 20!
-  pub most : sum ≤ 2432902008176640000
+  pub most : sum ≤ HIGHEST
   pub fits : sum < 18446744073709551616
   -- so the sum with the cap is the sum
   pub same : capped sum ≡ sum
@@ -57,11 +58,11 @@ run-at-most f q n t low high =
     ap (λ m. total (map f (row 1 d)) + m) (ap total (map-append f (row q n) (row (q + n) r)) ∙ total-append (map f (row q n)) (map f (row (q + n) r))) in
     omega (arith, sums)
 
--- what is at most the size of a cell with a total of at most 20
-sum-fits : (P : List (List ℕ)) (p g : List ℕ) (sum : ℕ) → total g ≤ 20 → sum ≤ size P p g → SumFits P p g sum
+-- what is at most the size of a cell with a total of at most LENGTH
+sum-fits : (P : List (List ℕ)) (p g : List ℕ) (sum : ℕ) → total g ≤ LENGTH → sum ≤ size P p g → SumFits P p g sum
 unfolding size
 sum-fits P p g sum h k =
-    let m : sum ≤ 2432902008176640000 = omega (arith, cell-at-most P p g, factorial-at-most (total g) h) in
+    let m : sum ≤ HIGHEST = omega (arith, cell-at-most P p g, factorial-at-most (total g) h) in
     record { cell = k; most = m; fits = omega arith; same = below-cap sum (omega arith) }
 
 -- A sum over next entries of the values of an accepted scheme, as the plain evaluation makes it
@@ -74,7 +75,7 @@ module _ (P : List (List ℕ)) (E : List EntryList) (formed : WellFormed P E) (t
       ap (ruleValue (size P) P (e .prefix) g) r ∙
       ap (λ b. cond b (cond (avoids P (e .prefix)) 1 0) (sumFrom (size P) (e .prefix) g 1 (total g))) (ne-eqb (total g) 0 n)
 
-  pub value-sums-fit : total g ≤ 20 → (q n : ℕ) → 1 ≤ q → q + n ≤ suc (total g) → SumFits P (e .prefix) g (sumFrom (size P) (e .prefix) g q n)
+  pub value-sums-fit : total g ≤ LENGTH → (q n : ℕ) → 1 ≤ q → q + n ≤ suc (total g) → SumFits P (e .prefix) g (sumFrom (size P) (e .prefix) g q n)
   unfolding total
   value-sums-fit h q n low high = sum-fits P (e .prefix) g (sumFrom (size P) (e .prefix) g q n) h (go (total g) refl)
     where

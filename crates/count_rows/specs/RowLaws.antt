@@ -9,6 +9,7 @@ use mathlib.Core.List.{List, [], _∷_, map}
 use lib.ListN.{length, getD}
 use lib.Dec.{eqb}
 use borrow.Author.Tests.{eq-eqb, ne-eqb}
+use Rattle.word.specs.Ceilings.{LENGTH, LINKS}
 use Rattle.word.specs.Lists.{row, oneTo}
 use Rattle.word.specs.Word.{avoids, entry}
 use Rattle.word.specs.ListLaws.{true-not-false, below-or-not, same-or-not}
@@ -108,14 +109,14 @@ module _ (n : ℕ) (s : Scheme) where
 -- What a step stores
 
 module _ (v : List ℕ → List ℕ → ℕ) (P : List (List ℕ)) (s : Scheme) (n : ℕ) (solved : Solves v P s) (proper : Proper s) (e : ℕ) (inside : e < s .count)
-    (t : Item) (planned : Planned n P s e t) (j here before : ℕ) (high : j ≤ 20) (here-is : here ≡ blockOf n s j)
+    (t : Item) (planned : Planned n P s e t) (j here before : ℕ) (high : j ≤ LENGTH) (here-is : here ≡ blockOf n s j)
     (before-is : (i : ℕ) → suc i ≡ j → before ≡ blockOf n s i) (T : List ℕ)
     (longer : (d : ℕ) → d < s .count → lengthAt s e < lengthAt s d → Holds v n s T j d) (done : (i : ℕ) → suc i ≡ j → RowDone v n s T i)
     (g : List ℕ) (wide : length g ≡ suc (lengthAt s e)) (whole : lengthAt s e + total g ≡ j) where
   size : length (prefixAt s e) ≡ lengthAt s e
   size = prefix-length s e
 
-  link : (a : ℕ) → a < 8 → getD (map (λ x. readsFrom t here before + x) (t .links)) a 0 ≡ readsFrom t here before + getD (t .links) a 0
+  link : (a : ℕ) → a < LINKS → getD (map (λ x. readsFrom t here before + x) (t .links)) a 0 ≡ readsFrom t here before + getD (t .links) a 0
   link a h = getD-map (λ x. readsFrom t here before + x) (t .links) a (omega (arith, planned .long))
 
   reads-here : t .deleted ≡ 0 → readsFrom t here before ≡ here

@@ -7,10 +7,12 @@ use mathlib.Core.List.{List, [], map}
 use mathlib.Core.Option.{some}
 use lib.ListN.{length, getD}
 use lib.Dec.{eqb}
+use Rattle.word.specs.Ceilings.{PREFIX, COMPONENTS, GAPS, LENGTH}
 use Rattle.word.specs.Lists.{row}
 use Rattle.cell.specs.Cell.{total}
 use Rattle.cell.specs.Child.{childAt, slot, split}
 use Rattle.cell.specs.Binomial.{binomial}
+use Rattle.spacing.specs.Sizes.{NEAR}
 use Rattle.scheme.specs.SchemeList.{EntryList}
 use Rattle.scheme.specs.SchemeMemory.{noGap, entryIn}
 use Rattle.scheme.specs.declared.memory.Gap.{Gap}
@@ -34,22 +36,22 @@ itemStep e t here before T g = stepOf T (e .gaps) (t .deleted) (t .alone) (map (
 -- an entry in memory and its item, for a row of length j
 pub record Fits (e : Entry) (t : Item) (j here before : ℕ) : Type 0 where
   pub size : t .length ≡ e .length
-  pub short : t .length ≤ 6
+  pub short : t .length ≤ PREFIX
   pub low : t .length ≤ j
-  pub high : j ≤ 20
-  pub near : (a : ℕ) → getD (t .links) a 0 ≤ 134217728
-  pub place : t .place ≤ 134217728
-  pub here-near : here ≤ 134217728
-  pub before-near : before ≤ 134217728
-  pub few : e .«gap_count» ≤ 8
+  pub high : j ≤ LENGTH
+  pub near : (a : ℕ) → getD (t .links) a 0 ≤ NEAR
+  pub place : t .place ≤ NEAR
+  pub here-near : here ≤ NEAR
+  pub before-near : before ≤ NEAR
+  pub few : e .«gap_count» ≤ GAPS
   pub wide : (i : ℕ) → i < e .«gap_count» → (getD (e .gaps) i noGap) .width ≡ e .length + 1
 
--- v solves the recursion of document 01 for the entries of s, and its values at totals up to 20 are
+-- v solves the recursion of document 01 for the entries of s, and its values at totals up to LENGTH are
 -- numbers of 64 bits
 pub record Solves (v : List ℕ → List ℕ → ℕ) (P : List (List ℕ)) (s : Scheme) : Type 0 where
   pub solves : (i : ℕ) → i < s .count → (g : List ℕ) → length g ≡ suc (length (prefixAt s i)) →
       v (prefixAt s i) g ≡ entryValue v P (some (entryAt s i)) g
-  pub fits : (p g : List ℕ) → total g ≤ 20 → v p g ≤ LARGEST
+  pub fits : (p g : List ℕ) → total g ≤ LENGTH → v p g ≤ LARGEST
 
 -- the sum over n next entries from the q-th on
 abbrev pub sumFrom : (List ℕ → List ℕ → ℕ) → List ℕ → List ℕ → ℕ → ℕ → ℕ
@@ -82,12 +84,12 @@ pub record Setting (s : Scheme) (items : List Item) (j here before : ℕ) : Type
   pub n : ℕ
   pub P : List (List ℕ)
   pub proper : Proper s
-  pub small : n ≤ 20
+  pub small : n ≤ LENGTH
   pub low : j ≤ n
   pub plan : Plan n P s items
   pub here-is : here ≡ blockOf n s j
   pub before-is : (i : ℕ) → suc i ≡ j → before ≡ blockOf n s i
-  pub before-near : before ≤ 134217728
+  pub before-near : before ≤ NEAR
 
 -- one state follows another, for every function that solves the recursion
 abbrev pub Goes : (s : Scheme) (items : List Item) (j here before k e l f : ℕ) → List ℕ → List ℕ → Type 0
@@ -97,9 +99,9 @@ Goes s items j here before k e l f T₀ T =
 
 -- the components of the gap vectors before m, in memory
 pub record Components (gaps : List Gap) (m : ℕ) (rows : List (List ℕ)) : Type 0 where
-  pub size : length rows ≡ 8
+  pub size : length rows ≡ GAPS
   pub at : (i : ℕ) → i < m → getD rows i [] ≡ (getD gaps i noGap) .parts
-  pub long : (i : ℕ) → i < m → length (getD rows i []) ≡ 7
+  pub long : (i : ℕ) → i < m → length (getD rows i []) ≡ COMPONENTS
 
 -- the cells of an entry in a row are filled by steps
 abbrev pub EntryFilled : Entry → Item → ℕ → ℕ → ℕ → List ℕ → List ℕ → Type 0
@@ -115,7 +117,7 @@ pub record RowTo (v : List ℕ → List ℕ → ℕ) (n : ℕ) (s : Scheme) (j k
 -- every entry of length r or more has no cells in the row of length j
 pub record Top (j r : ℕ) : Type 0 where
   pub reach : r ≤ j + 1
-  pub all : (7 ≤ r) ⊎ (j < r)
+  pub all : (PREFIX < r) ⊎ (j < r)
 
 -- the row j is filled as far as the entries of length k, for every function that solves the recursion
 abbrev pub RowGoesTo : (s : Scheme) (items : List Item) (j here before k : ℕ) → List ℕ → List ℕ → Type 0

@@ -3,6 +3,8 @@ use Prim.Native.Nat.{ℕ, suc, _+_, _*_, _≤_, _<_}
 use mathlib.Core.Path.{_≡_}
 use mathlib.Core.List.{List, [], _∷_, _++_}
 use lib.ListN.{length, getD, drop, replicate}
+use Rattle.word.specs.Ceilings.{LENGTH, COUNTS}
+use Rattle.spacing.specs.Sizes.{NEAR}
 use Rattle.scheme.specs.SchemeList.{EntryList}
 use Rattle.scheme.specs.declared.memory.Scheme.{Scheme}
 use Rattle.verdict.specs.Value.{countOf}
@@ -15,15 +17,15 @@ use Rattle.count_rows.specs.Rows.{Solves, RowDone, Kept}
 pub record Outlook (s : Scheme) (items : List Item) (n width root : ℕ) : Type 0 where
   pub P : List (List ℕ)
   pub proper : Proper s
-  pub small : n ≤ 20
+  pub small : n ≤ LENGTH
   pub plan : Plan n P s items
   pub width-is : width ≡ widthOf n s
   pub root-is : LeadsTo n s [] root
-  pub root-near : root ≤ 134217728
+  pub root-near : root ≤ NEAR
 
 -- the values at ε for the lengths below j, and zeros
 pub record Counted (v : List ℕ → List ℕ → ℕ) (j : ℕ) (counts : List ℕ) : Type 0 where
-  pub size : length counts ≡ 21
+  pub size : length counts ≡ COUNTS
   pub below : (i : ℕ) → i < j → getD counts i 0 ≡ v [] (i ∷ [])
   pub rest : (i : ℕ) → j ≤ i → getD counts i 0 ≡ 0
 
@@ -39,6 +41,6 @@ cleared m T = replicate m 0 ++ drop m T
 
 -- the counts for the lengths up to n, and zeros
 pub record Counts (P : List (List ℕ)) (E : List EntryList) (n : ℕ) (counts : List ℕ) : Type 0 where
-  pub size : length counts ≡ 21
+  pub size : length counts ≡ COUNTS
   pub upto : (j : ℕ) → j ≤ n → getD counts j 0 ≡ countOf P E j
   pub above : (j : ℕ) → n < j → getD counts j 0 ≡ 0

@@ -8,6 +8,7 @@ use mathlib.Core.Logic.{_⊎_, inl, inr}
 use mathlib.Core.List.{List, [], _∷_, _++_}
 use lib.ListN.{length, getD, set, drop, replicate, length-set, length-drop, length-replicate}
 use lib.Seq.{getD-set-same, getD-set-other, getD-drop, drop-cons, set-at, ext-getD}
+use Rattle.word.specs.Ceilings.{LENGTH, COUNTS}
 use Rattle.word.specs.ListLaws.{below-or-not}
 use Rattle.cell.specs.Cell.{total}
 use Rattle.spacing.specs.Rank.{rankFrom, rankAfter, rankOf}
@@ -61,13 +62,13 @@ run-setting s items n width root j here before o low h b =
     }
 
 module _ (s : Scheme) (items : List Item) (n width root : ℕ) (T₀ : List ℕ) where
-  pub run-start : RunTo s items n width root 0 T₀ T₀ (replicate 21 0)
+  pub run-start : RunTo s items n width root 0 T₀ T₀ (replicate COUNTS 0)
   run-start o v solved room = (
     λ (i : ℕ) (q : suc i ≡ 0). absurd (omega arith),
     record {
-      size = length-replicate {A = ℕ} 21 0;
+      size = length-replicate {A = ℕ} COUNTS 0;
       below = λ (i : ℕ) (h : i < 0). absurd (omega arith);
-      rest = λ (i : ℕ) (h : 0 ≤ i). zeros 21 i;
+      rest = λ (i : ℕ) (h : 0 ≤ i). zeros COUNTS i;
     },
     kept-refl n s T₀,
   )
@@ -124,7 +125,7 @@ sizes-solved P s formed truth =
     record {
       solves = λ (i : ℕ) (h : i < s .count) (g : List ℕ) (wide : length g ≡ suc (length (prefixAt s i))).
           entry-solves P (schemeIn s) formed truth _ (entry-member s i h) g wide;
-      fits = λ (p g : List ℕ) (h : total g ≤ 20). omega (arith, size-fits P p g h);
+      fits = λ (p g : List ℕ) (h : total g ≤ LENGTH). omega (arith, size-fits P p g h);
     }
 
 -- the counts of a run

@@ -5,6 +5,7 @@ use mathlib.Core.Path.{_≡_, refl, sym, ap, ap₂, _∙_}
 use mathlib.Core.Logic.{_⊎_, inl, inr}
 use mathlib.Core.List.{List}
 use lib.ListN.{length, getD}
+use Rattle.word.specs.Ceilings.{PREFIX}
 use Rattle.word.specs.Lists.{row}
 use Rattle.word.specs.ListLaws.{same-or-not}
 use Rattle.cell.specs.Binomial.{binomial}
@@ -169,7 +170,7 @@ module _ (v : List ℕ → List ℕ → ℕ) (n : ℕ) (s : Scheme) (j : ℕ) (T
   row-start k proper room before top =
       record { room = room; before = before; longer = λ (d : ℕ) (h : d < s .count) (l : k ≤ lengthAt s d). none d h l (top .all) }
     where
-      none : (d : ℕ) → d < s .count → k ≤ lengthAt s d → (7 ≤ k) ⊎ (j < k) → Holds v n s T j d
+      none : (d : ℕ) → d < s .count → k ≤ lengthAt s d → (PREFIX < k) ⊎ (j < k) → Holds v n s T j d
       none d h l (inl a) g wide whole = absurd (omega (arith, entry-short s proper d h))
       none d h l (inr a) g wide whole = absurd (omega arith)
 

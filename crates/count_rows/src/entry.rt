@@ -5,29 +5,34 @@ use count_step::filling::fill_cells;
 use scheme::memory::Entry;
 use scheme::memory::Gap;
 use spacing::binomials::choose;
+use word::limits::COMPONENTS;
+use word::limits::GAPS;
+use word::limits::LINKS;
 ghost use mathlib.Core.Path.{_≡_};
 ghost use mathlib.Core.List.{map};
 ghost use Prim.Native.Nat.{ℕ, _+_, _≤_};
 ghost use lib.ListN.{length, getD};
+ghost use Rattle.word.specs.Ceilings.{COMPONENTS, GAPS};
+ghost use Rattle.spacing.specs.Sizes.{NEAR};
 ghost use Rattle.spacing.specs.Pascal.{Pascal};
 ghost use Rattle.count_rows.specs.Rows.{Components, Fits, EntryFilled};
 ghost use mathlib.Core.Bool.{cond};
 ghost use lib.Dec.{eqb};
 
 // The components of a gap vector.
-fn parts_of(gap: Gap) -> [u8; 7]
-    ensures { λ r. ⌜ (r ≡ gap .parts) × (length r ≡ 7) ⌝ }
+fn parts_of(gap: Gap) -> [u8; COMPONENTS]
+    ensures { λ r. ⌜ (r ≡ gap .parts) × (length r ≡ COMPONENTS) ⌝ }
 {
     gap.parts
 }
 
 // The gap vectors of an entry, row by row.
-fn gap_rows(gaps: [Gap; 8]) -> [[u8; 7]; 8]
-    ensures { λ r. ⌜ Components gaps 8 r ⌝ }
+fn gap_rows(gaps: [Gap; GAPS]) -> [[u8; COMPONENTS]; GAPS]
+    ensures { λ r. ⌜ Components gaps GAPS r ⌝ }
 {
-    let mut rows = [[0u8; 7]; 8];
+    let mut rows = [[0u8; COMPONENTS]; GAPS];
     let mut j: usize = 0;
-    while j < 8 {
+    while j < GAPS {
         let gap = gaps[j];
         let parts = parts_of(gap);
         rows[j] = parts;
@@ -37,13 +42,13 @@ fn gap_rows(gaps: [Gap; 8]) -> [[u8; 7]; 8]
 }
 
 // The links, counted from a place in the table.
-fn shifted(links: [usize; 8], offset: usize) -> [usize; 8]
-    requires { ⌜ (offset ≤ 134217728) × ((a : ℕ) → getD links a 0 ≤ 134217728) ⌝ }
+fn shifted(links: [usize; LINKS], offset: usize) -> [usize; LINKS]
+    requires { ⌜ (offset ≤ NEAR) × ((a : ℕ) → getD links a 0 ≤ NEAR) ⌝ }
     ensures { λ r. ⌜ r ≡ map (λ x. offset + x) links ⌝ }
 {
     let mut r = links;
     let mut i: usize = 0;
-    while i < 8 {
+    while i < LINKS {
         r[i] = offset + links[i];
         i += 1;
     }

@@ -4,15 +4,21 @@
 use crate::entry::fill_entry;
 use count_plan::items::Item;
 use scheme::memory::Scheme;
+use word::limits::ENTRIES;
+use word::limits::PREFIX;
 ghost use Prim.Native.Nat.{_≤_};
+ghost use Rattle.word.specs.Ceilings.{LENGTH};
 ghost use Rattle.spacing.specs.Pascal.{Pascal};
 ghost use Rattle.count_rows.specs.Rows.{Setting, Goes, RowGoes, Top};
+
+// One more than the length of the longest prefixes.
+const PAST: usize = PREFIX + 1;
 
 // Fills the cells of all entries of length k in the row of length j.
 fn fill_length(
     table: &mut [u64],
     s: Scheme,
-    items: [Item; 128],
+    items: [Item; ENTRIES],
     k: usize,
     j: usize,
     here: usize,
@@ -40,7 +46,7 @@ fn fill_length(
 pub fn fill_row(
     table: &mut [u64],
     s: Scheme,
-    items: [Item; 128],
+    items: [Item; ENTRIES],
     j: usize,
     here: usize,
     before: usize,
@@ -58,8 +64,8 @@ pub fn fill_row(
 
 // One more than the length of the longest entries that have cells in the row of length j.
 fn longest(j: usize) -> usize
-    requires { ⌜ j ≤ 20 ⌝ }
+    requires { ⌜ j ≤ LENGTH ⌝ }
     ensures { λ r. ⌜ Top j r ⌝ }
 {
-    if j < 6 { j + 1 } else { 7 }
+    if j < PREFIX { j + 1 } else { PAST }
 }

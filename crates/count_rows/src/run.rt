@@ -8,9 +8,14 @@ use count_step::cells::read;
 use count_step::cells::store;
 use scheme::memory::Scheme;
 use spacing::binomials::binomials;
+use word::limits::COUNTS;
+use word::limits::DIGITS;
+use word::limits::ENTRIES;
+use word::limits::PATTERNS;
 ghost use mathlib.Core.Path.{_≡_};
 ghost use Prim.Native.Nat.{_+_, _≤_};
 ghost use lib.ListN.{length};
+ghost use Rattle.word.specs.Ceilings.{LENGTH};
 ghost use Rattle.word.specs.Containment.{patternsOf};
 ghost use Rattle.spacing.specs.Pascal.{Pascal};
 ghost use Rattle.scheme.specs.SchemeMemory.{schemeIn};
@@ -23,16 +28,16 @@ ghost use Rattle.count_rows.specs.Run.{Outlook, RunTo, cleared, Counts};
 fn run(
     table: &mut [u64],
     s: Scheme,
-    items: [Item; 128],
+    items: [Item; ENTRIES],
     n: usize,
     width: usize,
     root: usize,
     b: &[usize],
-) -> [u64; 21]
+) -> [u64; COUNTS]
     requires { ⌜ Outlook s items n width root × Pascal (now b) ⌝ }
     ensures { λ r. ⌜ RunTo s items n width root (n + 1) (now (table .entry)) (now (table .exit)) r ⌝ }
 {
-    let mut counts = [0u64; 21];
+    let mut counts = [0u64; COUNTS];
     let mut here: usize = 0;
     let mut before = width;
     let mut j: usize = 0;
@@ -61,7 +66,7 @@ fn clear(table: &mut [u64], m: usize)
 
 // The number of cells that counting up to n needs.
 pub fn need(s: Scheme, n: usize) -> usize
-    requires { ⌜ Proper s × (n ≤ 20) ⌝ }
+    requires { ⌜ Proper s × (n ≤ LENGTH) ⌝ }
     ensures { λ r. ⌜ r ≡ needOf n (schemeIn s) ⌝ }
 {
     let b = binomials();
@@ -71,14 +76,14 @@ pub fn need(s: Scheme, n: usize) -> usize
 // The counts for the lengths from 0 to n of a scheme that is accepted for the patterns; the needed cells of the table hold 0 afterwards, the others what
 // they held.
 pub fn counts(
-    set: [[u8; 8]; 24],
-    lengths: [u8; 24],
+    set: [[u8; DIGITS]; PATTERNS],
+    lengths: [u8; PATTERNS],
     count: usize,
     s: Scheme,
     n: usize,
     table: &mut [u64],
-) -> [u64; 21]
-    requires { ⌜ (n ≤ 20) × WellFormed (patternsOf set lengths count) (schemeIn s) × AllTrue (patternsOf set lengths count) (schemeIn s)
+) -> [u64; COUNTS]
+    requires { ⌜ (n ≤ LENGTH) × WellFormed (patternsOf set lengths count) (schemeIn s) × AllTrue (patternsOf set lengths count) (schemeIn s)
         × (needOf n (schemeIn s) ≤ length (now table)) ⌝ }
     ensures counts { λ r. ⌜ Counts (patternsOf set lengths count) (schemeIn s) n r ⌝ }
     ensures table { λ r. ⌜ now (table .exit) ≡ cleared (needOf n (schemeIn s)) (now (table .entry)) ⌝ }

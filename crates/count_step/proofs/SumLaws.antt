@@ -8,8 +8,10 @@ use mathlib.Core.Path.{_≡_, refl, sym, ap, ap₂, _∙_}
 use mathlib.Core.List.{List, [], _∷_}
 use lib.ListN.{length, getD, drop, length-drop, drop-of-length-le}
 use lib.Seq.{drop-cons}
+use Rattle.word.specs.Ceilings.{LENGTH, COUNTS}
 use Rattle.cell.specs.Cell.{total, mergeValues}
 use Rattle.cell.specs.Binomial.{binomial}
+use Rattle.spacing.specs.Sizes.{CHOICES, RANKS}
 use Rattle.spacing.specs.Rank.{rankFrom, rankAfter}
 use Rattle.spacing.specs.RankLaws.{after-head, merge-none}
 use Rattle.spacing.specs.PascalLaws.{binomial-small}
@@ -70,12 +72,12 @@ module _ (M : ℕ) where
 
 -- How large ranks are
 
-from-small : (i z : ℕ) (g : List ℕ) → z + total g + length g ≤ 20 → rankFrom i z g ≤ length g * 1048576
+from-small : (i z : ℕ) (g : List ℕ) → z + total g + length g ≤ LENGTH → rankFrom i z g ≤ length g * CHOICES
 unfolding rankFrom total
 from-small i z [] h = omega arith
 from-small i z (y ∷ g) h = omega (arith, from-small (suc i) (suc z + y) g (omega arith), binomial-small z (suc i) (omega arith))
 
-pub after-small : (i a : ℕ) (g : List ℕ) → a + total g + length g ≤ 21 → rankAfter i a g ≤ length g * 1048576
+pub after-small : (i a : ℕ) (g : List ℕ) → a + total g + length g ≤ COUNTS → rankAfter i a g ≤ length g * CHOICES
 unfolding rankAfter total
 after-small i a [] h = omega arith
 after-small i a (x ∷ g) h = omega (arith, from-small i (a + x) g (omega arith))
@@ -84,12 +86,12 @@ after-small i a (x ∷ g) h = omega (arith, from-small i (a + x) g (omega arith)
 pub record Sums (M : ℕ) (T links G : List ℕ) (k above below z sum i : ℕ) : Type 0 where
   pub whole : min (sum + childSum T links i below z (drop i G)) M ≡ min (childrenOf T links G) M
   pub high : above ≡ rankAfter (i + 1) z (drop i G)
-  pub fits : z + total (drop i G) + (k - i) ≤ 20
-  pub low : below ≤ i * 1048576
+  pub fits : z + total (drop i G) + (k - i) ≤ LENGTH
+  pub low : below ≤ i * CHOICES
   pub reach : i ≤ k
 
 module _ (M : ℕ) (T links G : List ℕ) (k : ℕ) (size : length G ≡ k + 1) where
-  pub sums-start : (a : ℕ) → a ≡ rankAfter 1 0 (mergeValues (0 ∷ []) G) → k + total G ≤ 20 → Sums M T links G k a 0 0 0 0
+  pub sums-start : (a : ℕ) → a ≡ rankAfter 1 0 (mergeValues (0 ∷ []) G) → k + total G ≤ LENGTH → Sums M T links G k a 0 0 0 0
   unfolding childrenOf
   sums-start a e h =
       record {
@@ -111,12 +113,12 @@ module _ (M : ℕ) (T links G : List ℕ) (k : ℕ) (size : length G ≡ k + 1) 
     unfolding total
     rest = ap total cut
 
-    pub above-small : above ≤ 7 * 1048576 + k * 1048576
+    pub above-small : above ≤ RANKS + k * CHOICES
     above-small =
         let l : length (drop i G) ≡ k + 1 - i = omega (arith, length-drop i G) in
         omega (arith, s .high, after-small (i + 1) z (drop i G) (omega (arith, s .fits, s .reach)))
 
-    pub component-small : (x : ℕ) → x ≡ getD G i 0 → z + x ≤ 20
+    pub component-small : (x : ℕ) → x ≡ getD G i 0 → z + x ≤ LENGTH
     component-small x e = omega (arith, s .fits, rest)
 
     module _ (x : ℕ) (e : x ≡ getD G i 0) where

@@ -1,23 +1,29 @@
 -- What the passes over the cells of an entry are given. Definitions only.
-use Prim.Native.Nat.{ℕ, suc, _+_, _≤_, _<_}
+use Prim.Native.Nat.{ℕ, suc, _+_, _*_, _≤_, _<_}
 use mathlib.Core.Path.{_≡_}
 use mathlib.Core.Logic.{_⊎_}
 use mathlib.Core.List.{List}
 use lib.ListN.{length, getD, take}
+use Rattle.word.specs.Ceilings.{PREFIX, LENGTH}
 use Rattle.cell.specs.Cell.{total}
+use Rattle.spacing.specs.Sizes.{RANKS, FAR}
 use Rattle.spacing.specs.GapRows.{gapsOf}
 use Rattle.spacing.specs.Rank.{rankOf}
 use Rattle.count_step.specs.Step.{stepOf}
 use Rattle.count_step.specs.declared.cells.Task.{Task}
 
--- places in the table are far below 2 ^ 64
+-- places in the table
 abbrev pub Near : List ℕ → Type 0
-Near links = (i : ℕ) → getD links i 0 ≤ 1099511627776
+Near links = (i : ℕ) → getD links i 0 ≤ FAR
 
--- an entry of length at most 6 at a length of at most 20
+-- a place in the table, and ranks of up to three spacings beside it
+abbrev pub REACH : ℕ
+REACH = FAR + 3 * RANKS
+
+-- an entry of length at most PREFIX at a length of at most LENGTH
 pub record TaskFits (t : Task) : Type 0 where
-  pub short : t .length ≤ 6
-  pub sum : t .length + t .total ≤ 20
+  pub short : t .length ≤ PREFIX
+  pub sum : t .length + t .total ≤ LENGTH
   pub near : Near (t .links)
 
 -- the spacing of a cell, in memory

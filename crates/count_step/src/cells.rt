@@ -4,13 +4,17 @@ use spacing::binomials::choose;
 use spacing::is_free;
 use spacing::walk::rank_without;
 use spacing::walk::wide;
+use word::limits::COMPONENTS;
+use word::limits::GAPS;
+use word::limits::LINKS;
 ghost use mathlib.Core.Path.{_≡_};
 ghost use Prim.Native.Nat.{_+_, _≤_, _<_};
 ghost use lib.ListN.{getD, set, take};
+ghost use Rattle.word.specs.Ceilings.{PREFIX, LENGTH, COUNTS, COLUMNS};
 ghost use Rattle.cell.specs.Cell.{total};
 ghost use Rattle.spacing.specs.Pascal.{Pascal};
 ghost use Rattle.count_step.specs.Step.{partSum, childrenOf, capped};
-ghost use Rattle.count_step.specs.Task.{Near, TaskFits, spacingIn, taskStep};
+ghost use Rattle.count_step.specs.Task.{Near, TaskFits, spacingIn, taskStep, REACH};
 
 // What the cells of one entry at one length share: the entry's length and the total of its spacings; the value that the entry deletes, or 0; what an
 // expanding entry has at total 0; where in the table the cells of its children, or of its target, begin; the number of its gap vectors.
@@ -19,7 +23,7 @@ pub struct Task {
     pub total: usize,
     pub deleted: usize,
     pub alone: u64,
-    pub links: [usize; 8],
+    pub links: [usize; LINKS],
     pub gap_count: usize,
 }
 
@@ -45,7 +49,7 @@ pub fn store(table: &mut [u64], i: usize, x: u64)
 
 // The sum of the cells at `at` + C(z, col) for the n values z from `first` on.
 fn part_sum(table: &[u64], at: usize, col: usize, first: usize, n: usize, b: &[usize]) -> u64
-    requires { ⌜ (at ≤ 2199023255552) × (col < 8) × (first + n ≤ 21) × Pascal (now b) ⌝ }
+    requires { ⌜ (at ≤ REACH) × (col < COLUMNS) × (first + n ≤ COUNTS) × Pascal (now b) ⌝ }
     ensures { λ r. ⌜ r ≡ capped (partSum (now (table .entry)) at col first n) ⌝ }
 {
     let end = first + n;
@@ -61,8 +65,14 @@ fn part_sum(table: &[u64], at: usize, col: usize, first: usize, n: usize, b: &[u
 
 // The sum over every next entry: component by component, the cells of the child that belongs to it. Each value of a component joins the values before,
 // whose binomials stay (`below`), and those behind it, which are now counted as one more (`above`).
-fn child_sum(table: &[u64], links: [usize; 8], g: [u8; 7], k: usize, b: &[usize]) -> u64
-    requires { ⌜ (k ≤ 6) × (k + total (take (k + 1) g) ≤ 20) × Near links × Pascal (now b) ⌝ }
+fn child_sum(
+    table: &[u64],
+    links: [usize; LINKS],
+    g: [u8; COMPONENTS],
+    k: usize,
+    b: &[usize],
+) -> u64
+    requires { ⌜ (k ≤ PREFIX) × (k + total (take (k + 1) g) ≤ LENGTH) × Near links × Pascal (now b) ⌝ }
     ensures { λ r. ⌜ r ≡ capped (childrenOf (now (table .entry)) links (take (k + 1) g)) ⌝ }
 {
     let mut above = rank_without(g, k, 0, 1, b);
@@ -87,7 +97,13 @@ fn child_sum(table: &[u64], links: [usize; 8], g: [u8; 7], k: usize, b: &[usize]
 
 // The value at the spacing g: 0 where a gap vector covers it; else, for a deleting entry, the value at its target, and for an expanding entry the sum
 // over every next entry.
-pub fn value_at(table: &[u64], task: Task, gaps: [[u8; 7]; 8], g: [u8; 7], b: &[usize]) -> u64
+pub fn value_at(
+    table: &[u64],
+    task: Task,
+    gaps: [[u8; COMPONENTS]; GAPS],
+    g: [u8; COMPONENTS],
+    b: &[usize],
+) -> u64
     requires { ⌜ TaskFits task × (total (spacingIn (task .length) g) ≡ task .total) × Pascal (now b) ⌝ }
     ensures { λ r. ⌜ r ≡ taskStep task gaps (now (table .entry)) (spacingIn (task .length) g) ⌝ }
 {

@@ -4,11 +4,15 @@ use crate::cells::store;
 use crate::cells::value_at;
 use spacing::first_spacing;
 use spacing::walk::next_cell;
+use word::limits::COMPONENTS;
+use word::limits::GAPS;
 ghost use mathlib.Core.Path.{_≡_};
 ghost use Prim.Native.Nat.{_+_, _≤_};
 ghost use lib.ListN.{set};
+ghost use Rattle.word.specs.Ceilings.{LENGTH};
 ghost use Rattle.cell.specs.Cell.{total};
 ghost use Rattle.cell.specs.Binomial.{binomial};
+ghost use Rattle.spacing.specs.Sizes.{FAR};
 ghost use Rattle.spacing.specs.Pascal.{Pascal};
 ghost use Rattle.count_step.specs.Task.{TaskFits, spacingIn, taskStep, Filled};
 
@@ -17,8 +21,8 @@ pub fn fill_one(
     table: &mut [u64],
     at: usize,
     task: Task,
-    gaps: [[u8; 7]; 8],
-    g: [u8; 7],
+    gaps: [[u8; COMPONENTS]; GAPS],
+    g: [u8; COMPONENTS],
     b: &[usize],
 )
     requires { ⌜ TaskFits task × (total (spacingIn (task .length) g) ≡ task .total) × Pascal (now b) ⌝ }
@@ -34,10 +38,10 @@ pub fn fill_cells(
     at: usize,
     size: usize,
     task: Task,
-    gaps: [[u8; 7]; 8],
+    gaps: [[u8; COMPONENTS]; GAPS],
     b: &[usize],
 )
-    requires { ⌜ TaskFits task × (size ≡ binomial (task .length + task .total) (task .length)) × (at ≤ 1099511627776) × Pascal (now b) ⌝ }
+    requires { ⌜ TaskFits task × (size ≡ binomial (task .length + task .total) (task .length)) × (at ≤ FAR) × Pascal (now b) ⌝ }
     ensures { λ r. ⌜ Filled (taskStep task gaps) (task .length) (task .total) at size size (now (table .entry)) (now (table .exit)) ⌝ }
 {
     let k = task.length;
@@ -51,9 +55,9 @@ pub fn fill_cells(
     }
 }
 
-// The same number, of at most 20.
+// The same number, of at most LENGTH.
 fn narrow(x: usize) -> u8
-    requires { ⌜ x ≤ 20 ⌝ }
+    requires { ⌜ x ≤ LENGTH ⌝ }
     ensures { λ r. ⌜ r ≡ x ⌝ }
 {
     x as u8

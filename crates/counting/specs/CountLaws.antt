@@ -7,6 +7,7 @@ use mathlib.Core.List.{List, [], _∷_, _++_}
 use lib.ListN.{length}
 use lib.Dec.{ltb}
 use borrow.Author.Tests.{lt-ltb, le-ltb}
+use Rattle.word.specs.Ceilings.{LENGTH, PLAIN_LENGTH as PLAIN}
 use Rattle.word.specs.Word.{avoiders}
 use Rattle.word.specs.ListLaws.{true-not-false}
 use Rattle.word.specs.Finding.{Finding, clean, fault, test, firstFault}
@@ -43,37 +44,37 @@ clean-accepts (Rattle.verdict.specs.declared.answer.Verdict.the-variants.Accept
 clean-accepts (Rattle.verdict.specs.declared.answer.Verdict.the-variants.Refused r i) e = let z : _≡_ {A = ℕ} 0 1 = cc in absurd (omega arith)
 
 -- the tests of n and of the table
-pub length-refused : (E : List EntryList) (n cells : ℕ) → 20 < n → faultOf (firstFault (tableTests E n cells)) ≡ At Oversize 0
-length-refused E n cells h = rw (lt-ltb 20 n h) refl
+pub length-refused : (E : List EntryList) (n cells : ℕ) → LENGTH < n → faultOf (firstFault (tableTests E n cells)) ≡ At Oversize 0
+length-refused E n cells h = rw (lt-ltb LENGTH n h) refl
 
-pub table-refused : (E : List EntryList) (n cells : ℕ) → n ≤ 20 → cells < needOf n E → faultOf (firstFault (tableTests E n cells)) ≡ At ShortTable 0
-table-refused E n cells h k = rw (le-ltb 20 n h, lt-ltb cells (needOf n E) k) refl
+pub table-refused : (E : List EntryList) (n cells : ℕ) → n ≤ LENGTH → cells < needOf n E → faultOf (firstFault (tableTests E n cells)) ≡ At ShortTable 0
+table-refused E n cells h k = rw (le-ltb LENGTH n h, lt-ltb cells (needOf n E) k) refl
 
-pub table-serves : (E : List EntryList) (n cells : ℕ) → n ≤ 20 → needOf n E ≤ cells → faultOf (firstFault (tableTests E n cells)) ≡ Clean
-table-serves E n cells h k = rw (le-ltb 20 n h, le-ltb cells (needOf n E) k) refl
+pub table-serves : (E : List EntryList) (n cells : ℕ) → n ≤ LENGTH → needOf n E ≤ cells → faultOf (firstFault (tableTests E n cells)) ≡ Clean
+table-serves E n cells h k = rw (le-ltb LENGTH n h, le-ltb cells (needOf n E) k) refl
 
--- where they find nothing, n is at most 20 and the table is long enough
-pub table-good : (E : List EntryList) (n cells : ℕ) → faultOf (firstFault (tableTests E n cells)) ≡ Clean → (n ≤ 20) × (needOf n E ≤ cells)
-table-good E n cells e = go (ltb 20 n) (ltb cells (needOf n E)) refl refl e
+-- where they find nothing, n is at most LENGTH and the table is long enough
+pub table-good : (E : List EntryList) (n cells : ℕ) → faultOf (firstFault (tableTests E n cells)) ≡ Clean → (n ≤ LENGTH) × (needOf n E ≤ cells)
+table-good E n cells e = go (ltb LENGTH n) (ltb cells (needOf n E)) refl refl e
   where
-    go : (a b : Bool) → ltb 20 n ≡ a → ltb cells (needOf n E) ≡ b → faultOf (firstFault (test Oversize a ∷ test ShortTable b ∷ [])) ≡ Clean → (n ≤ 20) × (needOf n E ≤ cells)
+    go : (a b : Bool) → ltb LENGTH n ≡ a → ltb cells (needOf n E) ≡ b → faultOf (firstFault (test Oversize a ∷ test ShortTable b ∷ [])) ≡ Clean → (n ≤ LENGTH) × (needOf n E ≤ cells)
     go true b p q r = let z : _≡_ {A = ℕ} 0 1 = cc in absurd (omega arith)
     go false true p q r = let z : _≡_ {A = ℕ} 0 1 = cc in absurd (omega arith)
-    go false false p q r = (borrow.Author.Tests.ltb-false 20 n p, borrow.Author.Tests.ltb-false cells (needOf n E) q)
+    go false false p q r = (borrow.Author.Tests.ltb-false LENGTH n p, borrow.Author.Tests.ltb-false cells (needOf n E) q)
 
 -- the test of n in the plain evaluation
-pub length-serves : (n : ℕ) → n ≤ 9 → faultOf (firstFault (lengthTests n)) ≡ Clean
-length-serves n h = rw (le-ltb 9 n h) refl
+pub length-serves : (n : ℕ) → n ≤ PLAIN → faultOf (firstFault (lengthTests n)) ≡ Clean
+length-serves n h = rw (le-ltb PLAIN n h) refl
 
-pub length-long : (n : ℕ) → 9 < n → faultOf (firstFault (lengthTests n)) ≡ At Oversize 0
-length-long n h = rw (lt-ltb 9 n h) refl
+pub length-long : (n : ℕ) → PLAIN < n → faultOf (firstFault (lengthTests n)) ≡ At Oversize 0
+length-long n h = rw (lt-ltb PLAIN n h) refl
 
-pub length-good : (n : ℕ) → faultOf (firstFault (lengthTests n)) ≡ Clean → n ≤ 9
-length-good n e = go (ltb 9 n) refl e
+pub length-good : (n : ℕ) → faultOf (firstFault (lengthTests n)) ≡ Clean → n ≤ PLAIN
+length-good n e = go (ltb PLAIN n) refl e
   where
-    go : (a : Bool) → ltb 9 n ≡ a → faultOf (firstFault (test Oversize a ∷ [])) ≡ Clean → n ≤ 9
+    go : (a : Bool) → ltb PLAIN n ≡ a → faultOf (firstFault (test Oversize a ∷ [])) ≡ Clean → n ≤ PLAIN
     go true p r = let z : _≡_ {A = ℕ} 0 1 = cc in absurd (omega arith)
-    go false p r = borrow.Author.Tests.ltb-false 9 n p
+    go false p r = borrow.Author.Tests.ltb-false PLAIN n p
 
 -- an answer to a refusal does not ask for the count, and leaves the table
 pub refused-count : (f : Fault) (m n : ℕ) → faulty f ≡ true → countedOr f m ≡ countedOr f n
@@ -128,7 +129,7 @@ module _ (P : List (List ℕ)) (E : List EntryList) where
             ap Count (count-exact a n);
       }
     where
-      short : n ≤ 9 → faultOf (firstFault (lengthTests n)) ≡ Clean
+      short : n ≤ PLAIN → faultOf (firstFault (lengthTests n)) ≡ Clean
       short h = length-serves n h
 
   -- Two parts of tests: a fault in the first refuses, then one in the second.
@@ -160,7 +161,7 @@ module _ (P : List (List ℕ)) (E : List EntryList) where
       refused-n-or-table k = by-fault g tests-so k
 
       module _ (k : faulty g ≡ false) where
-        pub served : (n ≤ 20) × (needOf n E ≤ length T)
+        pub served : (n ≤ LENGTH) × (needOf n E ≤ length T)
         served = table-good E n (length T) (sym found ∙ not-faulty g k)
 
         pub done : (T' : List ℕ) (v : ℕ) (r : Counted) → T' ≡ tableAfter Clean (needOf n E) T → v ≡ countOf P E n → r ≡ countedOr g v → Counts P E n T T' r

@@ -5,6 +5,7 @@ use mathlib.Core.Bool.{true}
 use mathlib.Core.List.{List, [], _∷_, _++_}
 use lib.ListN.{length, drop, replicate}
 use lib.Dec.{ltb}
+use Rattle.word.specs.Ceilings.{LENGTH, PLAIN_LENGTH as PLAIN}
 use Rattle.word.specs.Word.{avoiders}
 use Rattle.word.specs.Finding.{Finding, clean, fault, test, firstFault}
 use Rattle.word.specs.Told.{Told, toldBy}
@@ -21,10 +22,10 @@ use Rattle.verdict.specs.Value.{countOf}
 use Rattle.counting.specs.declared.answer.Counted.{Counted}
 use Rattle.counting.specs.declared.answer.Counted.the-variants.{Count, Refused as RefusedCount}
 
--- "the scheme before n, n before table" (01); a count is for n up to 20, and a table is short with
+-- "the scheme before n, n before table" (01); a count is for n up to LENGTH, and a table is short with
 -- fewer cells than needed
 abbrev pub tableTests : List EntryList → ℕ → ℕ → List Finding
-tableTests E n cells = test Oversize (ltb 20 n) ∷ test ShortTable (ltb cells (needOf n E)) ∷ []
+tableTests E n cells = test Oversize (ltb LENGTH n) ∷ test ShortTable (ltb cells (needOf n E)) ∷ []
 
 -- "judging and counting test all up to 11" (01)
 abbrev pub countTests : List (List ℕ) → List EntryList → ℕ → ℕ → List Finding
@@ -32,7 +33,7 @@ countTests P E n cells = judgeTests P E ++ tableTests E n cells
 
 -- "a plain evaluation for n up to 9 (above it 2), without a table" (01)
 abbrev pub lengthTests : ℕ → List Finding
-lengthTests n = test Oversize (ltb 9 n) ∷ []
+lengthTests n = test Oversize (ltb PLAIN n) ∷ []
 
 abbrev pub plainTests : List (List ℕ) → List EntryList → ℕ → List Finding
 plainTests P E n = judgeTests P E ++ lengthTests n
@@ -66,10 +67,10 @@ pub record Counts (P : List (List ℕ)) (E : List EntryList) (n : ℕ) (before a
   pub table : after ≡ tableAfter (faultOf (firstFault (countTests P E n (length before)))) (needOf n E) before
   -- "If accepted, then for every n from 0 to 20 and every table long enough, whatever it held, the
   -- count .. is exactly the number of permutations of 1 to n that contain none of the patterns"
-  pub counts : accepted (verdictOf P E) ≡ true → n ≤ 20 → needOf n E ≤ length before → r ≡ Count (length (avoiders P n))
+  pub counts : accepted (verdictOf P E) ≡ true → n ≤ LENGTH → needOf n E ≤ length before → r ≡ Count (length (avoiders P n))
 
 -- the answer of the plain evaluation
 pub record PlainCounts (P : List (List ℕ)) (E : List EntryList) (n : ℕ) (r : Counted) : Type 0 where
   pub answer : r ≡ countedOr (faultOf (firstFault (plainTests P E n))) (countOf P E n)
   pub numbers : toldCounted r ≡ toldBy (firstFault (plainTests P E n)) (countOf P E n ∷ [])
-  pub counts : accepted (verdictOf P E) ≡ true → n ≤ 9 → r ≡ Count (length (avoiders P n))
+  pub counts : accepted (verdictOf P E) ≡ true → n ≤ PLAIN → r ≡ Count (length (avoiders P n))

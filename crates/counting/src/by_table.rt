@@ -11,10 +11,13 @@ use scheme::memory::Fault;
 use scheme::memory::Patterns;
 use scheme::memory::Scheme;
 use scheme::order::is_fault;
+use word::limits::COUNTS;
+use word::limits::LENGTH;
 use word::refusal::Refusal;
 ghost use mathlib.Core.Path.{_≡_};
 ghost use Prim.Native.Nat.{_≤_};
 ghost use lib.ListN.{length};
+ghost use Rattle.word.specs.Ceilings.{LENGTH};
 ghost use Rattle.scheme.specs.SchemeMemory.{patternsIn, schemeIn, faultOf};
 ghost use Rattle.word.specs.Finding.{firstFault};
 ghost use Rattle.verdict.specs.Truth.{WellFormed, AllTrue};
@@ -22,9 +25,6 @@ ghost use Rattle.count_plan.specs.Layout.{needOf};
 ghost use Rattle.count_plan.specs.Plan.{Proper};
 ghost use Rattle.count_rows.specs.Run.{cleared, Counts as CountsTo};
 ghost use Rattle.counting.specs.Counting.{tableTests, Counts};
-
-// the largest length that is counted
-pub const LENGTH: usize = 20;
 
 // The number of permutations of 1 to n that avoid the patterns, by a scheme that is judged first. Nothing is asked of the caller.
 pub fn count(patterns: Patterns, scheme: Scheme, n: usize, table: &mut [u64]) -> Counted
@@ -43,7 +43,7 @@ pub fn count(patterns: Patterns, scheme: Scheme, n: usize, table: &mut [u64]) ->
     count_or(fault, all[n])
 }
 
-// What n and the number of cells are refused for: n above 20, then fewer cells than are needed.
+// What n and the number of cells are refused for: n above LENGTH, then fewer cells than are needed.
 pub fn table_fault(scheme: Scheme, n: usize, cells: usize) -> Fault
     requires { ⌜ Proper scheme ⌝ }
     ensures { λ r. ⌜ r ≡ faultOf (firstFault (tableTests (schemeIn scheme) n cells)) ⌝ }
@@ -59,8 +59,8 @@ pub fn table_fault(scheme: Scheme, n: usize, cells: usize) -> Fault
 }
 
 // The counts for the lengths from 0 to n of an accepted scheme.
-pub fn all_counts(patterns: Patterns, scheme: Scheme, n: usize, table: &mut [u64]) -> [u64; 21]
-    requires { ⌜ (n ≤ 20) × WellFormed (patternsIn patterns) (schemeIn scheme) × AllTrue (patternsIn patterns) (schemeIn scheme) × (needOf n (schemeIn scheme) ≤ length (now table)) ⌝ }
+pub fn all_counts(patterns: Patterns, scheme: Scheme, n: usize, table: &mut [u64]) -> [u64; COUNTS]
+    requires { ⌜ (n ≤ LENGTH) × WellFormed (patternsIn patterns) (schemeIn scheme) × AllTrue (patternsIn patterns) (schemeIn scheme) × (needOf n (schemeIn scheme) ≤ length (now table)) ⌝ }
     ensures counts { λ r. ⌜ CountsTo (patternsIn patterns) (schemeIn scheme) n r ⌝ }
     ensures table { λ r. ⌜ now (table .exit) ≡ cleared (needOf n (schemeIn scheme)) (now (table .entry)) ⌝ }
 {

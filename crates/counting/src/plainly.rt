@@ -10,19 +10,19 @@ use scheme::memory::Fault;
 use scheme::memory::Patterns;
 use scheme::memory::Scheme;
 use scheme::order::is_fault;
+use word::limits::PLAIN_LENGTH;
 use word::refusal::Refusal;
 ghost use mathlib.Core.Path.{_≡_};
 ghost use Prim.Native.Nat.{_≤_};
+ghost use Rattle.word.specs.Ceilings.{PLAIN_LENGTH};
 ghost use Rattle.word.specs.Finding.{firstFault};
 ghost use Rattle.scheme.specs.SchemeMemory.{patternsIn, schemeIn, faultOf};
 ghost use Rattle.verdict.specs.Truth.{WellFormed, AllTrue};
 ghost use Rattle.verdict.specs.Value.{countOf};
 ghost use Rattle.counting.specs.Counting.{lengthTests, PlainCounts};
 
-// the largest length that is evaluated plainly
-pub const PLAIN_LENGTH: usize = 9;
-
-// The number of permutations of 1 to n that avoid the patterns, n up to 9, without a table. Nothing is asked of the caller.
+// The number of permutations of 1 to n that avoid the patterns, n up to PLAIN_LENGTH, without a
+// table. Nothing is asked of the caller.
 pub fn count_plainly(patterns: Patterns, scheme: Scheme, n: usize) -> Counted
     ensures { λ r. ⌜ PlainCounts (patternsIn patterns) (schemeIn scheme) n r ⌝ }
 {
@@ -51,7 +51,7 @@ fn length_fault(n: usize) -> Fault
 
 // The count of an accepted scheme.
 fn evaluated(patterns: Patterns, scheme: Scheme, n: usize) -> u64
-    requires { ⌜ (n ≤ 9) × WellFormed (patternsIn patterns) (schemeIn scheme) × AllTrue (patternsIn patterns) (schemeIn scheme) ⌝ }
+    requires { ⌜ (n ≤ PLAIN_LENGTH) × WellFormed (patternsIn patterns) (schemeIn scheme) × AllTrue (patternsIn patterns) (schemeIn scheme) ⌝ }
     ensures { λ r. ⌜ r ≡ countOf (patternsIn patterns) (schemeIn scheme) n ⌝ }
 {
     let rows = rows_of(patterns);

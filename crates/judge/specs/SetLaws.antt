@@ -5,6 +5,7 @@ use mathlib.Core.Path.{_≡_, refl, sym, ap, ap₂, _∙_}
 use mathlib.Core.Bool.{true}
 use mathlib.Core.List.{List, [], _∷_, map, List·Memᴰ, Memᴰ·map}
 use lib.ListN.{length, getD, take}
+use Rattle.word.specs.Ceilings.{DIGITS, PATTERNS}
 use Rattle.word.specs.Lists.{row}
 use Rattle.word.specs.Word.{isPerm}
 use Rattle.word.specs.ListLaws.{map-same, row-out, row-in}
@@ -35,17 +36,17 @@ patterns-row (r ∷ rows) (x ∷ lengths) (suc n) h k = ap (λ u. take x r ∷ u
     later a (suc n) = ap (λ u. patternAt rows lengths a ∷ u) (later (suc a) n)
 
 module _ (s : Patterns) (formed : firstFault (patternTests (patternsIn s)) ≡ clean) where
-  few : s .count ≤ 24
+  few : s .count ≤ PATTERNS
   few = omega (arith, few-patterns (patternsIn s) formed, length-items (λ i. patternIn (getD (s .items) i noPattern)) (s .count))
 
-  short : (i : ℕ) → i < s .count → (getD (s .items) i noPattern) .length ≤ 8
+  short : (i : ℕ) → i < s .count → (getD (s .items) i noPattern) .length ≤ DIGITS
   short i h =
       let p = getD (s .items) i noPattern in
       let q = proper-pattern (patternsIn s) formed (patternIn p)
       (Memᴰ·map (λ j. patternIn (getD (s .items) j noPattern)) (row-in 0 (s .count) i (omega arith) (omega arith))) in
       omega (arith, q .short, length-padded (p .length) (p .digits))
 
-  module _ (rows : List (List ℕ)) (lengths : List ℕ) (hr : length rows ≡ 24) (hl : length lengths ≡ 24) (has : HasDigits (s .items) rows) (sizes : HasLengths (s .items) lengths) where
+  module _ (rows : List (List ℕ)) (lengths : List ℕ) (hr : length rows ≡ PATTERNS) (hl : length lengths ≡ PATTERNS) (has : HasDigits (s .items) rows) (sizes : HasLengths (s .items) lengths) where
     -- the arrays hold the patterns
     pub set-holds : patternsOf rows lengths (s .count) ≡ patternsIn s
     set-holds =
@@ -59,7 +60,7 @@ module _ (s : Patterns) (formed : firstFault (patternTests (patternsIn s)) ≡ c
             let (same, eight) = has i (omega (arith, few)) in
             let low = short i h in
             let size : getD lengths i 0 ≡ p .length = sizes i (omega (arith, few)) ∙ omega arith in
-            let d : length (p .digits) ≡ 8 = sym (ap length same) ∙ eight in
+            let d : length (p .digits) ≡ DIGITS = sym (ap length same) ∙ eight in
             ap₂ take size same ∙ sym (padded-within (p .length) (p .digits) (omega (arith, d)))
 
     pub proper-set : ProperSet rows lengths (s .count)

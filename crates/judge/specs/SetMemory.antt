@@ -3,6 +3,7 @@ use Prim.Native.Nat.{ℕ, _%_, _≤_, _<_}
 use mathlib.Core.Path.{_≡_}
 use mathlib.Core.List.{List, []}
 use lib.ListN.{length, getD}
+use Rattle.word.specs.Ceilings.{DIGITS, PATTERNS, ENTRIES}
 use Rattle.cell.specs.Cell.{mOf}
 use Rattle.scheme.specs.SchemeMemory.{noPattern, noEntry, entryIn, schemeIn}
 use Rattle.scheme.specs.declared.memory.Pattern.{Pattern}
@@ -12,15 +13,15 @@ use Rattle.verdict.specs.Proper.{ProperEntry}
 
 -- each row has the digits of a pattern
 abbrev pub HasDigits : List Pattern → List (List ℕ) → Type 0
-HasDigits items rows = (i : ℕ) → i < 24 → (getD rows i [] ≡ (getD items i noPattern) .digits) × (length (getD rows i []) ≡ 8)
+HasDigits items rows = (i : ℕ) → i < PATTERNS → (getD rows i [] ≡ (getD items i noPattern) .digits) × (length (getD rows i []) ≡ DIGITS)
 
 -- each number is the length of a pattern, as a byte
 abbrev pub HasLengths : List Pattern → List ℕ → Type 0
-HasLengths items lengths = (i : ℕ) → i < 24 → getD lengths i 0 ≡ (getD items i noPattern) .length % 256
+HasLengths items lengths = (i : ℕ) → i < PATTERNS → getD lengths i 0 ≡ (getD items i noPattern) .length % 256
 
 -- a scheme within the ceilings, whose entries are proper
 pub record ProperScheme (s : Scheme) : Type 0 where
-  pub few : s .count ≤ 128
+  pub few : s .count ≤ ENTRIES
   pub each : (i : ℕ) → i < s .count → ProperEntry (entryIn (getD (s .entries) i noEntry))
 
 -- the number of compared cells, for every set whose m is this one

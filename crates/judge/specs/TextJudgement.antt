@@ -5,6 +5,7 @@ use mathlib.Core.Bool.{true}
 use mathlib.Core.List.{List, [], _∷_}
 use mathlib.Core.Logic.{_↔_}
 use lib.ListN.{length}
+use Rattle.word.specs.Ceilings.{PATTERN_TEXT, SCHEME_TEXT}
 use Rattle.word.specs.Finding.{firstFault}
 use Rattle.scheme.specs.SchemeList.{EntryList}
 use Rattle.scheme.specs.SchemeMemory.{patternsIn, schemeIn, faultOf, orElse, toldOr}
@@ -41,8 +42,8 @@ verdictOfTexts s t = verdictRead (patternsAnswer s) (schemeAnswer t)
 pub record TextsTrue (s t : List ℕ) : Type 0 where
   pub patterns : List (List ℕ)
   pub scheme : List EntryList
-  pub short : length s ≤ 1024
-  pub short-scheme : length t ≤ 32768
+  pub short : length s ≤ PATTERN_TEXT
+  pub short-scheme : length t ≤ SCHEME_TEXT
   pub spells : SpellsPatterns s patterns
   pub spells-scheme : SpellsScheme t scheme
   pub formed : WellFormed patterns scheme
@@ -54,7 +55,7 @@ pub record JudgesTexts (s t : List ℕ) (r : Verdict) : Type 0 where
   -- the number and the value of document 01
   pub numbers : toldVerdict r ≡ toldOr (faultRead (patternsAnswer s) (schemeAnswer t)) (cellsRead (patternsAnswer s) (schemeAnswer t) ∷ [])
   -- where the texts spell lists, it is the verdict on these
-  pub spelt : (P : List (List ℕ)) (E : List EntryList) → length s ≤ 1024 → length t ≤ 32768 → SpellsPatterns s P → SpellsScheme t E → r ≡ verdictOf P E
+  pub spelt : (P : List (List ℕ)) (E : List EntryList) → length s ≤ PATTERN_TEXT → length t ≤ SCHEME_TEXT → SpellsPatterns s P → SpellsScheme t E → r ≡ verdictOf P E
   pub exactly : (accepted r ≡ true) ↔ TextsTrue s t
 
 -- the answer with the lists that were read: those of the definition; where it accepts, the texts

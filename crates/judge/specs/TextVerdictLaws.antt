@@ -9,6 +9,7 @@ use mathlib.Core.Logic.{_↔_}
 use lib.ListN.{length}
 use lib.Dec.{ltb}
 use borrow.Author.Tests.{ltb-false}
+use Rattle.word.specs.Ceilings.{PATTERN_TEXT, SCHEME_TEXT}
 use Rattle.word.specs.ListLaws.{true-not-false}
 use Rattle.word.specs.Finding.{clean, firstFault}
 use Rattle.word.specs.declared.refusal.Refusal.the-variants.{Oversize}
@@ -48,19 +49,19 @@ told-texts : (s t : List ℕ) (r : Verdict) → r ≡ verdictOfTexts s t →
 told-texts s t r e = ap toldVerdict e ∙ told-answered (faultRead (patternsAnswer s) (schemeAnswer t)) (cellsRead (patternsAnswer s) (schemeAnswer t))
 
 -- a clean answer comes from a text within its ceiling
-pub patterns-short : (s : List ℕ) → (patternsAnswer s) .fault ≡ Clean → length s ≤ 1024
-patterns-short s e = go (ltb 1024 (length s)) refl e
+pub patterns-short : (s : List ℕ) → (patternsAnswer s) .fault ≡ Clean → length s ≤ PATTERN_TEXT
+patterns-short s e = go (ltb PATTERN_TEXT (length s)) refl e
   where
-    go : (b : Bool) → ltb 1024 (length s) ≡ b → (cond b (refusedPatterns Oversize 0) (answerFrom refusedPatterns testedPatterns (readPatterns (tokens s)))) .fault ≡ Clean → length s ≤ 1024
+    go : (b : Bool) → ltb PATTERN_TEXT (length s) ≡ b → (cond b (refusedPatterns Oversize 0) (answerFrom refusedPatterns testedPatterns (readPatterns (tokens s)))) .fault ≡ Clean → length s ≤ PATTERN_TEXT
     go true p q = let z : _≡_ {A = ℕ} 0 1 = cc in absurd (omega arith)
-    go false p q = ltb-false 1024 (length s) p
+    go false p q = ltb-false PATTERN_TEXT (length s) p
 
-pub scheme-short : (t : List ℕ) → (schemeAnswer t) .fault ≡ Clean → length t ≤ 32768
-scheme-short t e = go (ltb 32768 (length t)) refl e
+pub scheme-short : (t : List ℕ) → (schemeAnswer t) .fault ≡ Clean → length t ≤ SCHEME_TEXT
+scheme-short t e = go (ltb SCHEME_TEXT (length t)) refl e
   where
-    go : (b : Bool) → ltb 32768 (length t) ≡ b → (cond b (refusedScheme Oversize 0) (answerFrom refusedScheme testedScheme (readEntries (tokens t)))) .fault ≡ Clean → length t ≤ 32768
+    go : (b : Bool) → ltb SCHEME_TEXT (length t) ≡ b → (cond b (refusedScheme Oversize 0) (answerFrom refusedScheme testedScheme (readEntries (tokens t)))) .fault ≡ Clean → length t ≤ SCHEME_TEXT
     go true p q = let z : _≡_ {A = ℕ} 0 1 = cc in absurd (omega arith)
-    go false p q = ltb-false 32768 (length t) p
+    go false p q = ltb-false SCHEME_TEXT (length t) p
 
 -- the fault of a list that was read is that of its tests
 read-fault : (f : Fault) (m : Patterns) → (readOr f m) .fault ≡ f
@@ -71,14 +72,14 @@ read-scheme-fault : (f : Fault) (m : Scheme) → (readSchemeOr f m) .fault ≡ f
 read-scheme-fault Clean m = refl
 read-scheme-fault (At r i) m = refl
 
-module _ (s : List ℕ) (p : PatternsRead) (reading : ReadsPatterns s p) (P : List (List ℕ)) (short : length s ≤ 1024) (spells : SpellsPatterns s P) where
+module _ (s : List ℕ) (p : PatternsRead) (reading : ReadsPatterns s p) (P : List (List ℕ)) (short : length s ≤ PATTERN_TEXT) (spells : SpellsPatterns s P) where
   pub spelt-fault : p .fault ≡ faultOf (firstFault (patternTests P))
   spelt-fault = ap (λ (x : PatternsRead). x .fault) (reading .spelt P short spells) ∙ read-fault (faultOf (firstFault (patternTests P))) _
 
   pub spelt-list : p .fault ≡ Clean → patternsIn (p .patterns) ≡ P
   spelt-list e = patterns-unique s (patternsIn (p .patterns)) P (reading .reads e) spells
 
-module _ (t : List ℕ) (q : SchemeRead) (reading : ReadsScheme t q) (E : List EntryList) (short : length t ≤ 32768) (spells : SpellsScheme t E) where
+module _ (t : List ℕ) (q : SchemeRead) (reading : ReadsScheme t q) (E : List EntryList) (short : length t ≤ SCHEME_TEXT) (spells : SpellsScheme t E) where
   pub spelt-scheme-fault : q .fault ≡ faultOf (firstFault (schemeTests E))
   spelt-scheme-fault = ap (λ (x : SchemeRead). x .fault) (reading .spelt E short spells) ∙ read-scheme-fault (faultOf (firstFault (schemeTests E))) _
 
@@ -129,7 +130,7 @@ module _ (s t : List ℕ) (p : PatternsRead) (is : p ≡ patternsAnswer s) (read
       ap₂ verdictRead is is-scheme
 
   -- the verdict on lists that the texts spell
-  verdict-lists : (Q : List (List ℕ)) (F : List EntryList) → length s ≤ 1024 → length t ≤ 32768 → SpellsPatterns s Q → SpellsScheme t F →
+  verdict-lists : (Q : List (List ℕ)) (F : List EntryList) → length s ≤ PATTERN_TEXT → length t ≤ SCHEME_TEXT → SpellsPatterns s Q → SpellsScheme t F →
       answered (orElse (orElse (p .fault) (q .fault)) (faultOf (firstFault (claimTests Q F)))) (comparedCells Q F) ≡ verdictOf Q F
   verdict-lists Q F a b u v =
       ap (λ (x : Fault). answered x (comparedCells Q F))
@@ -185,17 +186,17 @@ module _ (s t : List ℕ) (p : PatternsRead) (is : p ≡ patternsAnswer s) (read
         nothing-before : (g : Fault) (n : ℕ) → answered g n ≡ answered (orElse (orElse (p .fault) (q .fault)) g) n
         nothing-before g n = sym (ap₂ (λ (x y : Fault). answered (orElse (orElse x y) g) n) (both-clean .0) (both-clean .1))
 
-        on-lists : (Q : List (List ℕ)) (F : List EntryList) → length s ≤ 1024 → length t ≤ 32768 → SpellsPatterns s Q → SpellsScheme t F → r ≡ verdictOf Q F
+        on-lists : (Q : List (List ℕ)) (F : List EntryList) → length s ≤ PATTERN_TEXT → length t ≤ SCHEME_TEXT → SpellsPatterns s Q → SpellsScheme t F → r ≡ verdictOf Q F
         on-lists Q F a b u v =
             e ∙
             ap₂ (λ (X : List (List ℕ)) (Y : List EntryList). answered (faultOf (firstFault (claimTests X Y))) (comparedCells X Y))
             (spelt-list s p reading Q a u (both-clean .0)) (spelt-scheme-list t q reading-scheme F b v (both-clean .1)) ∙
             nothing-before (faultOf (firstFault (claimTests Q F))) (comparedCells Q F) ∙ verdict-lists Q F a b u v
 
-        short : length s ≤ 1024
+        short : length s ≤ PATTERN_TEXT
         short = patterns-short s (ap (λ (x : PatternsRead). x .fault) (sym is) ∙ both-clean .0)
 
-        short-scheme : length t ≤ 32768
+        short-scheme : length t ≤ SCHEME_TEXT
         short-scheme = scheme-short t (ap (λ (x : SchemeRead). x .fault) (sym is-scheme) ∙ both-clean .1)
 
         spells-set : SpellsPatterns s P

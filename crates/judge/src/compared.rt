@@ -2,11 +2,12 @@
 use claims::entries::compared_with;
 use scheme::memory::Scheme;
 ghost use Prim.Native.Nat.{_≤_};
+ghost use Rattle.word.specs.Ceilings.{DIGITS};
 ghost use Rattle.judge.specs.SetMemory.{ProperScheme, ComparesCells};
 
 // The number of compared cells of all entries, m being the length of the longest pattern.
 pub fn compared_cells(m: usize, s: Scheme) -> usize
-    requires { ⌜ (m ≤ 8) × ProperScheme s ⌝ }
+    requires { ⌜ (m ≤ DIGITS) × ProperScheme s ⌝ }
     ensures { λ r. ⌜ ComparesCells m s r ⌝ }
 {
     let n = s.count;

@@ -1,4 +1,4 @@
-// A set of patterns as containment takes it: an array of 24 eight-digit arrays, with lengths beside it.
+// A set of patterns as containment takes it: an array of arrays of digits, with lengths beside it.
 use scheme::memory::Pattern;
 use scheme::memory::Patterns;
 use word::limits::DIGITS;
@@ -6,11 +6,12 @@ use word::limits::PATTERNS;
 ghost use mathlib.Core.Path.{_≡_};
 ghost use Prim.Native.Nat.{_%_};
 ghost use lib.ListN.{length};
+ghost use Rattle.word.specs.Ceilings.{DIGITS};
 ghost use Rattle.judge.specs.SetMemory.{HasDigits, HasLengths};
 
 // The digits of a pattern.
 fn digits_of(p: Pattern) -> [u8; DIGITS]
-    ensures { λ r. ⌜ (r ≡ p .digits) × (length r ≡ 8) ⌝ }
+    ensures { λ r. ⌜ (r ≡ p .digits) × (length r ≡ DIGITS) ⌝ }
 {
     p.digits
 }

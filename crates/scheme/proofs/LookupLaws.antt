@@ -12,6 +12,7 @@ use lib.ListN.{length, getD, take}
 use lib.Seq.{length-take-le}
 use lib.Dec.{ltb, eqb}
 use borrow.Author.Tests.{not-true, not-false, ltb-false, eqb-false}
+use Rattle.word.specs.Ceilings.{ENTRIES, PREFIX}
 use Rattle.word.specs.Lists.{any, row}
 use Rattle.word.specs.Word.{isPerm}
 use Rattle.word.specs.ListLaws.{not-in, any-out, any-in, row-out}
@@ -96,7 +97,7 @@ found-start s q = rw (sub-zero (s .count)) (ap (λ (ps : List (List ℕ)). findI
 -- Children
 
 -- no entry has a prefix that is longer than 6
-pub long-unlisted : (s : Scheme) (q : List ℕ) → Linked s → 6 < length q → listed (prefixesIn s) q ≡ false
+pub long-unlisted : (s : Scheme) (q : List ℕ) → Linked s → PREFIX < length q → listed (prefixesIn s) q ≡ false
 long-unlisted s q k h = not-true (listed (prefixesIn s) q) (not-in (listed (prefixesIn s) q) none-is)
   where
     none-is : listed (prefixesIn s) q ≡ true → ⊥
@@ -105,7 +106,7 @@ long-unlisted s q k h = not-true (listed (prefixesIn s) q) (not-in (listed (pref
         let (p, m, w) = any-out (same q) (map (prefixAt s) (row 0 (s .count))) t in
         let (i, n, a) = Memᴰ·of-map (prefixAt s) (row 0 (s .count)) m in
         let (low, high) = row-out 0 (s .count) n in
-        let short : (getD (s .entries) i noEntry) .length ≤ 6 = (k .linked i (omega arith)) .short in
+        let short : (getD (s .entries) i noEntry) .length ≤ PREFIX = (k .linked i (omega arith)) .short in
         let size : length (prefixAt s i) ≡ (getD (s .entries) i noEntry) .length =
         length-padded ((getD (s .entries) i noEntry) .length) ((getD (s .entries) i noEntry) .prefix) in
         let sizes : length q ≡ length (prefixAt s i) = ap length (same-out q p w ∙ sym a) in
@@ -120,7 +121,7 @@ abbrev pub missing : Scheme → List ℕ → ℕ → Bool
 missing s p a = unlisted s (childAt p a)
 
 -- an entry with a prefix of length 6 lacks its children
-pub all-childless : (s : Scheme) (p : List ℕ) → Linked s → isPerm p ≡ true → length p ≡ 6 → any (unlisted s) (children p) ≡ true
+pub all-childless : (s : Scheme) (p : List ℕ) → Linked s → isPerm p ≡ true → length p ≡ PREFIX → any (unlisted s) (children p) ≡ true
 all-childless s p k e h =
     any-in (unlisted s) (children-all p 1 e (omega arith) (omega arith))
     (ap not (long-unlisted s (childAt p 1) k (omega (arith, child-length p 1))))
@@ -164,7 +165,7 @@ position-inside k r rule h e = go (eqb r 0) (ltb k r) refl refl (sym (ap (λ (x 
 -- What the tests 2, 3 and 7 leave
 
 -- a scheme in which they find nothing
-pub linked-clean : (s : Scheme) → s .count ≤ 128 → firstAt Oversize largeEntry 0 (schemeIn s) ≡ clean →
+pub linked-clean : (s : Scheme) → s .count ≤ ENTRIES → firstAt Oversize largeEntry 0 (schemeIn s) ≡ clean →
     firstAt NoPermutation (λ (e : EntryList). not (isPerm (e .prefix))) 0 (schemeIn s) ≡ clean →
     firstAt NoPosition (λ (e : EntryList). outside (length (e .prefix)) (e .rule)) 0 (schemeIn s) ≡ clean → Linked s
 linked-clean s h large none-perm none-out =
@@ -181,8 +182,8 @@ linked-clean s h large none-perm none-out =
     size : (i : ℕ) → length (prefixAt s i) ≡ (getD (s .entries) i noEntry) .length
     size i = length-padded ((getD (s .entries) i noEntry) .length) ((getD (s .entries) i noEntry) .prefix)
 
-    small : (i : ℕ) → largeEntry (entryAt s i) ≡ false → (getD (s .entries) i noEntry) .length ≤ 6
-    small i e = omega (arith, size i, ltb-false 6 (length (prefixAt s i)) (or-left (ltb 6 (length (prefixAt s i))) _ e))
+    small : (i : ℕ) → largeEntry (entryAt s i) ≡ false → (getD (s .entries) i noEntry) .length ≤ PREFIX
+    small i e = omega (arith, size i, ltb-false PREFIX (length (prefixAt s i)) (or-left (ltb PREFIX (length (prefixAt s i))) _ e))
 
     inner : (i : ℕ) → outside (length (prefixAt s i)) ((entryAt s i) .rule) ≡ false →
         outside ((getD (s .entries) i noEntry) .length) ((entryAt s i) .rule) ≡ false

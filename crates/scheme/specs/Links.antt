@@ -5,6 +5,7 @@ use mathlib.Core.Bool.{Bool, true, false, cond}
 use mathlib.Core.List.{List, [], _∷_, map}
 use mathlib.Core.Option.{Option, none, some}
 use lib.ListN.{getD}
+use Rattle.word.specs.Ceilings.{ENTRIES, PREFIX}
 use Rattle.word.specs.Word.{isPerm}
 use Rattle.cell.specs.Cell.{same}
 use Rattle.scheme.specs.SchemeMemory.{padded, noEntry, doesOf, schemeIn}
@@ -39,11 +40,11 @@ prefixesIn s = map (λ e. e .prefix) (schemeIn s)
 
 -- an entry in which the tests 2, 3 and 7 find nothing, as far as the tests 8 and 9 ask it
 pub record LinkedEntry (e : Entry) : Type 0 where
-  pub short : e .length ≤ 6
+  pub short : e .length ≤ PREFIX
   pub perm : isPerm (padded (e .length) (e .prefix)) ≡ true
   pub inside : outside (e .length) (doesOf (e .rule)) ≡ false
 
 -- a scheme of such entries
 pub record Linked (s : Scheme) : Type 0 where
-  pub counted : s .count ≤ 128
+  pub counted : s .count ≤ ENTRIES
   pub linked : (i : ℕ) → i < s .count → LinkedEntry (getD (s .entries) i noEntry)

@@ -4,6 +4,7 @@ use mathlib.Core.Bool.{not}
 use mathlib.Core.List.{List, [], _∷_, map}
 use lib.ListN.{length, getD}
 use lib.Dec.{ltb}
+use Rattle.word.specs.Ceilings.{ENTRIES}
 use Rattle.word.specs.Word.{isPerm}
 use Rattle.word.specs.Finding.{Finding, test}
 use Rattle.word.specs.declared.refusal.Refusal.the-variants.{Oversize, NoPermutation, Rootless, Width, NoPosition, Childless, NoTarget}
@@ -23,7 +24,7 @@ seen g (suc i) = g i ∷ seen g i
 
 -- the tests of a scheme list in three parts: those of the ceilings, those of each entry, those that look entries up
 abbrev pub sizeTests : List EntryList → List Finding
-sizeTests E = test Oversize (ltb 128 (length E)) ∷ firstAt Oversize largeEntry 0 E ∷ []
+sizeTests E = test Oversize (ltb ENTRIES (length E)) ∷ firstAt Oversize largeEntry 0 E ∷ []
 
 abbrev pub permutationTest : List EntryList → Finding
 permutationTest E = firstAt NoPermutation (λ e. not (isPerm (e .prefix))) 0 E

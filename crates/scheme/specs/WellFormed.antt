@@ -4,6 +4,7 @@ use mathlib.Core.Bool.{Bool, false, not, cond, _||_}
 use mathlib.Core.List.{List, [], _∷_, map}
 use lib.ListN.{length}
 use lib.Dec.{ltb, eqb}
+use Rattle.word.specs.Ceilings.{DIGITS, PATTERNS, ENTRIES, PREFIX, COMPONENTS, GAPS, TOTAL}
 use Rattle.word.specs.Lists.{any}
 use Rattle.word.specs.Word.{isPerm}
 use Rattle.word.specs.Containment.{isPattern}
@@ -35,15 +36,15 @@ repeats (x ∷ l) = listed l x || repeats l
 -- "The set is up to 24 patterns of up to 8 digits each" (01); "Within 2: number of items, then items in order"
 abbrev pub patternTests : List (List ℕ) → List Finding
 patternTests P =
-    test Oversize (ltb 24 (length P)) ∷ firstAt Oversize (λ β. ltb 8 (length β)) 0 P ∷ firstAt NoPermutation (λ β. not (isPattern β)) 0 P ∷
+    test Oversize (ltb PATTERNS (length P)) ∷ firstAt Oversize (λ β. ltb DIGITS (length β)) 0 P ∷ firstAt NoPermutation (λ β. not (isPattern β)) 0 P ∷
     firstTwin listed 0 [] P ∷ []
 
 -- "Entries 128, prefix length 6, gap vectors per entry 8, components of a gap vector 7, total of a gap vector 8" (01)
 abbrev pub largeGap : List ℕ → Bool
-largeGap b = ltb 7 (length b) || ltb 8 (total b)
+largeGap b = ltb COMPONENTS (length b) || ltb TOTAL (total b)
 
 abbrev pub largeEntry : EntryList → Bool
-largeEntry e = ltb 6 (length (e .prefix)) || (ltb 8 (length (e .gaps)) || any largeGap (e .gaps))
+largeEntry e = ltb PREFIX (length (e .prefix)) || (ltb GAPS (length (e .gaps)) || any largeGap (e .gaps))
 
 -- "a prefix, or a vector within its entry stands twice" (01)
 abbrev pub twinEntry : List EntryList → EntryList → Bool
@@ -71,7 +72,7 @@ lacksTarget ps p (deletes r) = not (listed ps (deleted (r ∷ []) p))
 abbrev pub schemeTests : List EntryList → List Finding
 schemeTests E =
     let ps = map (λ e. e .prefix) E in
-    test Oversize (ltb 128 (length E)) ∷ firstAt Oversize largeEntry 0 E ∷ firstAt NoPermutation (λ e. not (isPerm (e .prefix))) 0 E ∷
+    test Oversize (ltb ENTRIES (length E)) ∷ firstAt Oversize largeEntry 0 E ∷ firstAt NoPermutation (λ e. not (isPerm (e .prefix))) 0 E ∷
     firstTwin twinEntry 0 [] E ∷ test Rootless (not (listed ps [])) ∷ firstAt Width wrongWidth 0 E ∷
     firstAt NoPosition (λ e. outside (length (e .prefix)) (e .rule)) 0 E ∷ firstAt Childless (λ e. lacksChild ps (e .prefix) (e .rule)) 0 E ∷
     firstAt NoTarget (λ e. lacksTarget ps (e .prefix) (e .rule)) 0 E ∷ []

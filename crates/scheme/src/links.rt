@@ -10,6 +10,7 @@ ghost use mathlib.Core.Path.{_≡_};
 ghost use mathlib.Core.Bool.{true, not};
 ghost use mathlib.Core.List.{[], _∷_};
 ghost use lib.ListN.{getD, take};
+ghost use Rattle.word.specs.Ceilings.{ENTRIES, PREFIX};
 ghost use Rattle.word.specs.Lists.{any};
 ghost use Rattle.word.specs.Word.{isPerm, bump};
 ghost use Rattle.word.specs.Vocabulary.{unbump};
@@ -28,7 +29,7 @@ pub enum Found {
 
 // The first entry whose prefix is the first `length` digits.
 pub fn find(s: Scheme, prefix: [u8; PREFIX], length: usize) -> Found
-    requires { ⌜ (s .count ≤ 128) × (length ≤ 6) ⌝ }
+    requires { ⌜ (s .count ≤ ENTRIES) × (length ≤ PREFIX) ⌝ }
     ensures { λ r. ⌜ r ≡ foundOf (findIn (prefixesIn s) (take length prefix)) ⌝ }
 {
     let n = s.count;
@@ -47,7 +48,7 @@ pub fn find(s: Scheme, prefix: [u8; PREFIX], length: usize) -> Found
 
 // Whether the first n digits of q are the prefix p of length k.
 fn agrees(q: [u8; PREFIX], n: usize, p: [u8; PREFIX], k: usize) -> bool
-    requires { ⌜ n ≤ 6 ⌝ }
+    requires { ⌜ n ≤ PREFIX ⌝ }
     ensures { λ r. ⌜ r ≡ same (take n q) (padded k p) ⌝ }
 {
     if n != k {
@@ -65,7 +66,7 @@ fn agrees(q: [u8; PREFIX], n: usize, p: [u8; PREFIX], k: usize) -> bool
 
 // Whether an entry has the first `length` digits as its prefix.
 fn has_entry(s: Scheme, prefix: [u8; PREFIX], length: usize) -> bool
-    requires { ⌜ (s .count ≤ 128) × (length ≤ 6) ⌝ }
+    requires { ⌜ (s .count ≤ ENTRIES) × (length ≤ PREFIX) ⌝ }
     ensures { λ r. ⌜ r ≡ listed (prefixesIn s) (take length prefix) ⌝ }
 {
     let found = find(s, prefix, length);
@@ -77,7 +78,7 @@ fn has_entry(s: Scheme, prefix: [u8; PREFIX], length: usize) -> bool
 
 // The digits of the child of a prefix of length k whose last entry is a.
 pub fn child(prefix: [u8; PREFIX], k: usize, a: u8) -> [u8; PREFIX]
-    requires { ⌜ (k < 6) × (isPerm (take k prefix) ≡ true) ⌝ }
+    requires { ⌜ (k < PREFIX) × (isPerm (take k prefix) ≡ true) ⌝ }
     ensures { λ r. ⌜ take (k + 1) r ≡ childAt (take k prefix) a ⌝ }
 {
     let mut digits = prefix;
@@ -92,7 +93,7 @@ pub fn child(prefix: [u8; PREFIX], k: usize, a: u8) -> [u8; PREFIX]
 
 // The digits that are left of a prefix of length k without its position r, reduced: the larger values are lowered by one.
 pub fn shorter(prefix: [u8; PREFIX], k: usize, r: usize) -> [u8; PREFIX]
-    requires { ⌜ (1 ≤ r) × (r ≤ k) × (k ≤ 6) × (isPerm (take k prefix) ≡ true) ⌝ }
+    requires { ⌜ (1 ≤ r) × (r ≤ k) × (k ≤ PREFIX) × (isPerm (take k prefix) ≡ true) ⌝ }
     ensures { λ q. ⌜ take (k - 1) q ≡ deleted (r ∷ []) (take k prefix) ⌝ }
 {
     let at = r - 1;
@@ -124,15 +125,16 @@ fn lowered(v: u8, y: u8) -> u8
 
 // The digit with index j of those that are left without the one with index `at`.
 fn kept(prefix: [u8; PREFIX], at: usize, j: usize) -> u8
-    requires { ⌜ j < 5 ⌝ }
+    requires { ⌜ j + 1 < PREFIX ⌝ }
     ensures { λ r. ⌜ r ≡ getD prefix (bump at j) 0 ⌝ }
 {
     if j < at { prefix[j] } else { prefix[j + 1] }
 }
 
-// Whether a child of a prefix of length k has no entry. The children of a prefix of length 6 have none.
+// Whether a child of a prefix of length k has no entry. The children of a longest prefix have
+// none.
 fn childless(s: Scheme, prefix: [u8; PREFIX], k: usize) -> bool
-    requires { ⌜ Linked s × (k ≤ 6) × (isPerm (take k prefix) ≡ true) ⌝ }
+    requires { ⌜ Linked s × (k ≤ PREFIX) × (isPerm (take k prefix) ≡ true) ⌝ }
     ensures { λ r. ⌜ r ≡ any (λ q. not (listed (prefixesIn s) q)) (children (take k prefix)) ⌝ }
 {
     if k == PREFIX {

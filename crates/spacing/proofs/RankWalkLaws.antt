@@ -9,10 +9,12 @@ use mathlib.Core.List.{List, [], _∷_}
 use lib.ListN.{length, getD, take, drop, set, drop-of-length-le}
 use lib.Seq.{length-take-le, drop-cons, getD-take, take-set-lt}
 use borrow.Author.Tests.{eq-eqb, ne-eqb}
+use Rattle.word.specs.Ceilings.{LENGTH}
 use Rattle.word.specs.Word.{has}
 use Rattle.word.specs.ListLaws.{below-or-not}
 use Rattle.cell.specs.Cell.{total, mergeValues}
 use Rattle.cell.specs.Binomial.{binomial}
+use Rattle.spacing.specs.Sizes.{CHOICES}
 use Rattle.spacing.specs.Rank.{rankAfter, carry, nextOf}
 use Rattle.spacing.specs.RankLaws.{leaveFrom, merge-rank}
 use Rattle.spacing.specs.PascalLaws.{binomial-small}
@@ -23,15 +25,15 @@ pub record Walk (G : List ℕ) (k v start z count rank t : ℕ) : Type 0 where
   pub low : 1 ≤ t
   pub high : t ≤ k + 1
   pub counted : count < start + t
-  pub fits : z + total (drop t G) + (k + 1 - t) ≤ 20
-  pub small : rank ≤ t * 1048576
+  pub fits : z + total (drop t G) + (k + 1 - t) ≤ LENGTH
+  pub small : rank ≤ t * CHOICES
 
 module _ (G : List ℕ) (k v start : ℕ) (size : length G ≡ k + 1) where
-  pub walk-start : k + total G ≤ 20 → Walk G k v start (getD G 0 0) start 0 1
+  pub walk-start : k + total G ≤ LENGTH → Walk G k v start (getD G 0 0) start 0 1
   unfolding total
   walk-start h = go G size h
     where
-      go : (l : List ℕ) → length l ≡ k + 1 → k + total l ≤ 20 → Walk l k v start (getD l 0 0) start 0 1
+      go : (l : List ℕ) → length l ≡ k + 1 → k + total l ≤ LENGTH → Walk l k v start (getD l 0 0) start 0 1
       go [] e h = absurd (omega arith)
       go (x ∷ l) e h =
           record {
@@ -64,13 +66,13 @@ module _ (G : List ℕ) (k v start : ℕ) (size : length G ≡ k + 1) where
             small = omega (arith, w .small);
           }
 
-      pub next-small : (y : ℕ) → y ≡ getD G t 0 → z + y ≤ 20
+      pub next-small : (y : ℕ) → y ≡ getD G t 0 → z + y ≤ LENGTH
       next-small y q = omega (arith, w .fits, rest)
 
       pub walk-leave : (y : ℕ) → y ≡ getD G t 0 → t ≡ v → Walk G k v start (z + y) count rank (t + 1)
       walk-leave y q e = rw q (leave e)
 
-      pub value-small : z ≤ 20
+      pub value-small : z ≤ LENGTH
       value-small = omega (arith, w .fits)
 
       keeps : (t ≡ v → ⊥) → Walk G k v start (z + 1 + getD G t 0) (count + 1) (rank + binomial z (count + 1)) (t + 1)

@@ -8,6 +8,7 @@ use native.Mathlib.Nat.{sub-zero, pow-le-pow-right}
 use native.Mathlib.Numerals.{add-one}
 use native.Mathlib.Omega.{arith}
 use lib.ListN.{length}
+use Rattle.word.specs.Ceilings.{DIGITS, COMPONENTS}
 use Rattle.word.specs.Lists.{keep, each, row}
 use Rattle.cell.specs.Cell.{total, vectors}
 use Rattle.spacing.specs.Following.{firstVector, later, Follows}
@@ -51,9 +52,9 @@ module _ (f : List ℕ → Bool) (k t : ℕ) where
       let more : later v ≡ n ∷ later n = g .rest ∙ rw e refl in
       record { counted = rw more at c; held = g .same-total ∙ h }
 
-  pub walk-bound : k < 7 → t < 8 → passing f (vectors (suc k) t) ≤ 8 ^ 7
+  pub walk-bound : k < COMPONENTS → t < DIGITS → passing f (vectors (suc k) t) ≤ DIGITS ^ COMPONENTS
   walk-bound h l =
-      let power : 8 ^ suc k ≤ 8 ^ 7 = pow-le-pow-right {n = 8} (omega arith) {i = suc k} {j = 7} (omega arith) in
+      let power : DIGITS ^ suc k ≤ DIGITS ^ COMPONENTS = pow-le-pow-right {n = DIGITS} (omega arith) {i = suc k} {j = COMPONENTS} (omega arith) in
       omega (arith, keep-bound f (vectors (suc k) t), vectors-bound (suc k) t l)
 
 -- the walk comes to its end
@@ -92,5 +93,5 @@ module _ (f : List ℕ → Bool) (k m : ℕ) where
   unfolding from-total
   totals-end t h = let z : m - t ≡ 0 = omega arith in rw z refl
 
-  pub totals-bound : k < 7 → m ≤ 8 → passing f (each (vectors (suc k)) (row 0 m)) ≤ 8 ^ 8
+  pub totals-bound : k < COMPONENTS → m ≤ DIGITS → passing f (each (vectors (suc k)) (row 0 m)) ≤ DIGITS ^ suc COMPONENTS
   totals-bound h l = omega (arith, keep-bound f (each (vectors (suc k)) (row 0 m)), spacings-bound k m h l)

@@ -4,6 +4,7 @@ pub mod Following
 pub mod SpacingOrder
 pub mod LexLaws
 pub mod Rank
+pub mod Sizes
 pub mod Pascal
 pub mod RankLaws
 pub mod PascalLaws

@@ -7,6 +7,7 @@ use mathlib.Core.List.{List, [], _∷_, _++_, map}
 use native.Mathlib.Nat.{mul-le-mul, pow-le-pow-right, pow-succ', suc-mul, zero-mul}
 use native.Mathlib.Omega.{arith}
 use lib.ListN.{length, replicate, length-append, length-replicate, length-map}
+use Rattle.word.specs.Ceilings.{DIGITS, COMPONENTS}
 use Rattle.word.specs.Lists.{keep, each, row}
 use Rattle.cell.specs.Cell.{total, free, mOf, vectors, compared}
 use Rattle.spacing.specs.Following.{firstVector, above, later}
@@ -118,21 +119,22 @@ each-bound f b a (suc n) h =
     rw (suc-mul n b, length-append (f a) (each f (row (suc a) n)))
     (omega (arith, h a (omega arith), each-bound f b (suc a) n (λ x l. h x (omega arith))))
 
-pub vectors-bound : (k t : ℕ) → t < 8 → length (vectors k t) ≤ 8 ^ k
+pub vectors-bound : (k t : ℕ) → t < DIGITS → length (vectors k t) ≤ DIGITS ^ k
 unfolding vectors
 vectors-bound zero zero h = omega arith
 vectors-bound zero (suc t) h = omega arith
 vectors-bound (suc k) t h =
     let ih = vectors-bound k in
-    let most : length (each (λ x. map (λ g. x ∷ g) (vectors k (t - x))) (row 0 (suc t))) ≤ suc t * 8 ^ k = each-bound (λ x. map (λ g. x ∷ g) (vectors k (t - x))) (8 ^ k) 0 (suc t) (λ x l. rw (length-map (vectors k (t - x)) (λ (g : List ℕ). x ∷ g)) (ih (t - x) (omega arith))) in
-    rw (pow-succ' 8 k) (omega (arith, most, mul-le-mul {n₁ = suc t} {m₁ = 8 ^ k} {n₂ = 8} {m₂ = 8 ^ k} (omega arith) (omega arith)))
+    let most : length (each (λ x. map (λ g. x ∷ g) (vectors k (t - x))) (row 0 (suc t))) ≤ suc t * DIGITS ^ k = each-bound (λ x. map (λ g. x ∷ g) (vectors k (t - x))) (DIGITS ^ k) 0 (suc t) (λ x l. rw (length-map (vectors k (t - x)) (λ (g : List ℕ). x ∷ g)) (ih (t - x) (omega arith))) in
+    rw (pow-succ' DIGITS k) (omega (arith, most, mul-le-mul {n₁ = suc t} {m₁ = DIGITS ^ k} {n₂ = DIGITS} {m₂ = DIGITS ^ k} (omega arith) (omega arith)))
 
--- of the spacings with k + 1 ≤ 7 components and totals below m ≤ 8 there are at most 8 ^ 8
-pub spacings-bound : (k m : ℕ) → k < 7 → m ≤ 8 → length (each (vectors (suc k)) (row 0 m)) ≤ 8 ^ 8
+-- of the spacings with k + 1 ≤ COMPONENTS components and totals below m ≤ DIGITS there are at most
+-- DIGITS ^ (COMPONENTS + 1)
+pub spacings-bound : (k m : ℕ) → k < COMPONENTS → m ≤ DIGITS → length (each (vectors (suc k)) (row 0 m)) ≤ DIGITS ^ suc COMPONENTS
 spacings-bound k m h l =
-    let most : length (each (vectors (suc k)) (row 0 m)) ≤ m * 8 ^ suc k = each-bound (vectors (suc k)) (8 ^ suc k) 0 m (λ x b. vectors-bound (suc k) x (omega arith)) in
-    let power : 8 ^ suc k ≤ 8 ^ 7 = pow-le-pow-right {n = 8} (omega arith) {i = suc k} {j = 7} (omega arith) in
-    omega (arith, most, mul-le-mul {n₁ = m} {m₁ = 8 ^ suc k} {n₂ = 8} {m₂ = 8 ^ 7} l power)
+    let most : length (each (vectors (suc k)) (row 0 m)) ≤ m * DIGITS ^ suc k = each-bound (vectors (suc k)) (DIGITS ^ suc k) 0 m (λ x b. vectors-bound (suc k) x (omega arith)) in
+    let power : DIGITS ^ suc k ≤ DIGITS ^ COMPONENTS = pow-le-pow-right {n = DIGITS} (omega arith) {i = suc k} {j = COMPONENTS} (omega arith) in
+    omega (arith, most, mul-le-mul {n₁ = m} {m₁ = DIGITS ^ suc k} {n₂ = DIGITS} {m₂ = DIGITS ^ COMPONENTS} l power)
 
 -- the compared spacings of an entry of length k, where the longest pattern has length m
 pub compared-by : (P : List (List ℕ)) (k : ℕ) (B : List (List ℕ)) (m : ℕ) → mOf P ≡ m → keep (free B) (each (vectors (suc k)) (row 0 m)) ≡ compared P k B

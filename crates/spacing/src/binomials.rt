@@ -1,16 +1,24 @@
-// The binomials C(n, k) for n up to 20 and k up to 7, by Pascal's rule. C(n, k) stands at 8 n + k.
+// The binomials C(n, k) for n up to LENGTH and k below COLUMNS, by Pascal's rule. C(n, k) stands
+// at COLUMNS n + k.
+use word::limits::COLUMNS;
+use word::limits::COUNTS;
+use word::limits::LENGTH;
 ghost use mathlib.Core.Path.{_≡_};
 ghost use Prim.Native.Nat.{_+_, _≤_, _<_};
+ghost use Rattle.word.specs.Ceilings.{LENGTH, COLUMNS};
 ghost use Rattle.cell.specs.Binomial.{binomial};
 ghost use Rattle.spacing.specs.Pascal.{PascalTo, Pascal};
 
+// The binomials of all rows.
+pub const BINOMIALS: usize = COUNTS * COLUMNS;
+
 // All binomials, row after row.
-pub fn binomials() -> [usize; 168]
+pub fn binomials() -> [usize; BINOMIALS]
     ensures { λ r. ⌜ Pascal r ⌝ }
 {
-    let mut b = [0usize; 168];
+    let mut b = [0usize; BINOMIALS];
     let mut n: usize = 0;
-    while n <= 20 {
+    while n <= LENGTH {
         let next = with_row(b, n);
         b = next;
         n += 1;
@@ -19,23 +27,23 @@ pub fn binomials() -> [usize; 168]
 }
 
 // Row n, from the row before it.
-fn with_row(rows: [usize; 168], n: usize) -> [usize; 168]
-    requires { ⌜ (n ≤ 20) × PascalTo n 0 rows ⌝ }
+fn with_row(rows: [usize; BINOMIALS], n: usize) -> [usize; BINOMIALS]
+    requires { ⌜ (n ≤ LENGTH) × PascalTo n 0 rows ⌝ }
     ensures { λ r. ⌜ PascalTo (n + 1) 0 r ⌝ }
 {
     let mut b = rows;
     let mut k: usize = 0;
-    while k < 8 {
+    while k < COLUMNS {
         let x = pascal_sum(b, n, k);
-        b[8 * n + k] = x;
+        b[COLUMNS * n + k] = x;
         k += 1;
     }
     b
 }
 
 // C(n, k), from the row before it.
-fn pascal_sum(b: [usize; 168], n: usize, k: usize) -> usize
-    requires { ⌜ (n ≤ 20) × (k < 8) × PascalTo n k b ⌝ }
+fn pascal_sum(b: [usize; BINOMIALS], n: usize, k: usize) -> usize
+    requires { ⌜ (n ≤ LENGTH) × (k < COLUMNS) × PascalTo n k b ⌝ }
     ensures { λ r. ⌜ r ≡ binomial n k ⌝ }
 {
     if k == 0 {
@@ -44,14 +52,14 @@ fn pascal_sum(b: [usize; 168], n: usize, k: usize) -> usize
     if n == 0 {
         return 0;
     }
-    let at = 8 * (n - 1) + k;
+    let at = COLUMNS * (n - 1) + k;
     b[at - 1] + b[at]
 }
 
 // C(n, k), looked up.
 pub fn choose(b: &[usize], n: usize, k: usize) -> usize
-    requires { ⌜ (n ≤ 20) × (k < 8) × Pascal (now b) ⌝ }
+    requires { ⌜ (n ≤ LENGTH) × (k < COLUMNS) × Pascal (now b) ⌝ }
     ensures { λ r. ⌜ r ≡ binomial n k ⌝ }
 {
-    b[8 * n + k]
+    b[COLUMNS * n + k]
 }

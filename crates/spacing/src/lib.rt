@@ -3,20 +3,23 @@
 pub mod binomials;
 pub mod walk;
 
+use word::limits::COMPONENTS;
+use word::limits::GAPS;
 ghost use mathlib.Core.Path.{_≡_};
 ghost use Prim.Native.Nat.{suc, _+_, _<_, _≤_};
 ghost use lib.ListN.{length, take};
+ghost use Rattle.word.specs.Ceilings.{DIGITS, COMPONENTS};
 ghost use Rattle.word.specs.Lists.{keep, each, row};
 ghost use Rattle.cell.specs.Cell.{total, atLeast, free, vectors};
 ghost use Rattle.spacing.specs.GapRows.{gapsOf};
 ghost use Rattle.spacing.specs.Following.{firstVector, Steps};
 
 // The first spacing with k + 1 components and total t: all of the total in the last component.
-pub fn first_spacing(k: usize, t: u8) -> [u8; 7]
-    requires { ⌜ k < 7 ⌝ }
+pub fn first_spacing(k: usize, t: u8) -> [u8; COMPONENTS]
+    requires { ⌜ k < COMPONENTS ⌝ }
     ensures { λ r. ⌜ take (k + 1) r ≡ firstVector k t ⌝ }
 {
-    let mut g = [0u8; 7];
+    let mut g = [0u8; COMPONENTS];
     g[k] = t;
     g
 }
@@ -24,12 +27,12 @@ pub fn first_spacing(k: usize, t: u8) -> [u8; 7]
 // Whether a spacing comes after another, and the next one; the same one where there is none.
 pub struct Next {
     pub found: bool,
-    pub g: [u8; 7],
+    pub g: [u8; COMPONENTS],
 }
 
 // The spacing that comes next: the last component that is not 0 gives one to the component before it, and the rest of it goes to the end.
-pub fn next_spacing(g: [u8; 7], k: usize) -> Next
-    requires { ⌜ (k < 7) × (total (take (k + 1) g) < 256) ⌝ }
+pub fn next_spacing(g: [u8; COMPONENTS], k: usize) -> Next
+    requires { ⌜ (k < COMPONENTS) × (total (take (k + 1) g) < 256) ⌝ }
     ensures { λ r. ⌜ Steps g k (r .found) (r .g) ⌝ }
 {
     let mut j = k;
@@ -48,8 +51,8 @@ pub fn next_spacing(g: [u8; 7], k: usize) -> Next
 }
 
 // Whether g is at least b in each of its k + 1 components.
-pub fn at_least(g: [u8; 7], b: [u8; 7], k: usize) -> bool
-    requires { ⌜ k < 7 ⌝ }
+pub fn at_least(g: [u8; COMPONENTS], b: [u8; COMPONENTS], k: usize) -> bool
+    requires { ⌜ k < COMPONENTS ⌝ }
     ensures { λ r. ⌜ r ≡ atLeast (take (k + 1) g) (take (k + 1) b) ⌝ }
 {
     let mut i: usize = 0;
@@ -63,12 +66,12 @@ pub fn at_least(g: [u8; 7], b: [u8; 7], k: usize) -> bool
 }
 
 // Whether g is at least none of the first n gap vectors.
-pub fn is_free(gaps: [[u8; 7]; 8], n: usize, k: usize, g: [u8; 7]) -> bool
-    requires { ⌜ k < 7 ⌝ }
+pub fn is_free(gaps: [[u8; COMPONENTS]; GAPS], n: usize, k: usize, g: [u8; COMPONENTS]) -> bool
+    requires { ⌜ k < COMPONENTS ⌝ }
     ensures { λ r. ⌜ r ≡ free (gapsOf gaps (k + 1) n) (take (k + 1) g) ⌝ }
 {
     let mut i: usize = 0;
-    while i < 8 {
+    while i < GAPS {
         if n <= i {
             return true;
         }
@@ -81,8 +84,8 @@ pub fn is_free(gaps: [[u8; 7]; 8], n: usize, k: usize, g: [u8; 7]) -> bool
 }
 
 // How many spacings of total t are at least none of the first n gap vectors.
-fn free_count(gaps: [[u8; 7]; 8], n: usize, k: usize, t: u8) -> usize
-    requires { ⌜ (k < 7) × (t < 8) ⌝ }
+fn free_count(gaps: [[u8; COMPONENTS]; GAPS], n: usize, k: usize, t: u8) -> usize
+    requires { ⌜ (k < COMPONENTS) × (t < DIGITS) ⌝ }
     ensures { λ r. ⌜ r ≡ length (keep (free (gapsOf gaps (k + 1) n)) (vectors (suc k) t)) ⌝ }
 {
     let mut g = first_spacing(k, t);
@@ -100,8 +103,8 @@ fn free_count(gaps: [[u8; 7]; 8], n: usize, k: usize, t: u8) -> usize
 }
 
 // How many spacings are compared for an entry of length k: those with a total below m that are at least none of the first n gap vectors.
-pub fn compared_count(m: usize, k: usize, gaps: [[u8; 7]; 8], n: usize) -> usize
-    requires { ⌜ (k < 7) × (m ≤ 8) ⌝ }
+pub fn compared_count(m: usize, k: usize, gaps: [[u8; COMPONENTS]; GAPS], n: usize) -> usize
+    requires { ⌜ (k < COMPONENTS) × (m ≤ DIGITS) ⌝ }
     ensures { λ r. ⌜ r ≡ length (keep (free (gapsOf gaps (k + 1) n)) (each (vectors (suc k)) (row 0 m))) ⌝ }
 {
     let mut count: usize = 0;

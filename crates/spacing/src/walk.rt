@@ -1,18 +1,21 @@
 // The rank of a spacing, and the spacing that comes next by rank.
 use crate::binomials::choose;
+use word::limits::COMPONENTS;
 ghost use mathlib.Core.Path.{_≡_};
 ghost use mathlib.Core.List.{[], _∷_};
 ghost use Prim.Native.Nat.{_+_, _≤_, _<_};
 ghost use lib.ListN.{take};
+ghost use Rattle.word.specs.Ceilings.{PREFIX, LENGTH};
 ghost use Rattle.cell.specs.Cell.{total, mergeValues};
+ghost use Rattle.spacing.specs.Sizes.{RANKS};
 ghost use Rattle.spacing.specs.Rank.{rankAfter, nextOf};
 ghost use Rattle.spacing.specs.Pascal.{Pascal};
 
 // The rank of the spacing without the value v: components v - 1 and v added into one. Where v is 0, that of the spacing itself. With a `start` of 1
 // each value is counted as if one more came before it.
-pub fn rank_without(g: [u8; 7], k: usize, v: usize, start: usize, b: &[usize]) -> usize
-    requires { ⌜ (k ≤ 6) × (start ≤ 1) × (k + total (take (k + 1) g) ≤ 20) × Pascal (now b) ⌝ }
-    ensures { λ r. ⌜ (r ≡ rankAfter start 0 (mergeValues (v ∷ []) (take (k + 1) g))) × (r ≤ 7340032) ⌝ }
+pub fn rank_without(g: [u8; COMPONENTS], k: usize, v: usize, start: usize, b: &[usize]) -> usize
+    requires { ⌜ (k ≤ PREFIX) × (start ≤ 1) × (k + total (take (k + 1) g) ≤ LENGTH) × Pascal (now b) ⌝ }
+    ensures { λ r. ⌜ (r ≡ rankAfter start 0 (mergeValues (v ∷ []) (take (k + 1) g))) × (r ≤ RANKS) ⌝ }
 {
     let mut z = wide(g[0]);
     let mut count = start;
@@ -41,8 +44,8 @@ pub fn wide(x: u8) -> usize
 }
 
 // The spacing that comes next; after the last one the first.
-pub fn next_cell(g: [u8; 7], k: usize) -> [u8; 7]
-    requires { ⌜ (k ≤ 6) × (total (take (k + 1) g) ≤ 20) ⌝ }
+pub fn next_cell(g: [u8; COMPONENTS], k: usize) -> [u8; COMPONENTS]
+    requires { ⌜ (k ≤ PREFIX) × (total (take (k + 1) g) ≤ LENGTH) ⌝ }
     ensures { λ r. ⌜ take (k + 1) r ≡ nextOf (take (k + 1) g) ⌝ }
 {
     let first = g[0];

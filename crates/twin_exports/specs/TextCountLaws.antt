@@ -4,6 +4,7 @@ use mathlib.Core.Path.{_≡_, sym, ap, ap₂, _∙_}
 use mathlib.Core.Bool.{true, false}
 use mathlib.Core.List.{List}
 use lib.ListN.{length}
+use Rattle.word.specs.Ceilings.{LENGTH, PLAIN_LENGTH as PLAIN}
 use Rattle.word.specs.Word.{avoiders}
 use Rattle.word.specs.ListLaws.{true-not-false}
 use Rattle.scheme.specs.SchemeList.{EntryList}
@@ -84,7 +85,7 @@ module _ (s t : List ℕ) (p : PatternsRead) (reads : (p ≡ patternsAnswer s) �
         record {
           answer = k ∙ ap codeOf (moved .answer ∙ ap (λ (x : Fault). countedOr x (countIn s t n)) (then-found _));
           table = moved .table ∙ ap (λ (x : Fault). tableAfter x (needOf n (schemeIn ((schemeAnswer t) .scheme))) T) (then-found _);
-          counts = λ (w : TextsTrue s t) (a : n ≤ 20) (b : needOf n (w .scheme) ≤ length T).
+          counts = λ (w : TextsTrue s t) (a : n ≤ LENGTH) (b : needOf n (w .scheme) ≤ length T).
               k ∙ ap codeOf (d .counts (lists-accepted w) a (rw (scheme-list s t w q (reads-scheme .1)) b)) ∙ ap (λ (P : List (List ℕ)). length (avoiders P n)) (set-list s t w p (reads .1));
         }
       where
@@ -95,7 +96,7 @@ module _ (s t : List ℕ) (p : PatternsRead) (reads : (p ≡ patternsAnswer s) �
     plain-done n c r d k =
         record {
           answer = k ∙ ap codeOf (moved .answer ∙ ap (λ (x : Fault). countedOr x (countIn s t n)) (then-found _));
-          counts = λ (w : TextsTrue s t) (a : n ≤ 9).
+          counts = λ (w : TextsTrue s t) (a : n ≤ PLAIN).
               k ∙ ap codeOf (d .counts (lists-accepted w) a) ∙ ap (λ (P : List (List ℕ)). length (avoiders P n)) (set-list s t w p (reads .1));
         }
       where

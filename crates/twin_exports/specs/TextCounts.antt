@@ -3,6 +3,7 @@ use Prim.Native.Nat.{ℕ, _-_, _≤_}
 use mathlib.Core.Path.{_≡_}
 use mathlib.Core.List.{List}
 use lib.ListN.{length}
+use Rattle.word.specs.Ceilings.{LENGTH, PLAIN_LENGTH as PLAIN}
 use Rattle.word.specs.Word.{avoiders}
 use Rattle.word.specs.Finding.{Finding, firstFault}
 use Rattle.scheme.specs.SchemeList.{EntryList}
@@ -43,9 +44,9 @@ pub record CountsTexts (s t : List ℕ) (n : ℕ) (before after : List ℕ) (r :
   -- "If accepted, then for every n from 0 to 20 and every table long enough, whatever it held, the
   -- count .. is exactly the number of permutations of 1 to n that contain none of the patterns".
   -- Texts are accepted exactly if TextsTrue holds of them (JudgesTexts.exactly).
-  pub counts : (w : TextsTrue s t) → n ≤ 20 → needOf n (w .scheme) ≤ length before → r ≡ length (avoiders (w .patterns) n)
+  pub counts : (w : TextsTrue s t) → n ≤ LENGTH → needOf n (w .scheme) ≤ length before → r ≡ length (avoiders (w .patterns) n)
 
 -- the same for the plain evaluation
 pub record PlainTexts (s t : List ℕ) (n r : ℕ) : Type 0 where
   pub answer : r ≡ codeOf (countedOr (foundIn s t (λ P E. plainTests P E n)) (countIn s t n))
-  pub counts : (w : TextsTrue s t) → n ≤ 9 → r ≡ length (avoiders (w .patterns) n)
+  pub counts : (w : TextsTrue s t) → n ≤ PLAIN → r ≡ length (avoiders (w .patterns) n)

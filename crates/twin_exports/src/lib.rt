@@ -31,7 +31,7 @@ pub extern "C" fn count_texts(patterns: &[u8], scheme: &[u8], n: usize, table: &
     code(count(set, list, n, table))
 }
 
-// The same without a table, n up to 9.
+// The same without a table, n up to PLAIN_LENGTH.
 #[no_mangle]
 pub extern "C" fn count_texts_plainly(patterns: &[u8], scheme: &[u8], n: usize) -> u64
     ensures { λ r. ⌜ PlainTexts (now (patterns .entry)) (now (scheme .entry)) n r ⌝ }

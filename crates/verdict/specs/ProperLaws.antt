@@ -7,6 +7,7 @@ use mathlib.Core.List.{List, [], _∷_, map, List·Memᴰ, List·Memᴰ·head, L
 use lib.ListN.{length}
 use lib.Dec.{ltb, eqb}
 use borrow.Author.Tests.{ltb-false, eqb-true, eqb-false}
+use Rattle.word.specs.Ceilings.{DIGITS, PATTERNS, ENTRIES, PREFIX, COMPONENTS, GAPS, TOTAL}
 use Rattle.word.specs.Lists.{all, any}
 use Rattle.word.specs.Word.{isPerm, within}
 use Rattle.word.specs.ListLaws.{true-not-false, and-in}
@@ -34,42 +35,42 @@ pattern-perm β e = go (eqb (length β) 0) e
     go false h = h
 
 module _ (P : List (List ℕ)) (e : firstFault (patternTests P) ≡ clean) where
-  pub few-patterns : length P ≤ 24
-  few-patterns = ltb-false 24 (length P) (clean-test Oversize (ltb 24 (length P)) (clean-in (patternTests P) (List·Memᴰ·head refl) e))
+  pub few-patterns : length P ≤ PATTERNS
+  few-patterns = ltb-false PATTERNS (length P) (clean-test Oversize (ltb PATTERNS (length P)) (clean-in (patternTests P) (List·Memᴰ·head refl) e))
 
   pub proper-pattern : (β : List ℕ) → List·Memᴰ β P → ProperPattern β
   proper-pattern β m =
-      let long = first-out Oversize (λ (α : List ℕ). ltb 8 (length α)) 0 (clean-in (patternTests P) (List·Memᴰ·tail (List·Memᴰ·head refl)) e) m in
+      let long = first-out Oversize (λ (α : List ℕ). ltb DIGITS (length α)) 0 (clean-in (patternTests P) (List·Memᴰ·tail (List·Memᴰ·head refl)) e) m in
       let none = first-out NoPermutation (λ (α : List ℕ). not (isPattern α)) 0 (clean-in (patternTests P) (List·Memᴰ·tail (List·Memᴰ·tail (List·Memᴰ·head refl))) e) m in
       record {
         perm = pattern-perm β (not-false (isPattern β) none);
-        short = ltb-false 8 (length β) long;
+        short = ltb-false DIGITS (length β) long;
       }
 
 module _ (E : List EntryList) (e : firstFault (schemeTests E) ≡ clean) where
-  pub few-entries : length E ≤ 128
-  few-entries = ltb-false 128 (length E) (clean-test Oversize (ltb 128 (length E)) (clean-in (schemeTests E) (List·Memᴰ·head refl) e))
+  pub few-entries : length E ≤ ENTRIES
+  few-entries = ltb-false ENTRIES (length E) (clean-test Oversize (ltb ENTRIES (length E)) (clean-in (schemeTests E) (List·Memᴰ·head refl) e))
 
   pub proper-entry : (d : EntryList) → List·Memᴰ d E → ProperEntry d
   proper-entry d m =
       let large = first-out Oversize largeEntry 0 (clean-in (schemeTests E) (List·Memᴰ·tail (List·Memᴰ·head refl)) e) m in
       let none =
       first-out NoPermutation (λ (x : EntryList). not (isPerm (x .prefix))) 0 (clean-in (schemeTests E) (List·Memᴰ·tail (List·Memᴰ·tail (List·Memᴰ·head refl))) e) m in
-      let gaps = or-right (ltb 6 (length (d .prefix))) (ltb 8 (length (d .gaps)) || any largeGap (d .gaps)) large in
-      let sizes = or-right (ltb 8 (length (d .gaps))) (any largeGap (d .gaps)) gaps in
+      let gaps = or-right (ltb PREFIX (length (d .prefix))) (ltb GAPS (length (d .gaps)) || any largeGap (d .gaps)) large in
+      let sizes = or-right (ltb GAPS (length (d .gaps))) (any largeGap (d .gaps)) gaps in
       let wrong =
       first-out Width wrongWidth 0
       (clean-in (schemeTests E) (List·Memᴰ·tail (List·Memᴰ·tail (List·Memᴰ·tail (List·Memᴰ·tail (List·Memᴰ·tail (List·Memᴰ·head refl)))))) e) m in
       record {
         perm = not-false (isPerm (d .prefix)) none;
-        short = ltb-false 6 (length (d .prefix)) (or-left (ltb 6 (length (d .prefix))) (ltb 8 (length (d .gaps)) || any largeGap (d .gaps)) large);
-        few = ltb-false 8 (length (d .gaps)) (or-left (ltb 8 (length (d .gaps))) (any largeGap (d .gaps)) gaps);
+        short = ltb-false PREFIX (length (d .prefix)) (or-left (ltb PREFIX (length (d .prefix))) (ltb GAPS (length (d .gaps)) || any largeGap (d .gaps)) large);
+        few = ltb-false GAPS (length (d .gaps)) (or-left (ltb GAPS (length (d .gaps))) (any largeGap (d .gaps)) gaps);
         wide = λ (b : List ℕ) (n : List·Memᴰ b (d .gaps)).
             eqb-true (length b) (suc (length (d .prefix)))
             (not-false (eqb (length b) (suc (length (d .prefix))))
             (none-out (λ (x : List ℕ). not (eqb (length x) (suc (length (d .prefix))))) wrong n));
         small = λ (b : List ℕ) (n : List·Memᴰ b (d .gaps)).
-            ltb-false 8 (total b) (or-right (ltb 7 (length b)) (ltb 8 (total b)) (none-out largeGap sizes n));
+            ltb-false TOTAL (total b) (or-right (ltb COMPONENTS (length b)) (ltb TOTAL (total b)) (none-out largeGap sizes n));
         inside =
             first-out NoPosition (λ (x : EntryList). outside (length (x .prefix)) (x .rule)) 0
             (clean-in (schemeTests E) (List·Memᴰ·tail (List·Memᴰ·tail (List·Memᴰ·tail (List·Memᴰ·tail (List·Memᴰ·tail (List·Memᴰ·tail (List·Memᴰ·head refl))))))) e) m;

@@ -12,6 +12,11 @@ use Rattle.scheme.specs.WellFormed.{listed}
 unfoldable pub size : List (List ℕ) → List ℕ → List ℕ → ℕ
 size P p g = length (cell P p g)
 
+-- 20!, the factorial of LENGTH: no cell of a length that is counted is larger
+-- (ValueLaws.factorial-at-most)
+abbrev pub HIGHEST : ℕ
+HIGHEST = 2432902008176640000
+
 -- p is the prefix of an entry
 abbrev pub Listed : List EntryList → List ℕ → Type 0
 Listed E p = listed (map (λ (e : EntryList). e .prefix) E) p ≡ true

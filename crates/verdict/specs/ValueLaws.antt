@@ -9,6 +9,7 @@ use mathlib.Core.Option.{none, some}
 use lib.ListN.{length}
 use lib.Dec.{eqb, ltb}
 use borrow.Author.Tests.{eq-eqb, ne-eqb, ltb-false, not-false}
+use Rattle.word.specs.Ceilings.{LENGTH}
 use Rattle.word.specs.Lists.{all, keep, oneTo}
 use Rattle.word.specs.Word.{avoids, isPerm, perms, avoiders}
 use Rattle.word.specs.ListLaws.{true-not-false, all-fails, map-same, row-out}
@@ -33,7 +34,7 @@ use Rattle.scheme.specs.TestLaws.{or-right}
 use Rattle.verdict.specs.Truth.{WellFormed, RuleClaim, AllTrue}
 use Rattle.verdict.specs.FindingLaws.{clean-in, clean-test, first-out, none-out}
 use Rattle.verdict.specs.ProperLaws.{proper-entry, position-inside}
-use Rattle.verdict.specs.Size.{size, Listed, measure}
+use Rattle.verdict.specs.Size.{size, Listed, measure, HIGHEST}
 use Rattle.verdict.specs.Value.{entryFor, ruleValue, entryValue, value, countOf}
 
 -- the entry of a listed prefix
@@ -124,19 +125,19 @@ factorial-grows : (n d : ℕ) → factorial n ≤ factorial (n + d)
 factorial-grows n zero = rw (add-zero n) (omega arith)
 factorial-grows n (suc d) = let e : n + suc d ≡ suc (n + d) = omega arith in rw e (omega (arith, factorial-grows n d, factorial-step (n + d)))
 
-pub factorial-at-most : (n : ℕ) → n ≤ 20 → factorial n ≤ 2432902008176640000
+pub factorial-at-most : (n : ℕ) → n ≤ LENGTH → factorial n ≤ HIGHEST
 unfolding factorial
 factorial-at-most n h =
-    let e : n + (20 - n) ≡ 20 = omega arith in
-    let l : factorial (n + (20 - n)) ≡ factorial 20 = ap factorial e in
-    let t : factorial 20 ≡ 2432902008176640000 = refl in
-    omega (arith, factorial-grows n (20 - n))
+    let e : n + (LENGTH - n) ≡ LENGTH = omega arith in
+    let l : factorial (n + (LENGTH - n)) ≡ factorial LENGTH = ap factorial e in
+    let t : factorial LENGTH ≡ HIGHEST = refl in
+    omega (arith, factorial-grows n (LENGTH - n))
 
-pub factorial-fits : (n : ℕ) → n ≤ 20 → factorial n < 18446744073709551616
+pub factorial-fits : (n : ℕ) → n ≤ LENGTH → factorial n < 18446744073709551616
 factorial-fits n h = omega (arith, factorial-at-most n h)
 
--- the size of a cell of at most 20 further entries fits 64 bits
-pub size-fits : (P : List (List ℕ)) (p g : List ℕ) → total g ≤ 20 → size P p g < 18446744073709551616
+-- the size of a cell of at most LENGTH further entries fits 64 bits
+pub size-fits : (P : List (List ℕ)) (p g : List ℕ) → total g ≤ LENGTH → size P p g < 18446744073709551616
 unfolding size
 size-fits P p g h = omega (arith, cell-at-most P p g, factorial-fits (total g) h)
 
@@ -223,8 +224,8 @@ module _ (P : List (List ℕ)) (E : List EntryList) (formed : WellFormed P E) (t
 
   -- "No value exceeds 20! = 2432902008176640000" (01): at every listed prefix, for every spacing of
   -- a length that is counted
-  pub value-at-most-twenty-factorial : (f : ℕ) (p g : List ℕ) → Listed E p → length g ≡ suc (length p) → measure p g < f → length p + total g ≤ 20 →
-      value f P E p g ≤ 2432902008176640000
+  pub value-at-most-twenty-factorial : (f : ℕ) (p g : List ℕ) → Listed E p → length g ≡ suc (length p) → measure p g < f → length p + total g ≤ LENGTH →
+      value f P E p g ≤ HIGHEST
   value-at-most-twenty-factorial f p g l wide h few = omega (arith, value-at-most f p g l wide h, factorial-at-most (total g) (omega arith))
 
   -- The count for n is the size of the cell of ε with spacing (n).

@@ -10,6 +10,7 @@ use lib.Dec.{ltb, eqb}
 use lib.ListN.{length, getD, drop, drop-of-length-le}
 use lib.Seq.{drop-cons, getD-take}
 use borrow.Author.Tests.{ltb-false, lt-ltb, le-ltb, eq-eqb, ne-eqb}
+use Rattle.word.specs.Ceilings.{ENTRIES, PREFIX, COMPONENTS, GAPS, TOTAL}
 use Rattle.word.specs.Lists.{any, row}
 use Rattle.word.specs.ListLaws.{any-map}
 use Rattle.word.specs.Finding.{Finding, clean, fault, test, firstFault}
@@ -49,24 +50,24 @@ module _ (p : List ℕ) (n : ℕ) (h : n ≤ length p) where
 
 -- a vector that is too wide, and one whose total decides
 module _ (b : Gap) where
-  pub gap-wide : 7 < b .width → largeGap (gapIn b) ≡ true
-  gap-wide h = rw (length-padded (b .width) (b .parts), lt-ltb 7 (b .width) h) refl
+  pub gap-wide : COMPONENTS < b .width → largeGap (gapIn b) ≡ true
+  gap-wide h = rw (length-padded (b .width) (b .parts), lt-ltb COMPONENTS (b .width) h) refl
 
-  pub gap-by-total : b .width ≤ 7 → largeGap (gapIn b) ≡ ltb 8 (total (gapIn b))
-  gap-by-total h = rw (length-padded (b .width) (b .parts), le-ltb 7 (b .width) h) refl
+  pub gap-by-total : b .width ≤ COMPONENTS → largeGap (gapIn b) ≡ ltb TOTAL (total (gapIn b))
+  gap-by-total h = rw (length-padded (b .width) (b .parts), le-ltb COMPONENTS (b .width) h) refl
 
 -- an entry that is too long or has too many vectors, and one whose vectors decide
 module _ (e : Entry) where
-  pub entry-long : 6 < e .length → largeEntry (entryIn e) ≡ true
-  entry-long h = rw (length-padded (e .length) (e .prefix), lt-ltb 6 (e .length) h) refl
+  pub entry-long : PREFIX < e .length → largeEntry (entryIn e) ≡ true
+  entry-long h = rw (length-padded (e .length) (e .prefix), lt-ltb PREFIX (e .length) h) refl
 
-  pub entry-many : e .length ≤ 6 → 8 < e .«gap_count» → largeEntry (entryIn e) ≡ true
+  pub entry-many : e .length ≤ PREFIX → GAPS < e .«gap_count» → largeEntry (entryIn e) ≡ true
   entry-many k h =
-      rw (length-padded (e .length) (e .prefix), le-ltb 6 (e .length) k, length-items (gapAt e) (e .«gap_count»), lt-ltb 8 (e .«gap_count») h) refl
+      rw (length-padded (e .length) (e .prefix), le-ltb PREFIX (e .length) k, length-items (gapAt e) (e .«gap_count»), lt-ltb GAPS (e .«gap_count») h) refl
 
-  pub entry-by-gaps : e .length ≤ 6 → e .«gap_count» ≤ 8 → largeEntry (entryIn e) ≡ any largeGap (from (gapAt e) (e .«gap_count») 0)
+  pub entry-by-gaps : e .length ≤ PREFIX → e .«gap_count» ≤ GAPS → largeEntry (entryIn e) ≡ any largeGap (from (gapAt e) (e .«gap_count») 0)
   entry-by-gaps k h =
-      rw (length-padded (e .length) (e .prefix), le-ltb 6 (e .length) k, length-items (gapAt e) (e .«gap_count»), le-ltb 8 (e .«gap_count») h)
+      rw (length-padded (e .length) (e .prefix), le-ltb PREFIX (e .length) k, length-items (gapAt e) (e .«gap_count»), le-ltb GAPS (e .«gap_count») h)
       (any-start largeGap (gapAt e) (e .«gap_count»))
 
 -- the width of a vector in test 6
@@ -164,15 +165,15 @@ module _ (a b : List ℕ) (e : length a ≡ length b) (i : ℕ) where
 
 -- test 2 of a scheme
 abbrev pub largeFinding : List EntryList → Finding
-largeFinding E = firstFault (test Oversize (ltb 128 (length E)) ∷ firstAt Oversize largeEntry 0 E ∷ [])
+largeFinding E = firstFault (test Oversize (ltb ENTRIES (length E)) ∷ firstAt Oversize largeEntry 0 E ∷ [])
 
 module _ (s : Scheme) where
-  pub scheme-many : 128 < s .count → largeFinding (schemeIn s) ≡ fault Oversize 0
-  scheme-many h = rw (length-items (entryAt s) (s .count), lt-ltb 128 (s .count) h) refl
+  pub scheme-many : ENTRIES < s .count → largeFinding (schemeIn s) ≡ fault Oversize 0
+  scheme-many h = rw (length-items (entryAt s) (s .count), lt-ltb ENTRIES (s .count) h) refl
 
-  pub scheme-by-entries : s .count ≤ 128 → largeFinding (schemeIn s) ≡ firstAt Oversize largeEntry 0 (from (entryAt s) (s .count) 0)
+  pub scheme-by-entries : s .count ≤ ENTRIES → largeFinding (schemeIn s) ≡ firstAt Oversize largeEntry 0 (from (entryAt s) (s .count) 0)
   scheme-by-entries h =
-      rw (length-items (entryAt s) (s .count), le-ltb 128 (s .count) h)
+      rw (length-items (entryAt s) (s .count), le-ltb ENTRIES (s .count) h)
       (single (firstAt Oversize largeEntry 0 (schemeIn s)) ∙ first-start Oversize largeEntry (entryAt s) (s .count))
 
 -- what test 2 leaves
@@ -183,27 +184,27 @@ clean-test false x e = (refl, sym (single x) ∙ e)
 sized-entry : (e : Entry) → largeEntry (entryIn e) ≡ false → SizedEntry e
 sized-entry e h =
     let n = e .«gap_count» in
-    let long = ltb 6 (length (padded (e .length) (e .prefix))) in
-    let many = ltb 8 (length (map (gapAt e) (row 0 n))) in
+    let long = ltb PREFIX (length (padded (e .length) (e .prefix))) in
+    let many = ltb GAPS (length (map (gapAt e) (row 0 n))) in
     let gaps = any largeGap (map (gapAt e) (row 0 n)) in
     let rest : many || gaps ≡ false = or-right long (many || gaps) h in
-    let first = ltb-false 6 (length (padded (e .length) (e .prefix))) (or-left long (many || gaps) h) in
-    let second = ltb-false 8 (length (map (gapAt e) (row 0 n))) (or-left many gaps rest) in
+    let first = ltb-false PREFIX (length (padded (e .length) (e .prefix))) (or-left long (many || gaps) h) in
+    let second = ltb-false GAPS (length (map (gapAt e) (row 0 n))) (or-left many gaps rest) in
     record {
       short = omega (arith, first, length-padded (e .length) (e .prefix));
       few = omega (arith, second, length-items (gapAt e) n);
       narrow = λ (j : ℕ) (k : j < n).
           let b = getD (e .gaps) j noGap in
           let small = any-clean (gapAt e) largeGap n j (or-right many gaps rest) k in
-          let wide = ltb-false 7 (length (gapIn b)) (or-left (ltb 7 (length (gapIn b))) (ltb 8 (total (gapIn b))) small) in
+          let wide = ltb-false COMPONENTS (length (gapIn b)) (or-left (ltb COMPONENTS (length (gapIn b))) (ltb TOTAL (total (gapIn b))) small) in
           omega (arith, wide, length-padded (b .width) (b .parts));
     }
 
 -- a scheme in which test 2 finds nothing lies within the ceilings
 pub sized-of-clean : (s : Scheme) → Clean ≡ faultOf (largeFinding (schemeIn s)) → Sized s
 sized-of-clean s h =
-    let parts = clean-test (ltb 128 (length (schemeIn s))) (firstAt Oversize largeEntry 0 (schemeIn s)) (clean-of (largeFinding (schemeIn s)) (sym h)) in
+    let parts = clean-test (ltb ENTRIES (length (schemeIn s))) (firstAt Oversize largeEntry 0 (schemeIn s)) (clean-of (largeFinding (schemeIn s)) (sym h)) in
     record {
-      few = omega (arith, ltb-false 128 (length (schemeIn s)) (parts .0), length-items (entryAt s) (s .count));
+      few = omega (arith, ltb-false ENTRIES (length (schemeIn s)) (parts .0), length-items (entryAt s) (s .count));
       each = λ (i : ℕ) (k : i < s .count). sized-entry (getD (s .entries) i noEntry) (first-clean (entryAt s) Oversize largeEntry (s .count) i (parts .1) k);
     }

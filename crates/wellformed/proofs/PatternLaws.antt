@@ -8,6 +8,7 @@ use mathlib.Core.List.{List, []}
 use lib.ListN.{length, take}
 use lib.Dec.{ltb}
 use borrow.Author.Tests.{lt-ltb, le-ltb, eq-eqb, ne-eqb}
+use Rattle.word.specs.Ceilings.{DIGITS, PATTERNS}
 use Rattle.word.specs.Word.{isPerm}
 use Rattle.word.specs.Containment.{isPattern}
 use Rattle.word.specs.Finding.{firstFault}
@@ -33,12 +34,12 @@ module _ (l : List ℕ) (n : ℕ) where
 
 -- the number of patterns decides, or the tests of the items do
 module _ (s : Patterns) where
-  pub many-patterns : 24 < s .count → faultOf (firstFault (patternTests (patternsIn s))) ≡ At Oversize 0
-  many-patterns h = rw (length-items (placeIn s) (s .count), lt-ltb 24 (s .count) h) refl
+  pub many-patterns : PATTERNS < s .count → faultOf (firstFault (patternTests (patternsIn s))) ≡ At Oversize 0
+  many-patterns h = rw (length-items (placeIn s) (s .count), lt-ltb PATTERNS (s .count) h) refl
 
-  pub few-patterns : s .count ≤ 24 →
+  pub few-patterns : s .count ≤ PATTERNS →
       faultOf (firstFault (patternTests (patternsIn s))) ≡
-      orElse (faultOf (firstAt Oversize (λ β. ltb 8 (length β)) 0 (patternsIn s)))
+      orElse (faultOf (firstAt Oversize (λ β. ltb DIGITS (length β)) 0 (patternsIn s)))
       (orElse (faultOf (firstAt NoPermutation (λ β. not (isPattern β)) 0 (patternsIn s))) (faultOf (firstTwin listed 0 [] (patternsIn s))))
-  few-patterns h = rw (length-items (placeIn s) (s .count), le-ltb 24 (s .count) h)
-      (three-faults (firstAt Oversize (λ β. ltb 8 (length β)) 0 (patternsIn s)) (firstAt NoPermutation (λ β. not (isPattern β)) 0 (patternsIn s)) (firstTwin listed 0 [] (patternsIn s)))
+  few-patterns h = rw (length-items (placeIn s) (s .count), le-ltb PATTERNS (s .count) h)
+      (three-faults (firstAt Oversize (λ β. ltb DIGITS (length β)) 0 (patternsIn s)) (firstAt NoPermutation (λ β. not (isPattern β)) 0 (patternsIn s)) (firstTwin listed 0 [] (patternsIn s)))

@@ -17,6 +17,7 @@ ghost use mathlib.Core.Bool.{not};
 ghost use mathlib.Core.List.{[], _∷_, map};
 ghost use lib.Dec.{ltb};
 ghost use lib.ListN.{length, getD};
+ghost use Rattle.word.specs.Ceilings.{ENTRIES, COMPONENTS};
 ghost use Rattle.word.specs.Lists.{row};
 ghost use Rattle.word.specs.Word.{isPerm};
 ghost use Rattle.word.specs.Finding.{test, firstFault};
@@ -27,9 +28,9 @@ ghost use Rattle.scheme.specs.SchemeMemory.{padded, noGap, noEntry, gapIn, does
 ghost use Rattle.scheme.specs.Sized.{SizedEntry, Sized};
 ghost use Rattle.wellformed.specs.Twin.{nearestTwin};
 
-// Test 2: more than 128 entries, and then the first entry that passes a ceiling.
+// Test 2: too many entries, and then the first entry that passes a ceiling.
 pub fn large_fault(s: Scheme) -> Fault
-    ensures { λ r. ⌜ r ≡ faultOf (firstFault (test Oversize (ltb 128 (length (schemeIn s))) ∷ firstAt Oversize largeEntry 0 (schemeIn s) ∷ [])) ⌝ }
+    ensures { λ r. ⌜ r ≡ faultOf (firstFault (test Oversize (ltb ENTRIES (length (schemeIn s))) ∷ firstAt Oversize largeEntry 0 (schemeIn s) ∷ [])) ⌝ }
 {
     let n = s.count;
     if ENTRIES < n {
@@ -46,7 +47,7 @@ pub fn large_fault(s: Scheme) -> Fault
     Fault::Clean
 }
 
-// Whether the entry has a prefix longer than 6, more than 8 vectors, or a vector that passes a ceiling.
+// Whether the entry has too long a prefix, too many vectors, or a vector that passes a ceiling.
 fn large_entry(e: Entry) -> bool
     ensures { λ r. ⌜ r ≡ largeEntry (entryIn e) ⌝ }
 {
@@ -69,7 +70,7 @@ fn large_entry(e: Entry) -> bool
     false
 }
 
-// Whether the vector has more than 7 components or a total above 8. Adding stops above 8.
+// Whether the vector has too many components or too large a total. Adding stops above TOTAL.
 fn large_gap(b: Gap) -> bool
     ensures { λ r. ⌜ r ≡ largeGap (gapIn b) ⌝ }
 {
@@ -193,7 +194,7 @@ fn has_twin_gaps(e: Entry) -> bool
 
 // Whether the vector b stands in the entry at the index `start` or later.
 fn stands_from(e: Entry, start: usize, b: Gap) -> bool
-    requires { ⌜ SizedEntry e × (start ≤ e .«gap_count») × (b .width ≤ 7) ⌝ }
+    requires { ⌜ SizedEntry e × (start ≤ e .«gap_count») × (b .width ≤ COMPONENTS) ⌝ }
     ensures { λ r. ⌜ r ≡ listed (map (λ j. gapIn (getD (e .gaps) j noGap)) (row start (e .«gap_count» - start))) (gapIn b) ⌝ }
 {
     let n = e.gap_count;
@@ -210,7 +211,7 @@ fn stands_from(e: Entry, start: usize, b: Gap) -> bool
 
 // Whether the two vectors are the same list.
 fn same_gap(b: Gap, d: Gap) -> bool
-    requires { ⌜ (b .width ≤ 7) × (d .width ≤ 7) ⌝ }
+    requires { ⌜ (b .width ≤ COMPONENTS) × (d .width ≤ COMPONENTS) ⌝ }
     ensures { λ r. ⌜ r ≡ same (gapIn b) (gapIn d) ⌝ }
 {
     let k = b.width;

@@ -13,6 +13,7 @@ ghost use mathlib.Core.Bool.{not};
 ghost use mathlib.Core.List.{[]};
 ghost use lib.ListN.{length};
 ghost use lib.Dec.{ltb};
+ghost use Rattle.word.specs.Ceilings.{DIGITS, PATTERNS};
 ghost use Rattle.word.specs.Containment.{isPattern};
 ghost use Rattle.word.specs.Finding.{firstFault};
 ghost use Rattle.word.specs.declared.refusal.Refusal.the-variants.{Oversize, NoPermutation};
@@ -35,10 +36,10 @@ pub fn patterns_fault(s: Patterns) -> Fault
     earlier(long, earlier(none, twin))
 }
 
-// Test 2 of the items: the first with more than 8 digits.
+// Test 2 of the items: the first with too many digits.
 fn first_long(s: Patterns) -> Fault
-    requires { ⌜ s .count ≤ 24 ⌝ }
-    ensures { λ r. ⌜ r ≡ faultOf (firstAt Oversize (λ β. ltb 8 (length β)) 0 (patternsIn s)) ⌝ }
+    requires { ⌜ s .count ≤ PATTERNS ⌝ }
+    ensures { λ r. ⌜ r ≡ faultOf (firstAt Oversize (λ β. ltb DIGITS (length β)) 0 (patternsIn s)) ⌝ }
 {
     let n = s.count;
     let mut i: usize = 0;
@@ -52,16 +53,16 @@ fn first_long(s: Patterns) -> Fault
     Fault::Clean
 }
 
-// Whether a pattern has more than 8 digits.
+// Whether a pattern has too many digits.
 fn too_long(p: Pattern) -> bool
-    ensures { λ r. ⌜ r ≡ ltb 8 (length (patternIn p)) ⌝ }
+    ensures { λ r. ⌜ r ≡ ltb DIGITS (length (patternIn p)) ⌝ }
 {
     DIGITS < p.length
 }
 
 // Test 3: the first item that is no pattern.
 fn first_none(s: Patterns) -> Fault
-    requires { ⌜ s .count ≤ 24 ⌝ }
+    requires { ⌜ s .count ≤ PATTERNS ⌝ }
     ensures { λ r. ⌜ r ≡ faultOf (firstAt NoPermutation (λ β. not (isPattern β)) 0 (patternsIn s)) ⌝ }
 {
     let n = s.count;
@@ -93,7 +94,7 @@ fn no_pattern(p: Pattern) -> bool
 
 // Test 4: the first item that an earlier one equals.
 fn first_twin(s: Patterns) -> Fault
-    requires { ⌜ s .count ≤ 24 ⌝ }
+    requires { ⌜ s .count ≤ PATTERNS ⌝ }
     ensures { λ r. ⌜ r ≡ faultOf (firstTwin listed 0 [] (patternsIn s)) ⌝ }
 {
     let n = s.count;
@@ -110,7 +111,7 @@ fn first_twin(s: Patterns) -> Fault
 
 // The place of the nearest earlier item that equals the one at i, or i where there is none.
 fn earlier_twin(s: Patterns, i: usize) -> usize
-    requires { ⌜ i < 24 ⌝ }
+    requires { ⌜ i < PATTERNS ⌝ }
     ensures { λ r. ⌜ r ≡ nearestTwin (λ j. same (placeIn s i) (placeIn s j)) i ⌝ }
 {
     let p = s.items[i];

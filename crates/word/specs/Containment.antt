@@ -1,10 +1,12 @@
 -- The answer of the public operation `contains`, and the patterns that a set in memory holds.
+-- Definitions only.
 use Prim.Native.Nat.{ℕ, zero, suc}
 use mathlib.Core.Path.{_≡_}
 use mathlib.Core.Bool.{Bool, true, false, not, cond, _||_}
 use mathlib.Core.List.{List, [], _∷_}
 use lib.ListN.{length, take}
 use lib.Dec.{ltb, eqb}
+use Rattle.word.specs.Ceilings.{DIGITS, WORD}
 use Rattle.word.specs.Word.{contains, isPerm}
 use Rattle.word.specs.Finding.{Finding, clean, fault, test, firstFault}
 use Rattle.word.specs.Told.{Told, toldBy}
@@ -21,8 +23,8 @@ isPattern β = cond (eqb (length β) 0) false (isPerm β)
 -- and 3, the pattern first" (01)
 abbrev pub containmentTests : List ℕ → List ℕ → List Finding
 containmentTests β w =
-    test Oversize (ltb 8 (length β)) ∷ test NoPermutation (not (isPattern β)) ∷
-    test Oversize (ltb 20 (length w)) ∷ test NoPermutation (not (isPerm w)) ∷ []
+    test Oversize (ltb DIGITS (length β)) ∷ test NoPermutation (not (isPattern β)) ∷
+    test Oversize (ltb WORD (length w)) ∷ test NoPermutation (not (isPerm w)) ∷ []
 
 abbrev pub answerOf : Finding → Bool → Contained
 answerOf (fault r i) b = Refused r i

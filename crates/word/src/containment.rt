@@ -8,6 +8,7 @@ use crate::refusal::Refusal;
 ghost use mathlib.Core.Path.{_≡_};
 ghost use mathlib.Core.Bool.{not};
 ghost use lib.ListN.{length, take};
+ghost use Rattle.word.specs.Ceilings.{DIGITS};
 ghost use Rattle.word.specs.Word.{avoids};
 ghost use Rattle.word.specs.Containment.{patternsOf, Decides};
 
@@ -47,9 +48,9 @@ pub fn contains(pattern: &[u8], permutation: &[u8]) -> Contained
     }
 }
 
-// The digits of a list of at most eight, in the memory form of a pattern.
+// The digits of a list of at most DIGITS, in the memory form of a pattern.
 fn digits_of(s: &[u8]) -> [u8; DIGITS]
-    ensures { λ r. ⌜ take (length (now (s .entry))) r ≡ take 8 (now (s .entry)) ⌝ }
+    ensures { λ r. ⌜ take (length (now (s .entry))) r ≡ take DIGITS (now (s .entry)) ⌝ }
 {
     let mut digits = [0u8; DIGITS];
     let mut i: usize = 0;

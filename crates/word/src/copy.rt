@@ -3,6 +3,7 @@ use crate::limits::DIGITS;
 ghost use mathlib.Core.Path.{_≡_};
 ghost use Prim.Native.Nat.{min};
 ghost use lib.ListN.{take};
+ghost use Rattle.word.specs.Ceilings.{DIGITS};
 ghost use Rattle.word.specs.Word.{firstCopy};
 ghost use Rattle.word.specs.Copy.{shown};
 
@@ -14,7 +15,7 @@ pub struct FirstCopy {
 
 // How many digits a pattern of the length `len` has in memory.
 fn capped(len: usize) -> usize
-    ensures { λ r. ⌜ r ≡ min len 8 ⌝ }
+    ensures { λ r. ⌜ r ≡ min len DIGITS ⌝ }
 {
     if len < DIGITS { len } else { DIGITS }
 }

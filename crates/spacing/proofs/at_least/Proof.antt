@@ -5,6 +5,7 @@ use mathlib.Core.Path.{_≡_, refl, sym, _∙_}
 use lib.ListN.{length, take}
 use borrow.Author.Needs.{needs}
 use native.Mathlib.Omega.{arith}
+use Rattle.word.specs.Ceilings.{COMPONENTS}
 use Rattle.cell.specs.Cell.{atLeast}
 use Rattle.spacing.proofs.SpacingMemory.{least-from, least-fails, least-passes, least-end}
 use Rattle.spacing.proofs.at_least.Statement.{statement}
@@ -29,8 +30,8 @@ returns : tie.Need-returns Inv-loop μ-loop
 returns c =
     let a = c .before .before .before .args in
     let l = c .before .before .loop in
-    let seven : length (a .t1) ≡ 7 = search needs in
-    let other : length (a .t2) ≡ 7 = search needs in
+    let seven : length (a .t1) ≡ COMPONENTS = search needs in
+    let other : length (a .t2) ≡ COMPONENTS = search needs in
     sym (l .inv .1 ∙ least-fails (a .t1) (a .t2) (a .k) (l .i) (omega arith) (omega arith) (omega arith) (c .if1 .taken))
 
 add-i : tie.Need-add-i Inv-loop μ-loop
@@ -43,16 +44,16 @@ loop-again : tie.Need-loop-again Inv-loop μ-loop
 loop-again c =
     let a = c .before .before .before .args in
     let l = c .before .before .loop in
-    let seven : length (a .t1) ≡ 7 = search needs in
-    let other : length (a .t2) ≡ 7 = search needs in
+    let seven : length (a .t1) ≡ COMPONENTS = search needs in
+    let other : length (a .t2) ≡ COMPONENTS = search needs in
     (omega arith, l .inv .1 ∙ least-passes (a .t1) (a .t2) (a .k) (l .i) (omega arith) (omega arith) (omega arith) (c .if1 .left))
 
 returns-2 : tie.Need-returns-2 Inv-loop μ-loop
 returns-2 c =
     let a = c .before .before .args in
     let l = c .before .loop in
-    let seven : length (a .t1) ≡ 7 = search needs in
-    let other : length (a .t2) ≡ 7 = search needs in
+    let seven : length (a .t1) ≡ COMPONENTS = search needs in
+    let other : length (a .t2) ≡ COMPONENTS = search needs in
     sym (l .inv .1 ∙ least-end (a .t1) (a .t2) (a .k) (l .i) (omega arith) (omega arith) (omega arith))
 
 pub at-least-spec : {M : Type 1} → statement M

@@ -1,5 +1,6 @@
 -- `spacing::first_spacing` meets its contract: zeros, and the total in component k.
 -- Assumes nothing.
+use Rattle.word.specs.Ceilings.{COMPONENTS}
 use Rattle.spacing.proofs.SpacingMemory.{first-memory}
 use borrow.Author.Needs.{needs}
 use Rattle.spacing.proofs.first_spacing.Statement.{statement}
@@ -9,7 +10,7 @@ array-write-g : tie.Need-array-write-g
 array-write-g c = search needs
 
 returns : tie.Need-returns
-returns c = first-memory (c .args .k) 7 (c .args .t) (c .pre)
+returns c = first-memory (c .args .k) COMPONENTS (c .args .t) (c .pre)
 
 pub first-spacing-spec : {M : Type 1} → statement M
 first-spacing-spec = tie.close (tie.spec array-write-g returns)

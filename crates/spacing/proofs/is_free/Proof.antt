@@ -5,6 +5,7 @@ use mathlib.Core.Path.{_≡_, sym, _∙_}
 use lib.ListN.{length, take}
 use borrow.Author.Needs.{needs}
 use native.Mathlib.Omega.{arith}
+use Rattle.word.specs.Ceilings.{GAPS}
 use Rattle.cell.specs.Cell.{free}
 use Rattle.spacing.specs.GapRows.{gapsOf}
 use Rattle.spacing.proofs.SpacingMemory.{free-from, free-start, free-counted, free-end, free-fails, free-passes}
@@ -15,7 +16,7 @@ abbrev Inv-loop : tie.InvT-loop
 Inv-loop n k g gaps i₀ i = free (gapsOf gaps (k + 1) n) (take (k + 1) g) ≡ free-from gaps (k + 1) n (take (k + 1) g) i
 
 abbrev μ-loop : tie.MeasureT-loop
-μ-loop n k g gaps i₀ i = 8 - i
+μ-loop n k g gaps i₀ i = GAPS - i
 
 loop-holds : tie.Need-loop-holds Inv-loop μ-loop
 loop-holds c =
@@ -41,7 +42,7 @@ returns-2 : tie.Need-returns-2 Inv-loop μ-loop
 returns-2 c =
     let a = c .before .before .before .before .before .before .args in
     let l = c .before .before .before .before .before .loop in
-    let eight : length (a .t1) ≡ 8 = search needs in
+    let eight : length (a .t1) ≡ GAPS = search needs in
     sym (l .inv ∙ free-fails (a .t1) (a .k + 1) (a .n) (take (a .k + 1) (a .g)) (l .i) (omega arith) (omega arith) (sym (c .before .at-least .ensures) ∙ c .if2 .taken))
 
 add-i : tie.Need-add-i Inv-loop μ-loop
@@ -54,14 +55,14 @@ loop-again : tie.Need-loop-again Inv-loop μ-loop
 loop-again c =
     let a = c .before .before .before .before .before .before .args in
     let l = c .before .before .before .before .before .loop in
-    let eight : length (a .t1) ≡ 8 = search needs in
+    let eight : length (a .t1) ≡ GAPS = search needs in
     l .inv ∙ free-passes (a .t1) (a .k + 1) (a .n) (take (a .k + 1) (a .g)) (l .i) (omega arith) (omega arith) (sym (c .before .at-least .ensures) ∙ c .if2 .left)
 
 returns-3 : tie.Need-returns-3 Inv-loop μ-loop
 returns-3 c =
     let a = c .before .before .args in
     let l = c .before .loop in
-    let eight : length (a .t1) ≡ 8 = search needs in
+    let eight : length (a .t1) ≡ GAPS = search needs in
     sym (l .inv ∙ free-end (a .t1) (a .k + 1) (a .n) (take (a .k + 1) (a .g)) (l .i) (omega arith))
 
 pub is-free-spec : {M : Type 1} → statement M

@@ -4,6 +4,7 @@ use mathlib.Core.Path.{_≡_}
 use lib.ListN.{length}
 use borrow.Author.Needs.{needs}
 use native.Mathlib.Omega.{arith}
+use Rattle.word.specs.Ceilings.{COMPONENTS}
 use Rattle.spacing.proofs.SpacingMemory.{Seen, seen-start, seen-down, seen-last, next-fits, next-memory}
 use Rattle.spacing.proofs.next_spacing.Statement.{statement}
 use Rattle.spacing.proofs.next_spacing.Tie as tie
@@ -17,7 +18,7 @@ abbrev μ-loop : tie.MeasureT-loop
 loop-holds : tie.Need-loop-holds Inv-loop μ-loop
 loop-holds c =
     let g = c .args .t1 in
-    let seven : length g ≡ 7 = search needs in
+    let seven : length g ≡ COMPONENTS = search needs in
     seen-start g (c .args .k) (omega arith)
 
 array-read-r : tie.Need-array-read-r Inv-loop μ-loop
@@ -35,7 +36,7 @@ array-read-n c = search needs
 add-n : tie.Need-add-n Inv-loop μ-loop
 add-n c =
     let a = c .before .before .before .args in
-    let seven : length (a .t1) ≡ 7 = search needs in
+    let seven : length (a .t1) ≡ COMPONENTS = search needs in
     omega (arith, next-fits (a .t1) (a .k) (c .before .before .loop .j) (omega arith) (omega arith) (c .before .before .loop .inv) (c .if1 .taken) (c .before .before .before .pre .1))
 
 sub-n-2 : tie.Need-sub-n-2 Inv-loop μ-loop
@@ -53,7 +54,7 @@ array-write-n-3 c = search needs
 returns : tie.Need-returns Inv-loop μ-loop
 returns c =
     let a = c .before .before .before .args in
-    let seven : length (a .t1) ≡ 7 = search needs in
+    let seven : length (a .t1) ≡ COMPONENTS = search needs in
     next-memory (a .t1) (a .k) (c .before .before .loop .j) (omega arith) (omega arith) (c .before .before .loop .inv) (c .if1 .taken)
 
 sub-j : tie.Need-sub-j Inv-loop μ-loop
@@ -65,13 +66,13 @@ loop-less c = search needs
 loop-again : tie.Need-loop-again Inv-loop μ-loop
 loop-again c =
     let a = c .before .before .before .args in
-    let seven : length (a .t1) ≡ 7 = search needs in
+    let seven : length (a .t1) ≡ COMPONENTS = search needs in
     seen-down (a .t1) (a .k) (c .before .before .loop .j) (omega arith) (omega arith) (c .before .before .loop .inv) (c .if1 .left)
 
 returns-2 : tie.Need-returns-2 Inv-loop μ-loop
 returns-2 c =
     let a = c .before .before .args in
-    let seven : length (a .t1) ≡ 7 = search needs in
+    let seven : length (a .t1) ≡ COMPONENTS = search needs in
     seen-last (a .t1) (a .k) (c .before .loop .j) (omega arith) (c .before .loop .inv) (omega arith)
 
 pub next-spacing-spec : {M : Type 1} → statement M

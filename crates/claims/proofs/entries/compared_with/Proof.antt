@@ -3,6 +3,7 @@
 use mathlib.Core.Path.{_≡_}
 use native.Mathlib.Omega.{arith}
 use lib.ListN.{length}
+use Rattle.word.specs.Ceilings.{GAPS}
 use Rattle.claims.specs.EntryMemoryLaws.{entry-short}
 use Rattle.claims.proofs.RuleLaws.{expands-compared, deletes-compared}
 use borrow.Author.Needs.{needs}
@@ -32,7 +33,7 @@ returns-2 : tie.Need-returns-2
 returns-2 c =
     let a = c .before .before .before .before .before .args in
     let q = c .before .before .before .before .before .pre in
-    let eight : length (c .before .before .before .gap-rows .result) ≡ 8 = search needs in
+    let eight : length (c .before .before .before .gap-rows .result) ≡ GAPS = search needs in
     deletes-compared (a .m) (a .e) _ (c .before .before .before .gap-rows .result) (c .compared-count .result) (q .0) (q .1) (c .before .enum-told2 .given .1) eight
     (c .before .before .before .gap-rows .ensures) (c .compared-count .ensures)
 

@@ -6,6 +6,7 @@ use mathlib.Core.Path.{_≡_, sym, ap, _∙_}
 use mathlib.Core.List.{List}
 use native.Mathlib.Omega.{arith}
 use lib.ListN.{length, getD, take}
+use Rattle.word.specs.Ceilings.{PREFIX, GAPS}
 use Rattle.word.specs.Lists.{any}
 use Rattle.word.specs.Containment.{patternsOf}
 use Rattle.scheme.specs.SchemeMemory.{entryIn}
@@ -17,7 +18,7 @@ use Rattle.claims.proofs.entries.has_live_gap.Statement.{statement}
 use Rattle.claims.proofs.entries.has_live_gap.Tie as tie
 
 abbrev Inv-loop : tie.InvT-loop
-Inv-loop set lengths count e prefix k n j₀ j = (n ≤ 8) × (j ≤ n) × (liveGap (patternsOf set lengths count) ((entryIn e) .prefix) ((entryIn e) .gaps) ≡ any (liveAt (patternsOf set lengths count) ((entryIn e) .prefix)) (from (vectorAt e) n j))
+Inv-loop set lengths count e prefix k n j₀ j = (n ≤ GAPS) × (j ≤ n) × (liveGap (patternsOf set lengths count) ((entryIn e) .prefix) ((entryIn e) .gaps) ≡ any (liveAt (patternsOf set lengths count) ((entryIn e) .prefix)) (from (vectorAt e) n j))
 
 abbrev μ-loop : tie.MeasureT-loop
 μ-loop set lengths count e prefix k n j₀ j = n - j
@@ -38,7 +39,7 @@ is-live-requires c κs =
     let a = c .before .before .before .before .args in
     let q = c .before .before .before .before .pre in
     let l = c .before .before .loop in
-    let six : length (a .t4 .prefix) ≡ 6 = (let g = c .before .before .before .before .good in search needs) in
+    let six : length (a .t4 .prefix) ≡ PREFIX = (let g = c .before .before .before .before .good in search needs) in
     (entry-short (a .t4) q, prefix-perm (a .t4) q six, gap-width (a .t4) q (l .j) (omega arith), gap-total (a .t4) q (l .j) (omega arith))
 
 returns : tie.Need-returns Inv-loop μ-loop
@@ -48,7 +49,7 @@ returns c =
     let l = c .before .before .before .before .loop in
     let P = patternsOf (a .set) (a .lengths) (a .count) in
     let p = (entryIn (a .t4)) .prefix in
-    let six : length (a .t4 .prefix) ≡ 6 = (let g = c .before .before .before .before .before .before .good in search needs) in
+    let six : length (a .t4 .prefix) ≡ PREFIX = (let g = c .before .before .before .before .before .before .good in search needs) in
     let live = ap (λ (u : List ℕ). liveAt P u (vectorAt (a .t4) (l .j))) (prefix-is (a .t4) q six) ∙ sym (c .before .is-live .ensures) ∙ c .if1 .taken in
     sym (l .inv .2 ∙ any-here (liveAt P p) (vectorAt (a .t4)) (a .t4 .«gap_count») (l .j) (omega arith) live)
 
@@ -65,7 +66,7 @@ loop-again c =
     let l = c .before .before .before .before .loop in
     let P = patternsOf (a .set) (a .lengths) (a .count) in
     let p = (entryIn (a .t4)) .prefix in
-    let six : length (a .t4 .prefix) ≡ 6 = (let g = c .before .before .before .before .before .before .good in search needs) in
+    let six : length (a .t4 .prefix) ≡ PREFIX = (let g = c .before .before .before .before .before .before .good in search needs) in
     let dead = ap (λ (u : List ℕ). liveAt P u (vectorAt (a .t4) (l .j))) (prefix-is (a .t4) q six) ∙ sym (c .before .is-live .ensures) ∙ c .if1 .left in
     (l .inv .0, omega arith, l .inv .2 ∙ any-later (liveAt P p) (vectorAt (a .t4)) (a .t4 .«gap_count») (l .j) (omega arith) dead)
 

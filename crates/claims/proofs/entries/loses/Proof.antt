@@ -5,6 +5,7 @@ use mathlib.Core.Path.{_≡_, sym, ap, _∙_}
 use mathlib.Core.List.{List, [], _∷_}
 use native.Mathlib.Omega.{arith}
 use lib.ListN.{length, take, set, replicate}
+use Rattle.word.specs.Ceilings.{PATTERNS, PREFIX, GAPS}
 use Rattle.word.specs.Containment.{patternsOf}
 use Rattle.spacing.specs.GapRows.{gapsOf}
 use Rattle.candidate.specs.Ready.{Given, EntryAnswer}
@@ -21,7 +22,7 @@ cast-positions : tie.Need-cast-positions
 cast-positions c =
     let a = c .before .before .before .args in
     let q = c .before .before .before .pre in
-    let six : length (a .e .prefix) ≡ 6 = (let g = c .before .before .before .good in search needs) in
+    let six : length (a .e .prefix) ≡ PREFIX = (let g = c .before .before .before .good in search needs) in
     let low = position-bound (a .e) (q .1) six (a .r) (q .2) in search needs
 
 array-write-positions : tie.Need-array-write-positions
@@ -31,17 +32,17 @@ irreversible-requires : tie.Need-irreversible-requires
 irreversible-requires c κs =
     let a = c .before .before .before .args in
     let q = c .before .before .before .pre in
-    let six : length (a .e .prefix) ≡ 6 = (let g = c .before .before .before .good in search needs) in
-    let hs : length (a .set) ≡ 24 = (let g = c .before .before .before .good in search needs) in
-    let hl : length (a .lengths) ≡ 24 = (let g = c .before .before .before .good in search needs) in
+    let six : length (a .e .prefix) ≡ PREFIX = (let g = c .before .before .before .good in search needs) in
+    let hs : length (a .set) ≡ PATTERNS = (let g = c .before .before .before .good in search needs) in
+    let hl : length (a .lengths) ≡ PATTERNS = (let g = c .before .before .before .good in search needs) in
     (entry-short (a .e) (q .1), omega arith, given (a .e) (q .1) six (a .r) (q .2) (a .set) (a .lengths) (a .count) hs hl (q .0))
 
 returns : tie.Need-returns
 returns c =
     let a = c .before .before .before .before .args in
     let q = c .before .before .before .before .pre in
-    let six : length (a .e .prefix) ≡ 6 = (let g = c .before .before .before .before .good in search needs) in
-    let eight : length (c .before .gap-rows .result) ≡ 8 = search needs in
+    let six : length (a .e .prefix) ≡ PREFIX = (let g = c .before .before .before .before .good in search needs) in
+    let eight : length (c .before .gap-rows .result) ≡ GAPS = search needs in
     answers (a .e) (q .1) six (a .r) (q .2) (patternsOf (a .set) (a .lengths) (a .count)) (c .before .gap-rows .result) (c .irreversible .result) eight
     (c .before .gap-rows .ensures) (c .irreversible .ensures)
 

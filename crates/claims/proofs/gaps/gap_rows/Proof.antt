@@ -6,16 +6,17 @@ use mathlib.Core.Path.{_≡_, refl, sym, ap, _∙_}
 use mathlib.Core.List.{List, []}
 use native.Mathlib.Omega.{arith}
 use lib.ListN.{length, getD, length-set}
+use Rattle.word.specs.Ceilings.{COMPONENTS, GAPS}
 use Rattle.scheme.specs.SchemeMemory.{noGap}
 use Rattle.claims.specs.EntryMemoryLaws.{rows-more}
 use Rattle.claims.proofs.gaps.gap_rows.Statement.{statement}
 use Rattle.claims.proofs.gaps.gap_rows.Tie as tie
 
 abbrev Inv-loop : tie.InvT-loop
-Inv-loop gaps rows₀ j₀ rows j = (length rows ≡ 8) × (j ≤ 8) × ((i : ℕ) → i < j → (getD rows i [] ≡ (getD gaps i noGap) .parts) × (length (getD rows i []) ≡ 7))
+Inv-loop gaps rows₀ j₀ rows j = (length rows ≡ GAPS) × (j ≤ GAPS) × ((i : ℕ) → i < j → (getD rows i [] ≡ (getD gaps i noGap) .parts) × (length (getD rows i []) ≡ COMPONENTS))
 
 abbrev μ-loop : tie.MeasureT-loop
-μ-loop gaps rows₀ j₀ rows j = 8 - j
+μ-loop gaps rows₀ j₀ rows j = GAPS - j
 
 loop-holds : tie.Need-loop-holds Inv-loop μ-loop
 loop-holds c = (refl, omega arith, λ i h. absurd (omega arith))
@@ -47,7 +48,7 @@ loop-again c =
     let gaps = c .before .before .before .before .args .t1 in (
       length-set (l .rows) (l .j) (c .parts-of .result) ∙ l .inv .0,
       omega arith,
-      rows-more (λ (i : ℕ) (x : List ℕ). (x ≡ (getD gaps i noGap) .parts) × (length x ≡ 7)) (l .rows) [] (l .j) (c .parts-of .result)
+      rows-more (λ (i : ℕ) (x : List ℕ). (x ≡ (getD gaps i noGap) .parts) × (length x ≡ COMPONENTS)) (l .rows) [] (l .j) (c .parts-of .result)
           (omega (arith, l .inv .0)) (c .parts-of .ensures) (l .inv .2),
     )
 

@@ -6,6 +6,7 @@ use mathlib.Core.Path.{_≡_, sym, _∙_}
 use native.Mathlib.Omega.{arith}
 use lib.ListN.{take}
 use borrow.Author.Tests.{leb-true, leb-false}
+use Rattle.word.specs.Ceilings.{TOTAL}
 use Rattle.word.specs.Containment.{patternsOf}
 use Rattle.cell.specs.Cell.{total}
 use Rattle.candidate.proofs.CandidateWalk.{from-total, totals-start, totals-end, totals-here, totals-later}
@@ -16,12 +17,12 @@ use Rattle.claims.proofs.gaps.has_empty_below.Tie as tie
 
 abbrev Inv-loop : tie.InvT-loop
 Inv-loop set lengths count prefix k parts t₀ t =
-    (t ≤ 8) ×
+    (t ≤ TOTAL) ×
     (emptyBelow (patternsOf set lengths count) (take k prefix) (take (k + 1) parts) k ≡
     from-total (shows set lengths count prefix k parts) k (total (take (k + 1) parts)) t)
 
 abbrev μ-loop : tie.MeasureT-loop
-μ-loop set lengths count prefix k parts t₀ t = 8 - t
+μ-loop set lengths count prefix k parts t₀ t = TOTAL - t
 
 loop-holds : tie.Need-loop-holds Inv-loop μ-loop
 loop-holds c =

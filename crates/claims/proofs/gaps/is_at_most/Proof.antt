@@ -4,6 +4,7 @@ use mathlib.Core.Path.{_≡_, sym, ap, _∙_}
 use lib.ListN.{length, take}
 use lib.Seq.{length-take-le}
 use lib.Dec.{leb}
+use Rattle.word.specs.Ceilings.{COMPONENTS}
 use Rattle.cell.specs.Built.{level}
 use Rattle.candidate.proofs.LookupLaws.{level-zero, level-more}
 use Rattle.claims.proofs.GapClaimLaws.{level-whole}
@@ -43,7 +44,7 @@ loop-again : tie.Need-loop-again Inv-loop μ-loop
 loop-again c =
     let a = c .before .before .before .args in
     let l = c .before .before .loop in
-    let seven : length (a .t1) ≡ 7 = (let g = c .before .before .before .good in search needs) in
+    let seven : length (a .t1) ≡ COMPONENTS = (let g = c .before .before .before .good in search needs) in
     let more = level-more (a .t1) (a .k + 1) (l .i) (omega arith) (omega (arith, seven, c .before .before .before .pre)) in
     (omega arith, omega (arith, l .inv .1, c .wide .ensures .1), omega (arith, l .inv .2, c .wide .ensures .0, more))
 
@@ -51,7 +52,7 @@ returns : tie.Need-returns Inv-loop μ-loop
 returns c =
     let a = c .before .before .args in
     let l = c .before .loop in
-    let seven : length (a .t1) ≡ 7 = (let g = c .before .before .good in search needs) in
+    let seven : length (a .t1) ≡ COMPONENTS = (let g = c .before .before .good in search needs) in
     let g = take (a .k + 1) (a .t1) in
     let size : length g ≡ a .k + 1 = length-take-le (a .k + 1) (a .t1) (omega (arith, seven, c .before .before .pre)) in
     let end : l .i ≡ length g = omega (arith, size) in

@@ -4,6 +4,7 @@ use Prim.Native.Nat.{ℕ, _+_}
 use mathlib.Core.Path.{_≡_, sym, ap, ap₂, _∙_}
 use native.Mathlib.Omega.{arith}
 use lib.ListN.{length, getD}
+use Rattle.word.specs.Ceilings.{WORD, PREFIX, COMPONENTS}
 use Rattle.word.specs.Containment.{patternsOf}
 use Rattle.claims.proofs.GapClaimLaws.{cell-length, live-is}
 use borrow.Author.Needs.{needs}
@@ -39,7 +40,7 @@ completable-requires c κs =
     let a = c .before .before .before .before .before .args in
     let q = c .before .before .before .before .before .pre in
     let v = c .before .before .before .before .levels-of in
-    let seven : length (a .t6) ≡ 7 = (let g = c .before .before .before .before .before .good in search needs) in
+    let seven : length (a .t6) ≡ COMPONENTS = (let g = c .before .before .before .before .before .good in search needs) in
     let whole = cell-length (a .k) (a .t6) seven (q .0) (q .2) (v .result) (v .ensures) in
     (omega (arith, q .0), omega (arith, q .0, q .2, whole, c .wide2 .ensures .0, c .before .wide .ensures .0))
 
@@ -49,9 +50,9 @@ returns c =
     let q = c .before .before .before .before .before .before .pre in
     let v = c .before .before .before .before .before .levels-of in
     let w = c .before .before .before .before .kept in
-    let six : length (a .prefix) ≡ 6 = (let g = c .before .before .before .before .before .before .good in search needs) in
-    let seven : length (a .t6) ≡ 7 = (let g = c .before .before .before .before .before .before .good in search needs) in
-    let twenty : length (w .result .entries) ≡ 20 = search needs in
+    let six : length (a .prefix) ≡ PREFIX = (let g = c .before .before .before .before .before .before .good in search needs) in
+    let seven : length (a .t6) ≡ COMPONENTS = (let g = c .before .before .before .before .before .before .good in search needs) in
+    let twenty : length (w .result .entries) ≡ WORD = search needs in
     c .completable .ensures ∙
     live-is (a .k) (a .t6) seven (q .0) (q .2) (v .result) (v .ensures)
     (patternsOf (a .set) (a .lengths) (a .count)) (a .prefix) (w .result .entries) _ (w .result .length) six (q .1) twenty

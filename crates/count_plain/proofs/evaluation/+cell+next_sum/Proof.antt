@@ -8,8 +8,10 @@ use Prim.Native.Nat.{ℕ, _+_, _-_, _<_, _≤_}
 use mathlib.Core.Path.{_≡_, sym, _∙_, subst}
 use mathlib.Core.Bool.{true, false}
 use lib.ListN.{length, take}
+use Rattle.word.specs.Ceilings.{COMPONENTS}
 use Rattle.cell.specs.Cell.{free}
 use Rattle.count_step.specs.Step.{LARGEST, capped}
+use Rattle.count_plain.specs.SheetSizes.{FIELDS}
 use Rattle.count_plain.specs.Reading.{fieldOf, gapsAt, CellAt, Evaluates}
 use Rattle.count_plain.proofs.CellLaws.{measureOf, index-small, few, length-small, total-is, deleted-low, deleted-high, target-at, target-falls}
 use Rattle.count_plain.proofs.CellLaws.{target-evaluates, covered-value, alone-value, sum-value, length-less, child-at, child-falls, child-evaluates, SumTo}
@@ -192,11 +194,11 @@ cell-cell-requires : (t : ℕ) → cell-lts.Need-cell-requires (
 cell-cell-requires t c κs =
     let a = c .before .before .before .before .before .before .before .before .args in
     let q = c .before .before .before .before .before .before .before .before .pre .1 in
-    let seven : length (c .merged-spacing .result) ≡ 7 = search needs in
+    let seven : length (c .merged-spacing .result) ≡ COMPONENTS = search needs in
     let fall = target-falls (now (a .sheet)) (a .e) (a .g) (a .t) q (c .before .before .before .before .before .before .field .result) (c .before .before .before .before .before .before .field .ensures) (c .before .before .before .field2 .result) (c .before .before .before .field2 .ensures) (c .before .before .if2 .taken) (c .merged-spacing .result) seven (c .merged-spacing .ensures) in
     let at = target-at (now (a .sheet)) (a .e) (a .g) (a .t) q (c .before .before .before .before .before .before .field .result) (c .before .before .before .before .before .before .field .ensures) (c .before .before .before .field2 .result) (c .before .before .before .field2 .ensures) (c .before .before .if2 .taken) (c .merged-spacing .result) seven (c .merged-spacing .ensures) in
     subst (λ (d : ℕ). (measureOf (now (a .sheet)) d (a .t) < t) × CellAt (now (a .sheet)) d (c .merged-spacing .result) (a .t)) (sym (c .before .field3 .ensures))
-    (subst (λ (m : ℕ). measureOf (now (a .sheet)) (fieldOf (now (a .sheet)) (a .e) 8) (a .t) < m) (c .before .before .before .before .before .before .before .before .pre .0) fall, at)
+    (subst (λ (m : ℕ). measureOf (now (a .sheet)) (fieldOf (now (a .sheet)) (a .e) FIELDS) (a .t) < m) (c .before .before .before .before .before .before .before .before .pre .0) fall, at)
 
 cell-returns-2 : (t : ℕ) → cell-lts.Need-returns-2 (
   field-reads.Asked,
@@ -215,10 +217,10 @@ cell-returns-2 : (t : ℕ) → cell-lts.Need-returns-2 (
 cell-returns-2 t c =
     let a = c .before .before .before .before .before .before .before .before .before .args in
     let q = c .before .before .before .before .before .before .before .before .before .pre .1 in
-    let seven : length (c .before .merged-spacing .result) ≡ 7 = search needs in
+    let seven : length (c .before .merged-spacing .result) ≡ COMPONENTS = search needs in
     let f : free (gapsAt (now (a .sheet)) (a .e) (c .before .before .before .before .before .before .before .field .result)) (take (c .before .before .before .before .before .before .before .field .result + 1) (a .g)) ≡ true =
     sym (c .before .before .before .before .before .before .is-free-at .ensures) ∙ not-false (c .before .before .before .before .before .before .is-free-at .result) (c .before .before .before .before .before .if1 .left) in
-    let ev : Evaluates (now (a .sheet)) (fieldOf (now (a .sheet)) (a .e) 8) (c .before .merged-spacing .result) (a .t) (c .cell .result) =
+    let ev : Evaluates (now (a .sheet)) (fieldOf (now (a .sheet)) (a .e) FIELDS) (c .before .merged-spacing .result) (a .t) (c .cell .result) =
     subst (λ (d : ℕ). Evaluates (now (a .sheet)) d (c .before .merged-spacing .result) (a .t) (c .cell .result)) (c .before .before .field3 .ensures) (c .cell .ensures) in
     λ o v solved. target-evaluates (now (a .sheet)) (a .e) (a .g) (a .t) o (c .before .before .before .before .before .before .before .field .result) (c .before .before .before .before .before .before .before .field .ensures) (c .before .before .before .before .field2 .result) (c .before .before .before .before .field2 .ensures) (c .before .before .before .if2 .taken) (c .before .merged-spacing .result) seven (c .before .merged-spacing .ensures) v solved f (c .cell .result) ev
 
@@ -450,11 +452,11 @@ next-sum-cell-requires t c κs =
     let a = c .before .before .before .before .before .before .before .args in
     let q = c .before .before .before .before .before .before .before .pre .1 .0 in
     let p = c .before .before .before .before .before .before .before .pre .1 in
-    let seven : length (c .before .before .split-spacing .result) ≡ 7 = search needs in
+    let seven : length (c .before .before .split-spacing .result) ≡ COMPONENTS = search needs in
     let fall = child-falls (now (a .sheet)) (a .e) (a .g) (a .t) q (a .k) (p .1) (p .2) (c .before .before .before .before .before .loop .q) (c .before .before .before .held .result .index) (c .before .before .before .held .result .left) (c .before .before .before .before .before .loop .inv .0) (omega arith) (c .before .before .before .held .ensures) (c .before .before .split-spacing .result) seven (c .before .before .split-spacing .ensures) in
     let at = child-at (now (a .sheet)) (a .e) (a .g) (a .t) q (a .k) (p .1) (p .2) (c .before .before .before .before .before .loop .q) (c .before .before .before .held .result .index) (c .before .before .before .held .result .left) (c .before .before .before .before .before .loop .inv .0) (omega arith) (c .before .before .before .held .ensures) (c .before .before .split-spacing .result) seven (c .before .before .split-spacing .ensures) in
     subst (λ (d : ℕ). (measureOf (now (a .sheet)) d (a .t - 1) < t) × CellAt (now (a .sheet)) d (c .before .before .split-spacing .result) (a .t - 1)) (sym (c .field .ensures))
-    (subst (λ (m : ℕ). measureOf (now (a .sheet)) (fieldOf (now (a .sheet)) (a .e) (8 + c .before .before .before .held .result .index)) (a .t - 1) < m) (c .before .before .before .before .before .before .before .pre .0) fall, at)
+    (subst (λ (m : ℕ). measureOf (now (a .sheet)) (fieldOf (now (a .sheet)) (a .e) (FIELDS + c .before .before .before .held .result .index)) (a .t - 1) < m) (c .before .before .before .before .before .before .before .pre .0) fall, at)
 
 next-sum-capped-sum-requires : (t : ℕ) → next-sum-lts.Need-capped-sum-requires (
   held-reads.Asked,
@@ -515,8 +517,8 @@ next-sum-loop-again t c =
     let q = c .before .before .before .before .before .before .before .before .before .pre .1 .0 in
     let p = c .before .before .before .before .before .before .before .before .before .pre .1 in
     let l = c .before .before .before .before .before .before .before .loop in
-    let seven : length (c .before .before .before .before .split-spacing .result) ≡ 7 = search needs in
-    let ev : Evaluates (now (a .sheet)) (fieldOf (now (a .sheet)) (a .e) (8 + c .before .before .before .before .before .held .result .index)) (c .before .before .before .before .split-spacing .result) (a .t - 1) (c .before .cell .result) =
+    let seven : length (c .before .before .before .before .split-spacing .result) ≡ COMPONENTS = search needs in
+    let ev : Evaluates (now (a .sheet)) (fieldOf (now (a .sheet)) (a .e) (FIELDS + c .before .before .before .before .before .held .result .index)) (c .before .before .before .before .split-spacing .result) (a .t - 1) (c .before .cell .result) =
     subst (λ (d : ℕ). Evaluates (now (a .sheet)) d (c .before .before .before .before .split-spacing .result) (a .t - 1) (c .before .cell .result)) (c .before .before .field .ensures) (c .before .cell .ensures) in
     let low : l .q ≤ a .t = omega arith in (
       omega arith,

@@ -8,7 +8,9 @@ use mathlib.Core.Path.{_≡_, sym, ap, _∙_}
 use mathlib.Core.List.{List}
 use mathlib.Core.Bool.{true, false}
 use lib.ListN.{take}
+use Rattle.word.specs.Ceilings.{COMPONENTS, GAPS}
 use Rattle.cell.specs.Cell.{free, atLeast}
+use Rattle.count_plain.specs.SheetSizes.{HEAD, CARD}
 use Rattle.count_plain.specs.Reading.{vectorOf, gapsAt}
 use Rattle.count_plain.proofs.CellLaws.{freeFrom, free-start, free-covered, free-later, free-end}
 use Rattle.count_plain.proofs.reading.is_free_at.Statement.{statement}
@@ -16,7 +18,7 @@ use Rattle.count_plain.proofs.reading.is_free_at.Tie as tie
 
 abbrev Inv-loop : tie.InvT-loop
 Inv-loop sheet e k g n v₀ v =
-    (n ≤ 8) × (v ≤ n) × (free (gapsAt sheet e k) (take (k + 1) g) ≡ freeFrom sheet e k n (take (k + 1) g) v)
+    (n ≤ GAPS) × (v ≤ n) × (free (gapsAt sheet e k) (take (k + 1) g) ≡ freeFrom sheet e k n (take (k + 1) g) v)
 
 abbrev μ-loop : tie.MeasureT-loop
 μ-loop sheet e k g n v₀ v = n - v
@@ -51,7 +53,7 @@ returns : tie.Need-returns Inv-loop μ-loop
 returns c =
     let a = c .before .before .before .before .before .before .before .args in
     let l = c .before .before .before .before .loop in
-    let q : atLeast (take (a .k + 1) (a .g)) (take (a .k + 1) (vectorOf (now (a .sheet)) (80 * a .e + 16 + 7 * l .v))) ≡ true =
+    let q : atLeast (take (a .k + 1) (a .g)) (take (a .k + 1) (vectorOf (now (a .sheet)) (CARD * a .e + HEAD + COMPONENTS * l .v))) ≡ true =
     ap (λ (b : List ℕ). atLeast (take (a .k + 1) (a .g)) (take (a .k + 1) b)) (sym (c .before .before .vector .ensures)) ∙ sym (c .before .at-least .ensures) ∙ c .if1 .taken in
     sym (l .inv .2 ∙ free-covered (now (a .sheet)) (a .e) (a .k) (c .before .before .before .before .before .field .result) (take (a .k + 1) (a .g)) (l .v) (omega arith) q)
 
@@ -65,7 +67,7 @@ loop-again : tie.Need-loop-again Inv-loop μ-loop
 loop-again c =
     let a = c .before .before .before .before .before .before .before .args in
     let l = c .before .before .before .before .loop in
-    let q : atLeast (take (a .k + 1) (a .g)) (take (a .k + 1) (vectorOf (now (a .sheet)) (80 * a .e + 16 + 7 * l .v))) ≡ false =
+    let q : atLeast (take (a .k + 1) (a .g)) (take (a .k + 1) (vectorOf (now (a .sheet)) (CARD * a .e + HEAD + COMPONENTS * l .v))) ≡ false =
     ap (λ (b : List ℕ). atLeast (take (a .k + 1) (a .g)) (take (a .k + 1) b)) (sym (c .before .before .vector .ensures)) ∙ sym (c .before .at-least .ensures) ∙ c .if1 .left in
     (l .inv .0, omega arith, l .inv .2 ∙ free-later (now (a .sheet)) (a .e) (a .k) (c .before .before .before .before .before .field .result) (take (a .k + 1) (a .g)) (l .v) (omega arith) q)
 

@@ -4,16 +4,17 @@ use borrow.Author.Needs.{needs}
 use native.Mathlib.Omega.{arith}
 use Prim.Native.Nat.{_-_, _≤_}
 use mathlib.Core.Path.{_≡_}
+use Rattle.word.specs.Ceilings.{ENTRIES}
 use Rattle.count_plain.specs.SheetForm.{Indices}
 use Rattle.count_plain.proofs.SheetLaws.{indices-start, indices-more}
 use Rattle.count_plain.proofs.sheet.indices.Statement.{statement}
 use Rattle.count_plain.proofs.sheet.indices.Tie as tie
 
 abbrev Inv-loop : tie.InvT-loop
-Inv-loop places₀ i₀ places i = (i ≤ 128) × Indices i places
+Inv-loop places₀ i₀ places i = (i ≤ ENTRIES) × Indices i places
 
 abbrev μ-loop : tie.MeasureT-loop
-μ-loop places₀ i₀ places i = 128 - i
+μ-loop places₀ i₀ places i = ENTRIES - i
 
 loop-holds : tie.Need-loop-holds Inv-loop μ-loop
 loop-holds c = (omega arith, indices-start)
@@ -38,7 +39,7 @@ loop-again c =
 returns : tie.Need-returns Inv-loop μ-loop
 returns c =
     let l = c .before .loop in
-    let e : l .i ≡ 128 = omega arith in
+    let e : l .i ≡ ENTRIES = omega arith in
     rw e at (l .inv .1)
 
 pub indices-spec : {M : Type 1} → statement M

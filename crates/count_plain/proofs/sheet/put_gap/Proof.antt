@@ -4,6 +4,7 @@ use native.Mathlib.Omega.{arith}
 use mathlib.Core.Path.{_≡_}
 use lib.ListN.{length}
 use borrow.Author.Needs.{needs}
+use Rattle.word.specs.Ceilings.{COMPONENTS}
 use Rattle.count_plain.proofs.sheet.put_gap.Statement.{statement}
 use Rattle.count_plain.proofs.sheet.put_gap.Tie as tie
 
@@ -12,7 +13,7 @@ slice-aggregate-put c = search needs
 
 put-requires : tie.Need-put-requires
 put-requires c κs =
-    let seven : length (c .before .before .before .before .args .gap .parts) ≡ 7 = (let o = c .before .before .before .before in search needs) in
+    let seven : length (c .before .before .before .before .args .gap .parts) ≡ COMPONENTS = (let o = c .before .before .before .before in search needs) in
     (omega arith, omega arith)
 
 same-length : tie.Need-same-length

@@ -6,6 +6,7 @@ use denote.Ref.{now}
 use Prim.Native.Nat.{_-_, _≤_}
 use mathlib.Core.Path.{_≡_, refl}
 use lib.ListN.{getD}
+use Rattle.word.specs.Ceilings.{GAPS}
 use Rattle.scheme.specs.SchemeMemory.{noGap}
 use Rattle.count_plain.specs.SheetForm.{GapsIn}
 use Rattle.count_plain.proofs.SheetLaws.{gaps-more}
@@ -13,10 +14,10 @@ use Rattle.count_plain.proofs.sheet.put_gaps.Statement.{statement}
 use Rattle.count_plain.proofs.sheet.put_gaps.Tie as tie
 
 abbrev Inv-loop : tie.InvT-loop
-Inv-loop sheet₀ at gaps v₀ sheet v = (v ≤ 8) × GapsIn gaps v at sheet₀ sheet
+Inv-loop sheet₀ at gaps v₀ sheet v = (v ≤ GAPS) × GapsIn gaps v at sheet₀ sheet
 
 abbrev μ-loop : tie.MeasureT-loop
-μ-loop sheet₀ at gaps v₀ sheet v = 8 - v
+μ-loop sheet₀ at gaps v₀ sheet v = GAPS - v
 
 loop-holds : tie.Need-loop-holds Inv-loop μ-loop
 loop-holds c = search needs
@@ -58,7 +59,7 @@ returns : tie.Need-returns Inv-loop μ-loop
 returns c =
     let a = c .before .before .before .before .args in
     let l = c .before .loop in
-    let e : l .v ≡ 8 = omega arith in
+    let e : l .v ≡ GAPS = omega arith in
     rw e at (l .inv .1)
 
 pub put-gaps-spec : {M : Type 1} → statement M

@@ -7,6 +7,7 @@ use native.Mathlib.Numerals.{add-one}
 use mathlib.Core.Path.{_≡_, refl, sym, _∙_}
 use lib.ListN.{length, getD, take}
 use lib.Seq.{length-take-le, getD-take}
+use Rattle.word.specs.Ceilings.{COMPONENTS}
 use Rattle.count_plain.specs.PieceLaws.{Walk, walk-start, walk-more, walk-end, walk-last}
 use Rattle.count_plain.proofs.spacings.held.Statement.{statement}
 use Rattle.count_plain.proofs.spacings.held.Tie as tie
@@ -32,7 +33,7 @@ returns : tie.Need-returns Inv-loop μ-loop
 returns c =
     let a = c .before .before .before .before .args in
     let l = c .before .before .before .loop in
-    let seven : length (a .t1) ≡ 7 = (let o = c .before .before .before .before in search needs) in
+    let seven : length (a .t1) ≡ COMPONENTS = (let o = c .before .before .before .before in search needs) in
     let size : length (take (a .k + 1) (a .t1)) ≡ suc (a .k) = length-take-le (a .k + 1) (a .t1) (omega arith) ∙ add-one (a .k) in
     walk-end (take (a .k + 1) (a .t1)) (a .k) (a .s) (l .i) (l .left) size (l .inv) (c .before .wide .result)
     (c .before .wide .ensures ∙ sym (getD-take (a .k + 1) (a .t1) (l .i) 0 (omega arith))) (c .if1 .taken)
@@ -50,7 +51,7 @@ loop-again : tie.Need-loop-again Inv-loop μ-loop
 loop-again c =
     let a = c .before .before .before .before .args in
     let l = c .before .before .before .loop in
-    let seven : length (a .t1) ≡ 7 = (let o = c .before .before .before .before in search needs) in
+    let seven : length (a .t1) ≡ COMPONENTS = (let o = c .before .before .before .before in search needs) in
     let size : length (take (a .k + 1) (a .t1)) ≡ suc (a .k) = length-take-le (a .k + 1) (a .t1) (omega arith) ∙ add-one (a .k) in
     walk-more (take (a .k + 1) (a .t1)) (a .k) (a .s) (l .i) (l .left) size (l .inv) (c .before .wide .result)
     (c .before .wide .ensures ∙ sym (getD-take (a .k + 1) (a .t1) (l .i) 0 (omega arith))) (omega arith) (omega arith)
@@ -59,7 +60,7 @@ returns-2 : tie.Need-returns-2 Inv-loop μ-loop
 returns-2 c =
     let a = c .before .before .args in
     let l = c .before .loop in
-    let seven : length (a .t1) ≡ 7 = (let o = c .before .before in search needs) in
+    let seven : length (a .t1) ≡ COMPONENTS = (let o = c .before .before in search needs) in
     let size : length (take (a .k + 1) (a .t1)) ≡ suc (a .k) = length-take-le (a .k + 1) (a .t1) (omega arith) ∙ add-one (a .k) in
     let e : l .i ≡ a .k = omega (arith, l .inv .reach) in
     let w : Walk (take (a .k + 1) (a .t1)) (a .k) (a .s) (a .k) (l .left) = rw e at (l .inv) in

@@ -4,6 +4,7 @@ use native.Mathlib.Omega.{arith}
 use Prim.Native.Nat.{_-_}
 use mathlib.Core.Path.{_≡_, sym}
 use lib.ListN.{length}
+use Rattle.word.specs.Ceilings.{COMPONENTS}
 use Rattle.count_plain.specs.PieceLaws.{merge-before, merge-here, merge-after}
 use borrow.Author.Needs.{needs}
 use Rattle.count_plain.proofs.spacings.merged_piece.Statement.{statement}
@@ -18,7 +19,7 @@ array-read-result c = search needs
 returns : tie.Need-returns
 returns c =
     let a = c .before .args in
-    let seven : length (a .t1) ≡ 7 = (let o = c .before in search needs) in
+    let seven : length (a .t1) ≡ COMPONENTS = (let o = c .before in search needs) in
     sym (merge-before (a .t1) (a .v) (c .before .pre .2) (omega arith) (a .j) (c .if1 .taken))
 
 add-if2 : tie.Need-add-if2
@@ -39,7 +40,7 @@ add-result-2 c = search needs
 returns-2 : tie.Need-returns-2
 returns-2 c =
     let a = c .before .before .args in
-    let seven : length (a .t1) ≡ 7 = (let o = c .before .before in search needs) in
+    let seven : length (a .t1) ≡ COMPONENTS = (let o = c .before .before in search needs) in
     sym (merge-here (a .t1) (a .v) (c .before .before .pre .2) (omega arith) (a .j) (c .if2 .taken))
 
 add-result-3 : tie.Need-add-result-3
@@ -51,7 +52,7 @@ array-read-result-4 c = search needs
 returns-3 : tie.Need-returns-3
 returns-3 c =
     let a = c .before .before .args in
-    let seven : length (a .t1) ≡ 7 = (let o = c .before .before in search needs) in
+    let seven : length (a .t1) ≡ COMPONENTS = (let o = c .before .before in search needs) in
     sym (merge-after (a .t1) (a .v) (c .before .before .pre .2) (omega arith) (a .j) (omega arith))
 
 pub merged-piece-spec : {M : Type 1} → statement M

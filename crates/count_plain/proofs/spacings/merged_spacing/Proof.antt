@@ -6,13 +6,14 @@ use Prim.Native.Nat.{_+_, _-_, _≤_}
 use mathlib.Core.Path.{_≡_, sym, ap, _∙_}
 use lib.ListN.{length, take, length-set}
 use lib.Seq.{length-take-le, take-all}
+use Rattle.word.specs.Ceilings.{COMPONENTS}
 use Rattle.count_plain.specs.Pieces.{mergeAt}
 use Rattle.count_plain.specs.PieceLaws.{more, merge-at, merge-length, merge-take, two-small}
 use Rattle.count_plain.proofs.spacings.merged_spacing.Statement.{statement}
 use Rattle.count_plain.proofs.spacings.merged_spacing.Tie as tie
 
 abbrev Inv-loop : tie.InvT-loop
-Inv-loop g k v r₀ j₀ r j = (j ≤ k) × (length r ≡ 7) × (take j r ≡ take j (mergeAt (take (k + 1) g) v))
+Inv-loop g k v r₀ j₀ r j = (j ≤ k) × (length r ≡ COMPONENTS) × (take j r ≡ take j (mergeAt (take (k + 1) g) v))
 
 abbrev μ-loop : tie.MeasureT-loop
 μ-loop g k v r₀ j₀ r j = k - j
@@ -24,7 +25,7 @@ merged-piece-requires : tie.Need-merged-piece-requires Inv-loop μ-loop
 merged-piece-requires c κs =
     let a = c .before .before .args in
     let l = c .before .loop in
-    let seven : length (a .g) ≡ 7 = (let o = c .before .before in search needs) in
+    let seven : length (a .g) ≡ COMPONENTS = (let o = c .before .before in search needs) in
     (omega arith, omega arith, c .before .before .pre .1, omega (arith, two-small (a .g) (a .k) (omega arith) (l .j) (omega arith), c .before .before .pre .3))
 
 array-write-r : tie.Need-array-write-r Inv-loop μ-loop
@@ -40,7 +41,7 @@ loop-again : tie.Need-loop-again Inv-loop μ-loop
 loop-again c =
     let a = c .before .before .before .args in
     let l = c .before .before .loop in
-    let seven : length (a .g) ≡ 7 = (let o = c .before .before .before in search needs) in
+    let seven : length (a .g) ≡ COMPONENTS = (let o = c .before .before .before in search needs) in
     let size = length-take-le (a .k + 1) (a .g) (omega arith) in (
       omega arith,
       length-set (l .r) (l .j) (c .merged-piece .result) ∙ l .inv .1,
@@ -53,7 +54,7 @@ returns : tie.Need-returns Inv-loop μ-loop
 returns c =
     let a = c .before .before .args in
     let l = c .before .loop in
-    let seven : length (a .g) ≡ 7 = (let o = c .before .before in search needs) in
+    let seven : length (a .g) ≡ COMPONENTS = (let o = c .before .before in search needs) in
     let size = length-take-le (a .k + 1) (a .g) (omega arith) in
     let e : a .k ≡ l .j = omega arith in
     let len = merge-length (take (a .k + 1) (a .g)) (a .v) (c .before .before .pre .1) (omega arith) in

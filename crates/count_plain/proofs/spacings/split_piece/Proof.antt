@@ -5,6 +5,7 @@ use Prim.Native.Nat.{_-_}
 use native.Mathlib.Numerals.{add-one}
 use mathlib.Core.Path.{_≡_, sym, ap, _∙_}
 use lib.ListN.{length, getD}
+use Rattle.word.specs.Ceilings.{COMPONENTS}
 use Rattle.count_plain.specs.PieceLaws.{split-before, split-low, split-high, split-after}
 use borrow.Author.Needs.{needs}
 use Rattle.count_plain.proofs.spacings.split_piece.Statement.{statement}
@@ -16,7 +17,7 @@ array-read-result c = search needs
 returns : tie.Need-returns
 returns c =
     let a = c .before .args in
-    let seven : length (a .t1) ≡ 7 = (let o = c .before in search needs) in
+    let seven : length (a .t1) ≡ COMPONENTS = (let o = c .before in search needs) in
     sym (split-before (a .t1) (a .i) (a .left) (omega arith) (a .j) (c .if1 .taken))
 
 sub-narrow : tie.Need-sub-narrow
@@ -28,7 +29,7 @@ narrow-requires c κs = omega (arith, c .before .before .pre .3, c .before .befo
 returns-2 : tie.Need-returns-2
 returns-2 c =
     let a = c .before .before .before .args in
-    let seven : length (a .t1) ≡ 7 = (let o = c .before .before .before in search needs) in
+    let seven : length (a .t1) ≡ COMPONENTS = (let o = c .before .before .before in search needs) in
     c .narrow .ensures ∙ sym (split-low (a .t1) (a .i) (a .left) (omega arith) (a .j) (c .before .if2 .taken))
 
 add-if3 : tie.Need-add-if3
@@ -46,7 +47,7 @@ sub-result c = search needs
 returns-3 : tie.Need-returns-3
 returns-3 c =
     let a = c .before .before .before .before .args in
-    let seven : length (a .t1) ≡ 7 = (let o = c .before .before .before .before in search needs) in
+    let seven : length (a .t1) ≡ COMPONENTS = (let o = c .before .before .before .before in search needs) in
     ap (λ n. getD (a .t1) (a .i) 0 - n) (c .narrow2 .ensures) ∙ sym (split-high (a .t1) (a .i) (a .left) (omega arith) (a .j) (c .before .if3 .taken ∙ add-one (a .i)))
 
 sub-result-2 : tie.Need-sub-result-2
@@ -58,7 +59,7 @@ array-read-result-3 c = search needs
 returns-4 : tie.Need-returns-4
 returns-4 c =
     let a = c .before .before .before .args in
-    let seven : length (a .t1) ≡ 7 = (let o = c .before .before .before in search needs) in
+    let seven : length (a .t1) ≡ COMPONENTS = (let o = c .before .before .before in search needs) in
     sym (split-after (a .t1) (a .i) (a .left) (omega arith) (a .j) (omega arith))
 
 pub split-piece-spec : {M : Type 1} → statement M

@@ -6,6 +6,7 @@ use Prim.Native.Nat.{_+_, _-_, _≤_}
 use mathlib.Core.Path.{_≡_, ap, _∙_}
 use lib.ListN.{length, take, length-set}
 use lib.Seq.{length-take-le, getD-take, take-all}
+use Rattle.word.specs.Ceilings.{COMPONENTS}
 use Rattle.count_plain.specs.Pieces.{splitAt}
 use Rattle.count_plain.specs.PieceLaws.{split-length, more, split-take}
 use Rattle.spacing.proofs.RankWalkLaws.{part-small}
@@ -13,7 +14,7 @@ use Rattle.count_plain.proofs.spacings.split_spacing.Statement.{stateme
 use Rattle.count_plain.proofs.spacings.split_spacing.Tie as tie
 
 abbrev Inv-loop : tie.InvT-loop
-Inv-loop g k i left r₀ j₀ r j = (j ≤ k + 2) × (length r ≡ 7) × (take j r ≡ take j (splitAt (take (k + 1) g) i left))
+Inv-loop g k i left r₀ j₀ r j = (j ≤ k + 2) × (length r ≡ COMPONENTS) × (take j r ≡ take j (splitAt (take (k + 1) g) i left))
 
 abbrev μ-loop : tie.MeasureT-loop
 μ-loop g k i left r₀ j₀ r j = k + 2 - j
@@ -44,7 +45,7 @@ loop-again : tie.Need-loop-again Inv-loop μ-loop
 loop-again c =
     let a = c .before .before .before .args in
     let l = c .before .before .loop in
-    let seven : length (a .g) ≡ 7 = (let o = c .before .before .before in search needs) in
+    let seven : length (a .g) ≡ COMPONENTS = (let o = c .before .before .before in search needs) in
     let size = length-take-le (a .k + 1) (a .g) (omega arith) in (
       omega arith,
       length-set (l .r) (l .j) (c .split-piece .result) ∙ l .inv .1,
@@ -57,7 +58,7 @@ returns : tie.Need-returns Inv-loop μ-loop
 returns c =
     let a = c .before .before .args in
     let l = c .before .loop in
-    let seven : length (a .g) ≡ 7 = (let o = c .before .before in search needs) in
+    let seven : length (a .g) ≡ COMPONENTS = (let o = c .before .before in search needs) in
     let size = length-take-le (a .k + 1) (a .g) (omega arith) in
     let e : a .k + 2 ≡ l .j = omega arith in
     let len = split-length (take (a .k + 1) (a .g)) (a .i) (a .left) (omega arith) in

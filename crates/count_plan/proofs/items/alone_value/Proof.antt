@@ -6,6 +6,7 @@ use mathlib.Core.Bool.{true, false, cond}
 use borrow.Author.Tests.{not-true, not-false}
 use lib.ListN.{length, take}
 use lib.Seq.{length-take-le}
+use Rattle.word.specs.Ceilings.{PREFIX}
 use Rattle.word.specs.Word.{avoids}
 use Rattle.word.specs.Containment.{patternsOf}
 use borrow.Author.Needs.{needs}
@@ -18,7 +19,7 @@ array-share-prefix-prefix c = search needs
 slice-aggregate-any-in : tie.Need-slice-aggregate-any-in
 slice-aggregate-any-in c =
     let a = c .before .args in
-    let six : length (a .t4) ≡ 6 = search needs in
+    let six : length (a .t4) ≡ PREFIX = search needs in
     sym (length-take-le (a .k) (a .t4) (omega arith))
 
 any-in-requires : tie.Need-any-in-requires

@@ -5,6 +5,7 @@ use native.Mathlib.Omega.{arith}
 use Prim.Native.Nat.{_+_, _-_, _≤_}
 use mathlib.Core.Path.{_≡_, refl}
 use lib.ListN.{take}
+use Rattle.word.specs.Ceilings.{LINKS}
 use Rattle.count_plan.specs.Plan.{ChildLinks}
 use Rattle.count_plan.proofs.PlanItemLaws.{links-start, links-more, zeros-near}
 use Rattle.count_plan.proofs.items.child_links.Statement.{statement}
@@ -19,7 +20,7 @@ abbrev μ-loop : tie.MeasureT-loop
 loop-holds : tie.Need-loop-holds Inv-loop μ-loop
 loop-holds c =
     let a = c .args in
-    (omega arith, links-start (a .s) (take (a .k) (a .prefix)) (a .places) _ refl (zeros-near 8))
+    (omega arith, links-start (a .s) (take (a .k) (a .prefix)) (a .places) _ refl (zeros-near LINKS))
 
 cast-child-place : tie.Need-cast-child-place Inv-loop μ-loop
 cast-child-place c = search needs

@@ -6,6 +6,7 @@ use mathlib.Core.List.{List}
 use Prim.Native.Nat.{ℕ, _-_}
 use lib.ListN.{length}
 use lib.Seq.{length-take-le, getD-take}
+use Rattle.word.specs.Ceilings.{PREFIX}
 use Rattle.scheme.specs.declared.links.Found.{Found}
 use Rattle.scheme.specs.Links.{findIn, foundOf, prefixesIn}
 use Rattle.count_plan.specs.Plan.{placeFound}
@@ -41,7 +42,7 @@ array-write-links c = search needs
 returns : tie.Need-returns
 returns c =
     let a = c .before .before .before .before .args in
-    let six : length (a .t2) ≡ 6 = search needs in
+    let six : length (a .t2) ≡ PREFIX = search needs in
     let f = c .place-of .ensures ∙ ap (λ (f : Found). placeFound f (a .places))
     (c .before .find .ensures ∙ ap (λ (q : List ℕ). foundOf (findIn (prefixesIn (a .s)) q)) (c .before .before .shorter .ensures)) in
     record {

@@ -4,6 +4,7 @@ use native.Mathlib.Omega.{arith}
 use mathlib.Core.Path.{_≡_, refl, sym}
 use lib.ListN.{length, take}
 use lib.Seq.{length-take-le}
+use Rattle.word.specs.Ceilings.{PREFIX}
 use Rattle.count_plan.proofs.PlanItemLaws.{links-sized}
 use borrow.Author.Needs.{needs}
 use Rattle.count_plan.proofs.items.expanding.Statement.{statement}
@@ -18,7 +19,7 @@ child-links-requires c κs = search needs
 returns : tie.Need-returns
 returns c =
     let a = c .before .before .args in
-    let six : length (a .prefix) ≡ 6 = search needs in
+    let six : length (a .prefix) ≡ PREFIX = search needs in
     let size : length (take (a .k) (a .prefix)) ≡ a .k = length-take-le (a .k) (a .prefix) (omega arith) in
     record {
       size = sym size;

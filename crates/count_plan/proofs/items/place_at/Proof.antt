@@ -5,13 +5,14 @@ use mathlib.Core.Path.{_≡_, sym}
 use Prim.Native.Nat.{_≤_}
 use lib.ListN.{length, List·getD-eq-default}
 use borrow.Author.Needs.{needs}
+use Rattle.word.specs.Ceilings.{ENTRIES}
 use Rattle.count_plan.proofs.items.place_at.Statement.{statement}
 use Rattle.count_plan.proofs.items.place_at.Tie as tie
 
 returns : tie.Need-returns
 returns c =
     let a = c .before .args in
-    let size : length (a .t1) ≡ 128 = search needs in
+    let size : length (a .t1) ≡ ENTRIES = search needs in
     let h : length (a .t1) ≤ a .i = omega arith in
     sym (List·getD-eq-default (a .t1) 0 h)
 

@@ -5,6 +5,7 @@ use native.Mathlib.Omega.{arith}
 use Prim.Native.Nat.{_-_, _≤_, _<_, ℕ}
 use mathlib.Core.Path.{_≡_, refl, _∙_}
 use lib.ListN.{length, length-set}
+use Rattle.word.specs.Ceilings.{ENTRIES}
 use Rattle.word.specs.Containment.{patternsOf}
 use Rattle.count_plan.specs.LayoutLaws.{count-few}
 use Rattle.count_plan.proofs.PlanItemLaws.{PlanTo, plan-more}
@@ -12,7 +13,7 @@ use Rattle.count_plan.proofs.items.plan_of.Statement.{statement}
 use Rattle.count_plan.proofs.items.plan_of.Tie as tie
 
 abbrev Inv-loop : tie.InvT-loop
-Inv-loop set lengths count s n b places entries items₀ i₀ items i = (i ≤ s .count) × (length items ≡ 128) × PlanTo n (patternsOf set lengths count) s i items
+Inv-loop set lengths count s n b places entries items₀ i₀ items i = (i ≤ s .count) × (length items ≡ ENTRIES) × PlanTo n (patternsOf set lengths count) s i items
 
 abbrev μ-loop : tie.MeasureT-loop
 μ-loop set lengths count s n b places entries items₀ i₀ items i = s .count - i

@@ -7,6 +7,7 @@ use mathlib.Core.Path.{_≡_, sym, ap, _∙_}
 use mathlib.Core.List.{map}
 use lib.ListN.{getD}
 use Rattle.cell.specs.Binomial.{binomial}
+use Rattle.spacing.specs.Sizes.{FAR}
 use Rattle.spacing.specs.GapRows.{gapsOf}
 use Rattle.scheme.specs.SchemeMemory.{entryIn}
 use Rattle.count_step.specs.Step.{stepOf}
@@ -42,7 +43,7 @@ fill-cells-requires c κs =
     let a = c .before .before .before .before .before .before .before .before .before .before .args in
     let p = c .before .before .before .before .before .before .before .before .before .before .pre .0 in
     let o = c .before .before .before .before .offset-of .result in
-    let near : (i : ℕ) → getD (c .before .before .before .shifted .result) i 0 ≤ 1099511627776 =
+    let near : (i : ℕ) → getD (c .before .before .before .shifted .result) i 0 ≤ FAR =
     rw (c .before .before .before .shifted .ensures) (shifted-near (c .before .before .before .before .offset-of .result) (a .item .links)
     (omega (arith, c .before .before .before .before .offset-of .ensures, cond-near (a .item .deleted) (a .here) (a .before) (p .here-near) (p .before-near))) (p .near)) in
     let s : a .item .length + (a .j - a .item .length) ≡ a .j = omega (arith, p .low) in (

@@ -4,16 +4,17 @@ use borrow.Author.Needs.{needs}
 use native.Mathlib.Omega.{arith}
 use Prim.Native.Nat.{_-_, _≤_}
 use mathlib.Core.Path.{_≡_, refl}
+use Rattle.word.specs.Ceilings.{GAPS}
 use Rattle.count_rows.specs.Rows.{Components}
 use Rattle.count_rows.proofs.EntryFillLaws.{components-start, components-more}
 use Rattle.count_rows.proofs.entry.gap_rows.Statement.{statement}
 use Rattle.count_rows.proofs.entry.gap_rows.Tie as tie
 
 abbrev Inv-loop : tie.InvT-loop
-Inv-loop gaps rows₀ j₀ rows j = (j ≤ 8) × Components gaps j rows
+Inv-loop gaps rows₀ j₀ rows j = (j ≤ GAPS) × Components gaps j rows
 
 abbrev μ-loop : tie.MeasureT-loop
-μ-loop gaps rows₀ j₀ rows j = 8 - j
+μ-loop gaps rows₀ j₀ rows j = GAPS - j
 
 loop-holds : tie.Need-loop-holds Inv-loop μ-loop
 loop-holds c = (omega arith, components-start (c .args .t1) _ refl)
@@ -47,7 +48,7 @@ loop-again c =
 returns : tie.Need-returns Inv-loop μ-loop
 returns c =
     let l = c .before .loop in
-    let e : l .j ≡ 8 = omega arith in
+    let e : l .j ≡ GAPS = omega arith in
     rw e at (l .inv .1)
 
 pub gap-rows-spec : {M : Type 1} → statement M

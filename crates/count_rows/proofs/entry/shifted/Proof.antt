@@ -5,15 +5,16 @@ use native.Mathlib.Omega.{arith}
 use Prim.Native.Nat.{ℕ, _-_, _≤_, _<_}
 use mathlib.Core.Path.{_≡_, refl}
 use lib.ListN.{length}
+use Rattle.word.specs.Ceilings.{LINKS}
 use Rattle.count_rows.proofs.EntryFillLaws.{Shifted, shifted-more, shifted-end}
 use Rattle.count_rows.proofs.entry.shifted.Statement.{statement}
 use Rattle.count_rows.proofs.entry.shifted.Tie as tie
 
 abbrev Inv-loop : tie.InvT-loop
-Inv-loop offset links r₀ i₀ r i = (i ≤ 8) × Shifted offset links i r
+Inv-loop offset links r₀ i₀ r i = (i ≤ LINKS) × Shifted offset links i r
 
 abbrev μ-loop : tie.MeasureT-loop
-μ-loop offset links r₀ i₀ r i = 8 - i
+μ-loop offset links r₀ i₀ r i = LINKS - i
 
 loop-holds : tie.Need-loop-holds Inv-loop μ-loop
 loop-holds c = (omega arith, record { size = refl; at = λ (a : ℕ) (h : a < 0). absurd (omega arith) })
@@ -43,14 +44,14 @@ loop-again : tie.Need-loop-again Inv-loop μ-loop
 loop-again c =
     let a = c .before .before .args in
     let l = c .before .loop in
-    let eight : length (a .t1) ≡ 8 = search needs in
+    let eight : length (a .t1) ≡ LINKS = search needs in
     (omega arith, shifted-more (a .offset) (a .t1) (l .r) (l .i) (omega arith) (l .inv .1))
 
 returns : tie.Need-returns Inv-loop μ-loop
 returns c =
     let a = c .before .before .args in
     let l = c .before .loop in
-    let eight : length (a .t1) ≡ 8 = search needs in
+    let eight : length (a .t1) ≡ LINKS = search needs in
     shifted-end (a .offset) (a .t1) (l .r) (l .i) (omega arith) (l .inv .1)
 
 pub shifted-spec : {M : Type 1} → statement M

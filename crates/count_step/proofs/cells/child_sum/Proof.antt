@@ -7,6 +7,7 @@ use Prim.Native.Nat.{_+_, _-_}
 use mathlib.Core.Path.{_≡_, sym, ap, _∙_}
 use lib.ListN.{length, getD, take}
 use lib.Seq.{length-take-le, getD-take}
+use Rattle.word.specs.Ceilings.{COMPONENTS}
 use Rattle.count_step.proofs.SumLaws.{Sums, sums-start, above-small, component-small, above-enough, sums-more, sums-end}
 use Rattle.count_step.specs.Step.{LARGEST}
 use Rattle.spacing.specs.PascalLaws.{binomial-small}
@@ -25,7 +26,7 @@ rank-without-requires c κs = search needs
 loop-holds : tie.Need-loop-holds Inv-loop μ-loop
 loop-holds c =
     let a = c .before .before .before .args in
-    let seven : length (a .t3) ≡ 7 = (let o = c .before .before .before in search needs) in
+    let seven : length (a .t3) ≡ COMPONENTS = (let o = c .before .before .before in search needs) in
     let s = length-take-le (a .k + 1) (a .t3) (omega arith) in
     sums-start LARGEST (now (a .table)) (a .t2) (take (a .k + 1) (a .t3)) (a .k) s (c .rank-without .result) (c .rank-without .ensures .0) (c .before .before .before .pre .1)
 
@@ -45,7 +46,7 @@ add-part-sum : tie.Need-add-part-sum Inv-loop μ-loop
 add-part-sum c =
     let a = c .before .before .before .before .before .before .args in
     let l = c .before .before .loop in
-    let seven : length (a .t3) ≡ 7 = (let o = c .before .before .before .before .before .before in search needs) in
+    let seven : length (a .t3) ≡ COMPONENTS = (let o = c .before .before .before .before .before .before in search needs) in
     let s = length-take-le (a .k + 1) (a .t3) (omega arith) in
     let G = take (a .k + 1) (a .t3) in
     omega (arith, above-small LARGEST (now (a .table)) (a .t2) G (a .k) s (l .above) (l .below) (l .z) (l .sum) (l .i) (l .inv), l .inv .low, l .inv .reach)
@@ -54,7 +55,7 @@ add-part-sum-2 : tie.Need-add-part-sum-2 Inv-loop μ-loop
 add-part-sum-2 c =
     let a = c .before .before .before .before .before .before .args in
     let l = c .before .before .loop in
-    let seven : length (a .t3) ≡ 7 = (let o = c .before .before .before .before .before .before in search needs) in
+    let seven : length (a .t3) ≡ COMPONENTS = (let o = c .before .before .before .before .before .before in search needs) in
     let s = length-take-le (a .k + 1) (a .t3) (omega arith) in
     let G = take (a .k + 1) (a .t3) in
     omega (arith, above-small LARGEST (now (a .table)) (a .t2) G (a .k) s (l .above) (l .below) (l .z) (l .sum) (l .i) (l .inv), l .inv .low, l .inv .reach, c .before .before .before .before .before .before .pre .2 (l .i))
@@ -66,7 +67,7 @@ part-sum-requires : tie.Need-part-sum-requires Inv-loop μ-loop
 part-sum-requires c κs =
     let a = c .before .before .before .before .before .before .args in
     let l = c .before .before .loop in
-    let seven : length (a .t3) ≡ 7 = (let o = c .before .before .before .before .before .before in search needs) in
+    let seven : length (a .t3) ≡ COMPONENTS = (let o = c .before .before .before .before .before .before in search needs) in
     let s = length-take-le (a .k + 1) (a .t3) (omega arith) in
     let G = take (a .k + 1) (a .t3) in (
       omega (arith, above-small LARGEST (now (a .table)) (a .t2) G (a .k) s (l .above) (l .below) (l .z) (l .sum) (l .i) (l .inv), l .inv .low, l .inv .reach, c .before .before .before .before .before .before .pre .2 (l .i)),
@@ -82,7 +83,7 @@ add-z : tie.Need-add-z Inv-loop μ-loop
 add-z c =
     let a = c .before .before .before .before .before .before .before .before .args in
     let l = c .before .before .before .before .loop in
-    let seven : length (a .t3) ≡ 7 = (let o = c .before .before .before .before .before .before .before .before in search needs) in
+    let seven : length (a .t3) ≡ COMPONENTS = (let o = c .before .before .before .before .before .before .before .before in search needs) in
     let s = length-take-le (a .k + 1) (a .t3) (omega arith) in
     let G = take (a .k + 1) (a .t3) in
     omega (arith, component-small LARGEST (now (a .table)) (a .t2) G (a .k) s (l .above) (l .below) (l .z) (l .sum) (l .i) (l .inv) (c .before .before .wide .result) (c .before .before .wide .ensures ∙ sym (getD-take (a .k + 1) (a .t3) (l .i) 0 (omega (arith, l .inv .reach)))))
@@ -94,7 +95,7 @@ choose-requires : tie.Need-choose-requires Inv-loop μ-loop
 choose-requires c κs =
     let a = c .before .before .before .before .before .before .before .before .args in
     let l = c .before .before .before .before .loop in
-    let seven : length (a .t3) ≡ 7 = (let o = c .before .before .before .before .before .before .before .before in search needs) in
+    let seven : length (a .t3) ≡ COMPONENTS = (let o = c .before .before .before .before .before .before .before .before in search needs) in
     let s = length-take-le (a .k + 1) (a .t3) (omega arith) in
     let G = take (a .k + 1) (a .t3) in
     (omega (arith, component-small LARGEST (now (a .table)) (a .t2) G (a .k) s (l .above) (l .below) (l .z) (l .sum) (l .i) (l .inv) (c .before .before .wide .result) (c .before .before .wide .ensures ∙ sym (getD-take (a .k + 1) (a .t3) (l .i) 0 (omega (arith, l .inv .reach))))), omega arith, c .before .before .before .before .before .before .before .before .pre .3)
@@ -103,7 +104,7 @@ add-below : tie.Need-add-below Inv-loop μ-loop
 add-below c =
     let a = c .before .before .before .before .before .before .before .before .before .args in
     let l = c .before .before .before .before .before .loop in
-    let seven : length (a .t3) ≡ 7 = (let o = c .before .before .before .before .before .before .before .before .before in search needs) in
+    let seven : length (a .t3) ≡ COMPONENTS = (let o = c .before .before .before .before .before .before .before .before .before in search needs) in
     let s = length-take-le (a .k + 1) (a .t3) (omega arith) in
     let G = take (a .k + 1) (a .t3) in
     let cs = component-small LARGEST (now (a .table)) (a .t2) G (a .k) s (l .above) (l .below) (l .z) (l .sum) (l .i) (l .inv) (c .before .before .before .wide .result) (c .before .before .before .wide .ensures ∙ sym (getD-take (a .k + 1) (a .t3) (l .i) 0 (omega (arith, l .inv .reach)))) in
@@ -116,7 +117,7 @@ choose-requires-2 : tie.Need-choose-requires-2 Inv-loop μ-loop
 choose-requires-2 c κs =
     let a = c .before .before .before .before .before .before .before .before .before .args in
     let l = c .before .before .before .before .before .loop in
-    let seven : length (a .t3) ≡ 7 = (let o = c .before .before .before .before .before .before .before .before .before in search needs) in
+    let seven : length (a .t3) ≡ COMPONENTS = (let o = c .before .before .before .before .before .before .before .before .before in search needs) in
     let s = length-take-le (a .k + 1) (a .t3) (omega arith) in
     let G = take (a .k + 1) (a .t3) in
     (omega (arith, component-small LARGEST (now (a .table)) (a .t2) G (a .k) s (l .above) (l .below) (l .z) (l .sum) (l .i) (l .inv) (c .before .before .before .wide .result) (c .before .before .before .wide .ensures ∙ sym (getD-take (a .k + 1) (a .t3) (l .i) 0 (omega (arith, l .inv .reach))))), omega arith, c .before .before .before .before .before .before .before .before .before .pre .3)
@@ -125,7 +126,7 @@ sub-above : tie.Need-sub-above Inv-loop μ-loop
 sub-above c =
     let a = c .before .before .before .before .before .before .before .before .before .before .args in
     let l = c .before .before .before .before .before .before .loop in
-    let seven : length (a .t3) ≡ 7 = (let o = c .before .before .before .before .before .before .before .before .before .before in search needs) in
+    let seven : length (a .t3) ≡ COMPONENTS = (let o = c .before .before .before .before .before .before .before .before .before .before in search needs) in
     let s = length-take-le (a .k + 1) (a .t3) (omega arith) in
     let G = take (a .k + 1) (a .t3) in
     above-enough LARGEST (now (a .table)) (a .t2) G (a .k) s (l .above) (l .below) (l .z) (l .sum) (l .i) (l .inv) (c .before .before .before .before .wide .result) (c .before .before .before .before .wide .ensures ∙ sym (getD-take (a .k + 1) (a .t3) (l .i) 0 (omega (arith, l .inv .reach)))) (omega arith) (c .choose2 .result) (c .choose2 .ensures)
@@ -134,7 +135,7 @@ add-z-2 : tie.Need-add-z-2 Inv-loop μ-loop
 add-z-2 c =
     let a = c .before .before .before .before .before .before .before .before .before .before .args in
     let l = c .before .before .before .before .before .before .loop in
-    let seven : length (a .t3) ≡ 7 = (let o = c .before .before .before .before .before .before .before .before .before .before in search needs) in
+    let seven : length (a .t3) ≡ COMPONENTS = (let o = c .before .before .before .before .before .before .before .before .before .before in search needs) in
     let s = length-take-le (a .k + 1) (a .t3) (omega arith) in
     let G = take (a .k + 1) (a .t3) in
     omega (arith, component-small LARGEST (now (a .table)) (a .t2) G (a .k) s (l .above) (l .below) (l .z) (l .sum) (l .i) (l .inv) (c .before .before .before .before .wide .result) (c .before .before .before .before .wide .ensures ∙ sym (getD-take (a .k + 1) (a .t3) (l .i) 0 (omega (arith, l .inv .reach)))))
@@ -149,7 +150,7 @@ loop-again : tie.Need-loop-again Inv-loop μ-loop
 loop-again c =
     let a = c .before .before .before .before .before .before .before .before .before .before .args in
     let l = c .before .before .before .before .before .before .loop in
-    let seven : length (a .t3) ≡ 7 = (let o = c .before .before .before .before .before .before .before .before .before .before in search needs) in
+    let seven : length (a .t3) ≡ COMPONENTS = (let o = c .before .before .before .before .before .before .before .before .before .before in search needs) in
     let s = length-take-le (a .k + 1) (a .t3) (omega arith) in
     let G = take (a .k + 1) (a .t3) in
     sums-more LARGEST (now (a .table)) (a .t2) G (a .k) s (l .above) (l .below) (l .z) (l .sum) (l .i) (l .inv) (c .before .before .before .before .wide .result) (c .before .before .before .before .wide .ensures ∙ sym (getD-take (a .k + 1) (a .t3) (l .i) 0 (omega (arith, l .inv .reach)))) (omega arith)
@@ -172,7 +173,7 @@ add-part-sum-4 : tie.Need-add-part-sum-4 Inv-loop μ-loop
 add-part-sum-4 c =
     let a = c .before .before .before .before .before .before .args in
     let l = c .before .before .loop in
-    let seven : length (a .t3) ≡ 7 = (let o = c .before .before .before .before .before .before in search needs) in
+    let seven : length (a .t3) ≡ COMPONENTS = (let o = c .before .before .before .before .before .before in search needs) in
     let s = length-take-le (a .k + 1) (a .t3) (omega arith) in
     let G = take (a .k + 1) (a .t3) in
     omega (arith, l .inv .low, l .inv .reach, c .before .before .before .before .before .before .pre .2 (a .k))
@@ -184,7 +185,7 @@ part-sum-requires-2 : tie.Need-part-sum-requires-2 Inv-loop μ-loop
 part-sum-requires-2 c κs =
     let a = c .before .before .before .before .before .before .args in
     let l = c .before .before .loop in
-    let seven : length (a .t3) ≡ 7 = (let o = c .before .before .before .before .before .before in search needs) in
+    let seven : length (a .t3) ≡ COMPONENTS = (let o = c .before .before .before .before .before .before in search needs) in
     let s = length-take-le (a .k + 1) (a .t3) (omega arith) in
     let G = take (a .k + 1) (a .t3) in
     let q : a .k ≡ l .i = omega (arith, l .inv .reach) in (
@@ -201,7 +202,7 @@ returns : tie.Need-returns Inv-loop μ-loop
 returns c =
     let a = c .before .before .before .before .before .before .before .before .args in
     let l = c .before .before .before .before .loop in
-    let seven : length (a .t3) ≡ 7 = (let o = c .before .before .before .before .before .before .before .before in search needs) in
+    let seven : length (a .t3) ≡ COMPONENTS = (let o = c .before .before .before .before .before .before .before .before in search needs) in
     let s = length-take-le (a .k + 1) (a .t3) (omega arith) in
     let G = take (a .k + 1) (a .t3) in
     let q : a .k ≡ l .i = omega (arith, l .inv .reach) in

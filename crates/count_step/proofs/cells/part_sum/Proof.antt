@@ -6,6 +6,7 @@ use borrow.Author.Needs.{needs}
 use native.Mathlib.Omega.{arith}
 use Prim.Native.Nat.{_+_, _-_, _≤_}
 use mathlib.Core.Path.{ap, _∙_}
+use Rattle.word.specs.Ceilings.{COUNTS}
 use Rattle.count_step.proofs.SumLaws.{Part, part-start, part-more, part-end}
 use Rattle.count_step.specs.Step.{LARGEST}
 use Rattle.spacing.specs.PascalLaws.{binomial-small}
@@ -13,7 +14,7 @@ use Rattle.count_step.proofs.cells.part_sum.Statement.{statement}
 use Rattle.count_step.proofs.cells.part_sum.Tie as tie
 
 abbrev Inv-loop : tie.InvT-loop
-Inv-loop table at col first n b end sum₀ z₀ sum z = (end ≤ 21) × Part LARGEST table at col first n end sum z
+Inv-loop table at col first n b end sum₀ z₀ sum z = (end ≤ COUNTS) × Part LARGEST table at col first n end sum z
 
 abbrev μ-loop : tie.MeasureT-loop
 μ-loop table at col first n b end sum₀ z₀ sum z = end - z

@@ -2,6 +2,7 @@
 -- Assumes nothing.
 use mathlib.Core.Path.{_≡_}
 use lib.ListN.{length}
+use Rattle.word.specs.Ceilings.{PATTERNS}
 use Rattle.judge.specs.SetLaws.{set-holds}
 use borrow.Author.Needs.{needs}
 use Rattle.counting.proofs.by_table.all_counts.Statement.{statement}
@@ -19,8 +20,8 @@ counts-requires c κs =
     let q = c .before .before .before .before .pre in
     let r = c .before .before .rows-of in
     let k = c .before .lengths-of in
-    let hr : length (r .result) ≡ 24 = search needs in
-    let hk : length (k .result) ≡ 24 = search needs in
+    let hr : length (r .result) ≡ PATTERNS = search needs in
+    let hk : length (k .result) ≡ PATTERNS = search needs in
     let holds = set-holds (a .patterns) (q .1 .patterns) (r .result) (k .result) hr hk (r .ensures) (k .ensures) in
     (q .0, rw holds (q .1), rw holds (q .2), q .3)
 
@@ -33,8 +34,8 @@ returns c =
     let q = c .before .before .before .before .before .before .before .pre in
     let r = c .before .before .before .before .before .rows-of in
     let k = c .before .before .before .before .lengths-of in
-    let hr : length (r .result) ≡ 24 = search needs in
-    let hk : length (k .result) ≡ 24 = search needs in
+    let hr : length (r .result) ≡ PATTERNS = search needs in
+    let hk : length (k .result) ≡ PATTERNS = search needs in
     let holds = set-holds (a .patterns) (q .1 .patterns) (r .result) (k .result) hr hk (r .ensures) (k .ensures) in
     let n = c .before .before .counts .ensures in
     (rw holds at (n .0), n .1)

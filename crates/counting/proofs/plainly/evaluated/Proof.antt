@@ -4,6 +4,7 @@ use Prim.Native.Nat.{ℕ}
 use mathlib.Core.Path.{_≡_, ap, _∙_}
 use mathlib.Core.List.{List}
 use lib.ListN.{length}
+use Rattle.word.specs.Ceilings.{PATTERNS}
 use Rattle.scheme.specs.SchemeMemory.{schemeIn}
 use Rattle.judge.specs.SetLaws.{set-holds}
 use Rattle.verdict.specs.Value.{countOf}
@@ -23,8 +24,8 @@ plain-count-requires c κs =
     let q = c .before .before .pre in
     let r = c .before .rows-of in
     let k = c .lengths-of in
-    let hr : length (r .result) ≡ 24 = search needs in
-    let hk : length (k .result) ≡ 24 = search needs in
+    let hr : length (r .result) ≡ PATTERNS = search needs in
+    let hk : length (k .result) ≡ PATTERNS = search needs in
     let holds = set-holds (a .patterns) (q .1 .patterns) (r .result) (k .result) hr hk (r .ensures) (k .ensures) in
     (q .0, rw holds (q .1), rw holds (q .2))
 
@@ -34,8 +35,8 @@ returns c =
     let q = c .before .before .before .pre in
     let r = c .before .before .rows-of in
     let k = c .before .lengths-of in
-    let hr : length (r .result) ≡ 24 = search needs in
-    let hk : length (k .result) ≡ 24 = search needs in
+    let hr : length (r .result) ≡ PATTERNS = search needs in
+    let hk : length (k .result) ≡ PATTERNS = search needs in
     let holds = set-holds (a .patterns) (q .1 .patterns) (r .result) (k .result) hr hk (r .ensures) (k .ensures) in
     c .plain-count .ensures ∙ ap (λ (P : List (List ℕ)). countOf P (schemeIn (a .scheme)) (a .n)) holds
 

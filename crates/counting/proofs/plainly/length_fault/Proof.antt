@@ -1,4 +1,4 @@
--- `counting::plainly::length_fault` meets its contract: n is at most 9 or above it.
+-- `counting::plainly::length_fault` meets its contract: n is at most PLAIN_LENGTH or above it.
 -- Assumes nothing.
 use mathlib.Core.Path.{sym}
 use native.Mathlib.Omega.{arith}

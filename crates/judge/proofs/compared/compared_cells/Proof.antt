@@ -5,15 +5,17 @@ use Prim.Native.Nat.{ℕ, _+_, _-_, _*_, _≤_}
 use mathlib.Core.Path.{_≡_, sym, ap, _∙_}
 use mathlib.Core.List.{List}
 use native.Mathlib.Omega.{arith}
+use Rattle.word.specs.Ceilings.{ENTRIES}
 use Rattle.cell.specs.Cell.{mOf}
 use Rattle.scheme.specs.SchemeMemory.{schemeIn}
 use Rattle.verdict.specs.Verdict.{comparedCells}
+use Rattle.claims.specs.EntryMemory.{COMPARED}
 use Rattle.judge.proofs.EntryWalkLaws.{cellsFrom, cells-start, cells-next, cells-end}
 use Rattle.judge.proofs.compared.compared_cells.Statement.{statement}
 use Rattle.judge.proofs.compared.compared_cells.Tie as tie
 
 abbrev Inv-loop : tie.InvT-loop
-Inv-loop m s n sum₀ i₀ sum i = (n ≤ 128) × (i ≤ n) × (sum ≤ 3432 * i) × ((P : List (List ℕ)) → mOf P ≡ m → comparedCells P (schemeIn s) ≡ sum + cellsFrom P s n i)
+Inv-loop m s n sum₀ i₀ sum i = (n ≤ ENTRIES) × (i ≤ n) × (sum ≤ COMPARED * i) × ((P : List (List ℕ)) → mOf P ≡ m → comparedCells P (schemeIn s) ≡ sum + cellsFrom P s n i)
 
 abbrev μ-loop : tie.MeasureT-loop
 μ-loop m s n sum₀ i₀ sum i = n - i

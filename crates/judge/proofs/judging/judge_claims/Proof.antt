@@ -4,6 +4,7 @@ use Prim.Native.Nat.{ℕ}
 use mathlib.Core.Path.{_≡_, sym, ap, _∙_}
 use mathlib.Core.List.{List}
 use lib.ListN.{length}
+use Rattle.word.specs.Ceilings.{PATTERNS}
 use Rattle.word.specs.Finding.{firstFault}
 use Rattle.word.specs.Containment.{patternsOf}
 use Rattle.scheme.specs.SchemeMemory.{patternsIn, schemeIn, faultOf}
@@ -28,8 +29,8 @@ claims-fault-requires c κs =
     let q = c .before .before .pre in
     let r = c .before .rows-of in
     let k = c .lengths-of in
-    let hr : length (r .result) ≡ 24 = search needs in
-    let hk : length (k .result) ≡ 24 = search needs in
+    let hr : length (r .result) ≡ PATTERNS = search needs in
+    let hk : length (k .result) ≡ PATTERNS = search needs in
     (proper-set (a .patterns) (q .patterns) (r .result) (k .result) hr hk (r .ensures) (k .ensures), proper-scheme (a .scheme) (q .scheme))
 
 is-fault-requires : tie.Need-is-fault-requires
@@ -45,8 +46,8 @@ returns c =
     let r = c .before .before .before .before .before .rows-of in
     let k = c .before .before .before .before .lengths-of in
     let f = c .before .before .before .claims-fault in
-    let hr : length (r .result) ≡ 24 = search needs in
-    let hk : length (k .result) ≡ 24 = search needs in
+    let hr : length (r .result) ≡ PATTERNS = search needs in
+    let hk : length (k .result) ≡ PATTERNS = search needs in
     let holds = set-holds (a .patterns) (q .patterns) (r .result) (k .result) hr hk (r .ensures) (k .ensures) in
     let P = patternsIn (a .patterns) in
     let E = schemeIn (a .scheme) in
@@ -73,8 +74,8 @@ returns-2 c =
     let k = c .before .before .before .before .before .before .lengths-of in
     let f = c .before .before .before .before .before .claims-fault in
     let m = c .before .before .longest-length in
-    let hr : length (r .result) ≡ 24 = search needs in
-    let hk : length (k .result) ≡ 24 = search needs in
+    let hr : length (r .result) ≡ PATTERNS = search needs in
+    let hk : length (k .result) ≡ PATTERNS = search needs in
     let holds = set-holds (a .patterns) (q .patterns) (r .result) (k .result) hr hk (r .ensures) (k .ensures) in
     c .answer2 .ensures ∙
     claims-answer (a .patterns) (a .scheme) (patternsOf (r .result) (k .result) (a .patterns .count)) (f .result) (m .result) (c .before .compared-cells .result)

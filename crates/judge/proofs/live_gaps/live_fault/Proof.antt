@@ -4,6 +4,7 @@ use borrow.Author.Needs.{needs}
 use Prim.Native.Nat.{_-_, _≤_}
 use mathlib.Core.Path.{_≡_, sym, ap, _∙_}
 use native.Mathlib.Omega.{arith}
+use Rattle.word.specs.Ceilings.{ENTRIES}
 use Rattle.word.specs.Containment.{patternsOf}
 use Rattle.word.specs.declared.refusal.Refusal.the-variants.{LiveGap}
 use Rattle.scheme.specs.WellFormed.{firstAt}
@@ -15,7 +16,7 @@ use Rattle.judge.proofs.live_gaps.live_fault.Statement.{statement}
 use Rattle.judge.proofs.live_gaps.live_fault.Tie as tie
 
 abbrev Inv-loop : tie.InvT-loop
-Inv-loop set lengths count s n i₀ i = (n ≤ 128) × (i ≤ n) × (firstAt LiveGap (liveEntry (patternsOf set lengths count)) 0 (schemeIn s) ≡ firstAt LiveGap (liveEntry (patternsOf set lengths count)) i (from (entryAt s) n i))
+Inv-loop set lengths count s n i₀ i = (n ≤ ENTRIES) × (i ≤ n) × (firstAt LiveGap (liveEntry (patternsOf set lengths count)) 0 (schemeIn s) ≡ firstAt LiveGap (liveEntry (patternsOf set lengths count)) i (from (entryAt s) n i))
 
 abbrev μ-loop : tie.MeasureT-loop
 μ-loop set lengths count s n i₀ i = n - i

@@ -5,16 +5,17 @@ use Prim.Native.Nat.{ℕ, _-_, _%_, _≤_, _<_}
 use mathlib.Core.Path.{_≡_, refl, _∙_}
 use native.Mathlib.Omega.{arith}
 use lib.ListN.{length, getD, length-set}
+use Rattle.word.specs.Ceilings.{PATTERNS}
 use Rattle.scheme.specs.SchemeMemory.{noPattern}
 use Rattle.claims.specs.EntryMemoryLaws.{rows-more}
 use Rattle.judge.proofs.sets.lengths_of.Statement.{statement}
 use Rattle.judge.proofs.sets.lengths_of.Tie as tie
 
 abbrev Inv-loop : tie.InvT-loop
-Inv-loop s lengths₀ i₀ lengths i = (length lengths ≡ 24) × (i ≤ 24) × ((j : ℕ) → j < i → getD lengths j 0 ≡ (getD (s .items) j noPattern) .length % 256)
+Inv-loop s lengths₀ i₀ lengths i = (length lengths ≡ PATTERNS) × (i ≤ PATTERNS) × ((j : ℕ) → j < i → getD lengths j 0 ≡ (getD (s .items) j noPattern) .length % 256)
 
 abbrev μ-loop : tie.MeasureT-loop
-μ-loop s lengths₀ i₀ lengths i = 24 - i
+μ-loop s lengths₀ i₀ lengths i = PATTERNS - i
 
 loop-holds : tie.Need-loop-holds Inv-loop μ-loop
 loop-holds c = (refl, omega arith, λ i h. absurd (omega arith))

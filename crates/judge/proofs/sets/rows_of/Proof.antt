@@ -6,16 +6,17 @@ use mathlib.Core.Path.{_≡_, refl, _∙_}
 use mathlib.Core.List.{List, []}
 use native.Mathlib.Omega.{arith}
 use lib.ListN.{length, getD, length-set}
+use Rattle.word.specs.Ceilings.{DIGITS, PATTERNS}
 use Rattle.scheme.specs.SchemeMemory.{noPattern}
 use Rattle.claims.specs.EntryMemoryLaws.{rows-more}
 use Rattle.judge.proofs.sets.rows_of.Statement.{statement}
 use Rattle.judge.proofs.sets.rows_of.Tie as tie
 
 abbrev Inv-loop : tie.InvT-loop
-Inv-loop s rows₀ i₀ rows i = (length rows ≡ 24) × (i ≤ 24) × ((j : ℕ) → j < i → (getD rows j [] ≡ (getD (s .items) j noPattern) .digits) × (length (getD rows j []) ≡ 8))
+Inv-loop s rows₀ i₀ rows i = (length rows ≡ PATTERNS) × (i ≤ PATTERNS) × ((j : ℕ) → j < i → (getD rows j [] ≡ (getD (s .items) j noPattern) .digits) × (length (getD rows j []) ≡ DIGITS))
 
 abbrev μ-loop : tie.MeasureT-loop
-μ-loop s rows₀ i₀ rows i = 24 - i
+μ-loop s rows₀ i₀ rows i = PATTERNS - i
 
 loop-holds : tie.Need-loop-holds Inv-loop μ-loop
 loop-holds c = (refl, omega arith, λ i h. absurd (omega arith))
@@ -47,7 +48,7 @@ loop-again c =
     let items = c .before .before .before .before .args .t1 .items in (
       length-set (l .rows) (l .i) (c .digits-of .result) ∙ l .inv .0,
       omega arith,
-      rows-more (λ (j : ℕ) (x : List ℕ). (x ≡ (getD items j noPattern) .digits) × (length x ≡ 8)) (l .rows) [] (l .i) (c .digits-of .result)
+      rows-more (λ (j : ℕ) (x : List ℕ). (x ≡ (getD items j noPattern) .digits) × (length x ≡ DIGITS)) (l .rows) [] (l .i) (c .digits-of .result)
           (omega (arith, l .inv .0)) (c .digits-of .ensures) (l .inv .2),
     )
 

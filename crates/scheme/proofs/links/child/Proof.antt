@@ -6,13 +6,14 @@ use mathlib.Core.List.{map}
 use native.Mathlib.Omega.{arith}
 use borrow.Author.Needs.{needs}
 use lib.ListN.{length, take, length-set}
+use Rattle.word.specs.Ceilings.{PREFIX}
 use Rattle.word.specs.Word.{bump}
 use Rattle.scheme.proofs.PrefixLaws.{digit-bounds, child-more, child-whole}
 use Rattle.scheme.proofs.links.child.Statement.{statement}
 use Rattle.scheme.proofs.links.child.Tie as tie
 
 abbrev Inv-loop : tie.InvT-loop
-Inv-loop k a prefix digits₀ j₀ digits j = (take j digits ≡ map (bump a) (take j prefix)) × (length digits ≡ 6) × (j ≤ k)
+Inv-loop k a prefix digits₀ j₀ digits j = (take j digits ≡ map (bump a) (take j prefix)) × (length digits ≡ PREFIX) × (j ≤ k)
 
 abbrev μ-loop : tie.MeasureT-loop
 μ-loop k a prefix digits₀ j₀ digits j = k - j
@@ -26,7 +27,7 @@ array-read-raised c = search needs
 raised-requires : tie.Need-raised-requires Inv-loop μ-loop
 raised-requires c κs =
     let a = c .before .before .args in
-    let six : length (a .t1) ≡ 6 = search needs in
+    let six : length (a .t1) ≡ PREFIX = search needs in
     omega (arith, digit-bounds (a .t1) (a .k) (c .before .loop .j) (c .before .before .pre .1) (omega arith) (omega arith))
 
 array-write-digits : tie.Need-array-write-digits Inv-loop μ-loop
@@ -42,7 +43,7 @@ loop-again : tie.Need-loop-again Inv-loop μ-loop
 loop-again c =
     let a = c .before .before .before .args in
     let l = c .before .before .loop in
-    let six : length (a .t1) ≡ 6 = search needs in (
+    let six : length (a .t1) ≡ PREFIX = search needs in (
       child-more (l .digits) (a .t1) (l .j) (a .a) (c .raised .result) (omega arith) (omega arith) (c .raised .ensures) (l .inv .0),
       length-set (l .digits) (l .j) (c .raised .result) ∙ l .inv .1,
       omega arith,

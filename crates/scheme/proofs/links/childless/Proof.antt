@@ -7,6 +7,7 @@ use native.Mathlib.Omega.{arith}
 use borrow.Author.Needs.{needs}
 use lib.ListN.{length, take}
 use lib.Seq.{length-take-le}
+use Rattle.word.specs.Ceilings.{PREFIX}
 use Rattle.word.specs.Lists.{any}
 use Rattle.cell.specs.Cell.{children}
 use Rattle.cell.specs.Child.{childAt}
@@ -18,7 +19,7 @@ use Rattle.scheme.proofs.links.childless.Statement.{statement}
 use Rattle.scheme.proofs.links.childless.Tie as tie
 
 abbrev Inv-loop : tie.InvT-loop
-Inv-loop s prefix k last a₀ a = (any (unlisted s) (children (take k prefix)) ≡ anyFrom (missing s (take k prefix)) (k + 2) a) × (last ≡ k + 1) × (k < 6)
+Inv-loop s prefix k last a₀ a = (any (unlisted s) (children (take k prefix)) ≡ anyFrom (missing s (take k prefix)) (k + 2) a) × (last ≡ k + 1) × (k < PREFIX)
 
 abbrev μ-loop : tie.MeasureT-loop
 μ-loop s prefix k last a₀ a = k + 2 - a
@@ -27,8 +28,8 @@ returns : tie.Need-returns Inv-loop μ-loop
 returns c =
     let a = c .before .args in
     let h = c .before .pre in
-    let six : length (a .prefix) ≡ 6 = search needs in
-    let size : length (take (a .k) (a .prefix)) ≡ 6 = omega (arith, length-take-le (a .k) (a .prefix) (omega arith)) in
+    let six : length (a .prefix) ≡ PREFIX = search needs in
+    let size : length (take (a .k) (a .prefix)) ≡ PREFIX = omega (arith, length-take-le (a .k) (a .prefix) (omega arith)) in
     sym (all-childless (a .s) (take (a .k) (a .prefix)) (h .0) (h .2) size)
 
 cast-last : tie.Need-cast-last Inv-loop μ-loop
@@ -41,7 +42,7 @@ loop-holds : tie.Need-loop-holds Inv-loop μ-loop
 loop-holds c =
     let a = c .before .args in
     let h = c .before .pre in
-    let six : length (a .prefix) ≡ 6 = search needs in
+    let six : length (a .prefix) ≡ PREFIX = search needs in
     (children-start (unlisted (a .s)) (a .prefix) (a .k) (h .2) (omega arith), search needs, omega arith)
 
 child-requires : tie.Need-child-requires Inv-loop μ-loop

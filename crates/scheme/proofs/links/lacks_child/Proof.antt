@@ -6,6 +6,7 @@ use mathlib.Core.Bool.{true}
 use native.Mathlib.Omega.{arith}
 use borrow.Author.Needs.{needs}
 use lib.ListN.{length, take}
+use Rattle.word.specs.Ceilings.{PREFIX}
 use Rattle.word.specs.Word.{isPerm}
 use Rattle.scheme.specs.Links.{prefixesIn}
 use Rattle.scheme.specs.MemoryLaws.{padded-within}
@@ -20,8 +21,8 @@ childless-requires : tie.Need-childless-requires
 childless-requires c κs =
     let a = c .before .before .before .args in
     let h = c .before .before .before .pre in
-    let six : length (a .e .prefix) ≡ 6 = search needs in
-    let short : a .e .length ≤ 6 = h .1 .short in
+    let six : length (a .e .prefix) ≡ PREFIX = search needs in
+    let short : a .e .length ≤ PREFIX = h .1 .short in
     let perm : isPerm (take (a .e .length) (a .e .prefix)) ≡ true =
     ap isPerm (sym (padded-within (a .e .length) (a .e .prefix) (omega arith))) ∙ h .1 .perm in
     (h .0, short, perm)
@@ -33,8 +34,8 @@ returns : tie.Need-returns
 returns c =
     let a = c .before .before .before .before .args in
     let h = c .before .before .before .before .pre in
-    let six : length (a .e .prefix) ≡ 6 = search needs in
-    let short : a .e .length ≤ 6 = h .1 .short in
+    let six : length (a .e .prefix) ≡ PREFIX = search needs in
+    let short : a .e .length ≤ PREFIX = h .1 .short in
     c .childless .ensures ∙
     sym (expand-child (prefixesIn (a .s)) (a .e .prefix) (a .e .length) (a .e .rule) (omega arith) (c .before .enum-told .given .1))
 

@@ -6,6 +6,7 @@ use mathlib.Core.Bool.{true, not}
 use native.Mathlib.Omega.{arith}
 use borrow.Author.Needs.{needs}
 use lib.ListN.{length, take}
+use Rattle.word.specs.Ceilings.{PREFIX}
 use Rattle.word.specs.Word.{isPerm}
 use Rattle.scheme.specs.WellFormed.{listed}
 use Rattle.scheme.specs.Links.{prefixesIn}
@@ -24,8 +25,8 @@ shorter-requires : tie.Need-shorter-requires
 shorter-requires c κs =
     let a = c .before .before .before .before .args in
     let h = c .before .before .before .before .pre in
-    let six : length (a .e .prefix) ≡ 6 = search needs in
-    let short : a .e .length ≤ 6 = h .1 .short in
+    let six : length (a .e .prefix) ≡ PREFIX = search needs in
+    let short : a .e .length ≤ PREFIX = h .1 .short in
     let r = c .before .rule .given .0 .0 in
     let at = position-inside (a .e .length) r (a .e .rule) (h .1 .inside) (c .before .rule .given .1) in
     let perm : isPerm (take (a .e .length) (a .e .prefix)) ≡ true =
@@ -49,8 +50,8 @@ returns-2 : tie.Need-returns-2
 returns-2 c =
     let a = c .before .before .before .before .before .before .args in
     let h = c .before .before .before .before .before .before .pre in
-    let six : length (a .e .prefix) ≡ 6 = search needs in
-    let short : a .e .length ≤ 6 = h .1 .short in
+    let six : length (a .e .prefix) ≡ PREFIX = search needs in
+    let short : a .e .length ≤ PREFIX = h .1 .short in
     let r = c .before .before .before .rule .given .0 .0 in
     ap not (c .has-entry .ensures ∙ ap (listed (prefixesIn (a .s))) (c .before .shorter .ensures)) ∙
     sym (delete-target (prefixesIn (a .s)) (a .e .prefix) (a .e .length) (a .e .rule) r (omega arith) (c .before .before .before .rule .given .1))

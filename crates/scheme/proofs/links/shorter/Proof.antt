@@ -7,6 +7,7 @@ use native.Mathlib.Omega.{arith}
 use borrow.Author.Needs.{needs}
 use lib.ListN.{length, take, getD, length-set}
 use lib.Seq.{take-all}
+use Rattle.word.specs.Ceilings.{PREFIX}
 use Rattle.word.specs.Word.{bump}
 use Rattle.word.specs.Vocabulary.{unbump}
 use Rattle.cell.specs.Cell.{deleted}
@@ -15,7 +16,7 @@ use Rattle.scheme.proofs.links.shorter.Statement.{statement}
 use Rattle.scheme.proofs.links.shorter.Tie as tie
 
 abbrev Inv-loop : tie.InvT-loop
-Inv-loop k r prefix at v digits₀ j₀ digits j = (take j digits ≡ take j (deleted (r ∷ []) (take k prefix))) × (length digits ≡ 6) × (j ≤ k - 1)
+Inv-loop k r prefix at v digits₀ j₀ digits j = (take j digits ≡ take j (deleted (r ∷ []) (take k prefix))) × (length digits ≡ PREFIX) × (j ≤ k - 1)
 
 abbrev μ-loop : tie.MeasureT-loop
 μ-loop k r prefix at v digits₀ j₀ digits j = k - 1 - j
@@ -39,7 +40,7 @@ lowered-requires : tie.Need-lowered-requires Inv-loop μ-loop
 lowered-requires c κs =
     let a = c .before .before .before .args in
     let j = c .before .before .loop .j in
-    let six : length (a .t1) ≡ 6 = search needs in
+    let six : length (a .t1) ≡ PREFIX = search needs in
     let inside : bump (a .r - 1) j < a .k = bump-inside (a .r - 1) j (a .k) (omega arith) in
     omega (arith, c .kept .ensures, digit-bounds (a .t1) (a .k) (bump (a .r - 1) j) (c .before .before .before .pre .3) (omega arith) inside)
 
@@ -57,7 +58,7 @@ loop-again c =
     let a = c .before .before .before .before .args in
     let l = c .before .before .before .loop in
     let h = c .before .before .before .before .pre in
-    let six : length (a .t1) ≡ 6 = search needs in
+    let six : length (a .t1) ≡ PREFIX = search needs in
     let value : c .lowered .result ≡ unbump (getD (a .t1) (a .r - 1) 0) (getD (a .t1) (bump (a .r - 1) (l .j)) 0) =
     c .lowered .ensures ∙ ap (unbump (getD (a .t1) (a .r - 1) 0)) (c .before .kept .ensures) in (
       shorter-more (a .t1) (a .k) (a .r) (h .3) (h .0) (h .1) (omega arith) (l .digits) (l .j) (c .lowered .result) (omega arith) (omega arith) value (l .inv .0),
@@ -70,7 +71,7 @@ returns c =
     let a = c .before .before .args in
     let l = c .before .loop in
     let h = c .before .before .pre in
-    let six : length (a .t1) ≡ 6 = search needs in
+    let six : length (a .t1) ≡ PREFIX = search needs in
     let all : l .j ≡ a .k - 1 = omega arith in
     let front : take (a .k - 1) (l .digits) ≡ take (a .k - 1) (deleted (a .r ∷ []) (take (a .k) (a .t1))) = rw all at (l .inv .0) in
     let size = shorter-size (a .t1) (a .k) (a .r) (h .3) (h .0) (h .1) (omega arith) in

@@ -4,6 +4,7 @@ use native.Mathlib.Omega.{arith}
 use Prim.Native.Nat.{_+_, _*_, _-_}
 use mathlib.Core.Path.{_≡_, sym, ap, ap₂, _∙_}
 use lib.ListN.{getD}
+use Rattle.word.specs.Ceilings.{COLUMNS}
 use Rattle.cell.specs.Binomial.{binomial}
 use Rattle.cell.specs.BinomialLaws.{binomial-above}
 use Rattle.spacing.specs.RankLaws.{binomial-zero}
@@ -53,7 +54,7 @@ add-result c =
     let a = c .before .before .args in
     let p = c .before .before .pre .2 in
     let m = a .n - 1 in
-    let o : 8 * (a .n - 1) + (a .k) - 1 ≡ 8 * (a .n - 1) + (a .k - 1) = omega arith in
+    let o : COLUMNS * (a .n - 1) + (a .k) - 1 ≡ COLUMNS * (a .n - 1) + (a .k - 1) = omega arith in
     let l = ap (λ i. getD (a .t1) i 0) o ∙ p .rows (a .n - 1) (a .k - 1) (omega arith) (omega arith) in
     let r = p .rows (a .n - 1) (a .k) (omega arith) (omega arith) in
     omega (arith, binomial-small (a .n - 1) (a .k - 1) (omega arith), binomial-small (a .n - 1) (a .k) (omega arith))
@@ -62,7 +63,7 @@ returns-3 : tie.Need-returns-3
 returns-3 c =
     let a = c .before .before .args in
     let p = c .before .before .pre .2 in
-    let o : 8 * (a .n - 1) + (a .k) - 1 ≡ 8 * (a .n - 1) + (a .k - 1) = omega arith in
+    let o : COLUMNS * (a .n - 1) + (a .k) - 1 ≡ COLUMNS * (a .n - 1) + (a .k - 1) = omega arith in
     let l = ap (λ i. getD (a .t1) i 0) o ∙ p .rows (a .n - 1) (a .k - 1) (omega arith) (omega arith) in
     let r = p .rows (a .n - 1) (a .k) (omega arith) (omega arith) in
     ap₂ _+_ l r ∙ sym (pascal-sum (a .n) (a .k) (omega arith) (omega arith))

@@ -3,16 +3,17 @@
 use borrow.Author.Needs.{needs}
 use native.Mathlib.Omega.{arith}
 use Prim.Native.Nat.{_≤_, _-_}
+use Rattle.word.specs.Ceilings.{COLUMNS}
 use Rattle.spacing.specs.Pascal.{PascalTo}
 use Rattle.spacing.specs.PascalLaws.{pascal-more, pascal-next}
 use Rattle.spacing.proofs.binomials.with_row.Statement.{statement}
 use Rattle.spacing.proofs.binomials.with_row.Tie as tie
 
 abbrev Inv-loop : tie.InvT-loop
-Inv-loop n b₀ k₀ b k = (k ≤ 8) × PascalTo n k b
+Inv-loop n b₀ k₀ b k = (k ≤ COLUMNS) × PascalTo n k b
 
 abbrev μ-loop : tie.MeasureT-loop
-μ-loop n b₀ k₀ b k = 8 - k
+μ-loop n b₀ k₀ b k = COLUMNS - k
 
 loop-holds : tie.Need-loop-holds Inv-loop μ-loop
 loop-holds c = search needs

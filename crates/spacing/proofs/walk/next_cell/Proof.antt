@@ -6,6 +6,7 @@ use Prim.Native.Nat.{_≤_, _-_, _+_, ℕ}
 use mathlib.Core.Path.{_≡_, refl, ap, _∙_}
 use lib.ListN.{length, getD, take, set}
 use mathlib.Core.List.{List}
+use Rattle.word.specs.Ceilings.{COMPONENTS}
 use Rattle.spacing.proofs.RankWalkLaws.{Zeros, zeros-more, first-small, found-memory, none-memory}
 use Rattle.spacing.proofs.walk.next_cell.Statement.{statement}
 use Rattle.spacing.proofs.walk.next_cell.Tie as tie
@@ -37,7 +38,7 @@ array-write-n-2 c = search needs
 add-n : tie.Need-add-n Inv-loop μ-loop
 add-n c =
     let a = c .before .before .before .args in
-    let seven : length (a .t1) ≡ 7 = search needs in
+    let seven : length (a .t1) ≡ COMPONENTS = search needs in
     omega (arith, first-small (a .t1) (a .k) (omega arith))
 
 sub-n-2 : tie.Need-sub-n-2 Inv-loop μ-loop
@@ -50,7 +51,7 @@ returns : tie.Need-returns Inv-loop μ-loop
 returns c =
     let a = c .before .before .before .args in
     let l = c .before .before .loop in
-    let seven : length (a .t1) ≡ 7 = search needs in
+    let seven : length (a .t1) ≡ COMPONENTS = search needs in
     ap (λ (u : List ℕ). take (a .k + 1) (set (set u (l .i) (getD (a .t1) (l .i) 0 - 1)) (l .i - 1) (getD (a .t1) 0 0 + 1))) (l .inv .2) ∙
     found-memory (a .t1) (a .k) (omega arith) (l .i) (getD (a .t1) (l .i) 0) (l .inv .0) (omega arith) (l .inv .3) refl (c .if1 .taken)
 
@@ -73,7 +74,7 @@ returns-2 : tie.Need-returns-2 Inv-loop μ-loop
 returns-2 c =
     let a = c .before .before .args in
     let l = c .before .loop in
-    let seven : length (a .t1) ≡ 7 = search needs in
+    let seven : length (a .t1) ≡ COMPONENTS = search needs in
     let e : l .i ≡ a .k + 1 = omega arith in
     let z : Zeros (a .t1) (a .k + 1) = rw (← e) (l .inv .3) in
     ap (λ (u : List ℕ). take (a .k + 1) (set u (a .k) (getD (a .t1) 0 0))) (l .inv .2) ∙ none-memory (a .t1) (a .k) (omega arith) z

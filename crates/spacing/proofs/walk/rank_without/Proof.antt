@@ -4,6 +4,7 @@ use borrow.Author.Needs.{needs}
 use native.Mathlib.Omega.{arith}
 use Prim.Native.Nat.{_-_, _+_}
 use lib.ListN.{take, length, getD}
+use Rattle.word.specs.Ceilings.{COMPONENTS}
 use Rattle.spacing.proofs.RankWalkLaws.{Walk, walk-start, walk-leave, walk-keep, walk-end, next-small}
 use lib.Seq.{length-take-le, getD-take}
 use mathlib.Core.Path.{_≡_, sym, _∙_}
@@ -26,7 +27,7 @@ wide-requires c κs = search needs
 loop-holds : tie.Need-loop-holds Inv-loop μ-loop
 loop-holds c =
     let a = c .before .before .args in
-    let seven : length (a .t1) ≡ 7 = (let o = c .before .before in search needs) in
+    let seven : length (a .t1) ≡ COMPONENTS = (let o = c .before .before in search needs) in
     let s = length-take-le (a .k + 1) (a .t1) (omega arith) in
     let z : c .wide .result ≡ getD (take (a .k + 1) (a .t1)) 0 0 = c .wide .ensures ∙ sym (getD-take (a .k + 1) (a .t1) 0 0 (omega arith)) in
     rw z (walk-start (take (a .k + 1) (a .t1)) (a .k) (a .v) (a .start) s (c .before .before .pre .2))
@@ -41,7 +42,7 @@ add-z : tie.Need-add-z Inv-loop μ-loop
 add-z c =
     let a = c .before .before .before .before .before .before .args in
     let l = c .before .before .before .loop in
-    let seven : length (a .t1) ≡ 7 = (let o = c .before .before .before .before .before .before in search needs) in
+    let seven : length (a .t1) ≡ COMPONENTS = (let o = c .before .before .before .before .before .before in search needs) in
     let s = length-take-le (a .k + 1) (a .t1) (omega arith) in
     omega (
       arith,
@@ -59,7 +60,7 @@ loop-again : tie.Need-loop-again Inv-loop μ-loop
 loop-again c =
     let a = c .before .before .before .before .before .before .args in
     let l = c .before .before .before .loop in
-    let seven : length (a .t1) ≡ 7 = (let o = c .before .before .before .before .before .before in search needs) in
+    let seven : length (a .t1) ≡ COMPONENTS = (let o = c .before .before .before .before .before .before in search needs) in
     let s = length-take-le (a .k + 1) (a .t1) (omega arith) in
     walk-leave (take (a .k + 1) (a .t1)) (a .k) (a .v) (a .start) s (l .z) (l .count) (l .rank) (l .t) (l .inv) (omega arith) (c .before .wide2 .result)
     (c .before .wide2 .ensures ∙ sym (getD-take (a .k + 1) (a .t1) (l .t) 0 (omega arith))) (c .if1 .taken)
@@ -84,7 +85,7 @@ add-z-3 : tie.Need-add-z-3 Inv-loop μ-loop
 add-z-3 c =
     let a = c .before .before .before .before .before .before .before .args in
     let l = c .before .before .before .before .loop in
-    let seven : length (a .t1) ≡ 7 = (let o = c .before .before .before .before .before .before .before in search needs) in
+    let seven : length (a .t1) ≡ COMPONENTS = (let o = c .before .before .before .before .before .before .before in search needs) in
     let s = length-take-le (a .k + 1) (a .t1) (omega arith) in
     omega (
       arith,
@@ -102,7 +103,7 @@ loop-again-2 : tie.Need-loop-again-2 Inv-loop μ-loop
 loop-again-2 c =
     let a = c .before .before .before .before .before .before .before .args in
     let l = c .before .before .before .before .loop in
-    let seven : length (a .t1) ≡ 7 = (let o = c .before .before .before .before .before .before .before in search needs) in
+    let seven : length (a .t1) ≡ COMPONENTS = (let o = c .before .before .before .before .before .before .before in search needs) in
     let s = length-take-le (a .k + 1) (a .t1) (omega arith) in
     walk-keep (take (a .k + 1) (a .t1)) (a .k) (a .v) (a .start) s (l .z) (l .count) (l .rank) (l .t) (l .inv) (omega arith) (c .before .before .wide2 .result) (c .choose .result)
     (c .before .before .wide2 .ensures ∙ sym (getD-take (a .k + 1) (a .t1) (l .t) 0 (omega arith))) (c .choose .ensures) (c .before .if1 .left)
@@ -111,7 +112,7 @@ returns : tie.Need-returns Inv-loop μ-loop
 returns c =
     let a = c .before .before .before .before .args in
     let l = c .before .loop in
-    let seven : length (a .t1) ≡ 7 = (let o = c .before .before .before .before in search needs) in
+    let seven : length (a .t1) ≡ COMPONENTS = (let o = c .before .before .before .before in search needs) in
     let s = length-take-le (a .k + 1) (a .t1) (omega arith) in (
       walk-end (take (a .k + 1) (a .t1)) (a .k) (a .v) (a .start) s (l .z) (l .count) (l .rank) (l .t) (l .inv) (omega arith),
       omega (arith, l .inv .small, l .inv .high),

@@ -4,6 +4,7 @@ use mathlib.Core.Path.{_≡_, sym, ap, _∙_}
 use native.Mathlib.Omega.{arith}
 use lib.ListN.{length}
 use lib.Seq.{length-take-le}
+use Rattle.word.specs.Ceilings.{PREFIX}
 use Rattle.word.specs.Word.{isPerm}
 use Rattle.scheme.specs.MemoryLaws.{padded-within}
 use borrow.Author.Needs.{needs}
@@ -12,13 +13,13 @@ use Rattle.wellformed.proofs.entry_tests.is_permuted.Tie as tie
 
 array-share-prefix-p : tie.Need-array-share-prefix-p
 array-share-prefix-p c =
-    let six : length (c .before .args .e .prefix) ≡ 6 = search needs in
+    let six : length (c .before .args .e .prefix) ≡ PREFIX = search needs in
     omega (arith, c .before .pre .short)
 
 slice-aggregate-is-permutation : tie.Need-slice-aggregate-is-permutation
 slice-aggregate-is-permutation c =
     let e = c .before .before .args .e in
-    let six : length (e .prefix) ≡ 6 = search needs in
+    let six : length (e .prefix) ≡ PREFIX = search needs in
     sym (length-take-le (e .length) (e .prefix) (omega (arith, c .before .before .pre .short)))
 
 is-permutation-requires : tie.Need-is-permutation-requires
@@ -27,7 +28,7 @@ is-permutation-requires c κs = search needs
 returns : tie.Need-returns
 returns c =
     let e = c .before .before .before .args .e in
-    let six : length (e .prefix) ≡ 6 = search needs in
+    let six : length (e .prefix) ≡ PREFIX = search needs in
     c .is-permutation .ensures ∙ ap isPerm (sym (padded-within (e .length) (e .prefix) (omega (arith, c .before .before .before .pre .short))))
 
 pub is-permuted-spec : {M : Type 1} → statement M

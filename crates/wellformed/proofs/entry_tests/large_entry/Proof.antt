@@ -4,6 +4,7 @@ use Prim.Native.Nat.{_-_, _≤_}
 use mathlib.Core.Path.{_≡_, sym, _∙_}
 use borrow.Author.Needs.{needs}
 use native.Mathlib.Omega.{arith}
+use Rattle.word.specs.Ceilings.{GAPS}
 use Rattle.scheme.specs.WellFormed.{largeGap, largeEntry}
 use Rattle.scheme.specs.SchemeMemory.{entryIn}
 use Rattle.word.specs.Lists.{any}
@@ -14,7 +15,7 @@ use Rattle.wellformed.proofs.entry_tests.large_entry.Statement.{stateme
 use Rattle.wellformed.proofs.entry_tests.large_entry.Tie as tie
 
 abbrev Inv-loop : tie.InvT-loop
-Inv-loop e k n j₀ j = (j ≤ n) × (n ≤ 8) × (largeEntry (entryIn e) ≡ any largeGap (from (gapAt e) n j))
+Inv-loop e k n j₀ j = (j ≤ n) × (n ≤ GAPS) × (largeEntry (entryIn e) ≡ any largeGap (from (gapAt e) n j))
 
 abbrev μ-loop : tie.MeasureT-loop
 μ-loop e k n j₀ j = n - j

@@ -4,6 +4,7 @@ use Prim.Native.Nat.{_-_, _≤_}
 use mathlib.Core.Path.{_≡_, sym, ap, _∙_}
 use borrow.Author.Needs.{needs}
 use native.Mathlib.Omega.{arith}
+use Rattle.word.specs.Ceilings.{ENTRIES}
 use Rattle.scheme.specs.WellFormed.{firstAt, largeEntry}
 use Rattle.scheme.specs.SchemeMemory.{faultOf, schemeIn}
 use Rattle.word.specs.declared.refusal.Refusal.the-variants.{Oversize}
@@ -14,7 +15,7 @@ use Rattle.wellformed.proofs.entry_tests.large_fault.Statement.{stateme
 use Rattle.wellformed.proofs.entry_tests.large_fault.Tie as tie
 
 abbrev Inv-loop : tie.InvT-loop
-Inv-loop s n i₀ i = (i ≤ n) × (n ≤ 128) × (largeFinding (schemeIn s) ≡ firstAt Oversize largeEntry i (from (entryAt s) n i))
+Inv-loop s n i₀ i = (i ≤ n) × (n ≤ ENTRIES) × (largeFinding (schemeIn s) ≡ firstAt Oversize largeEntry i (from (entryAt s) n i))
 
 abbrev μ-loop : tie.MeasureT-loop
 μ-loop s n i₀ i = n - i

@@ -7,6 +7,7 @@ use native.Mathlib.Omega.{arith}
 use lib.ListN.{length, drop}
 use lib.Dec.{ltb}
 use borrow.Author.Tests.{lt-ltb, le-ltb}
+use Rattle.word.specs.Ceilings.{COMPONENTS, TOTAL}
 use Rattle.scheme.specs.WellFormed.{largeGap}
 use Rattle.scheme.specs.SchemeMemory.{padded, gapIn}
 use Rattle.cell.specs.Cell.{total}
@@ -15,7 +16,7 @@ use Rattle.wellformed.proofs.entry_tests.large_gap.Statement.{statement
 use Rattle.wellformed.proofs.entry_tests.large_gap.Tie as tie
 
 abbrev Inv-loop : tie.InvT-loop
-Inv-loop b n sum₀ i₀ sum i = (sum ≤ 8) × (i ≤ n) × (n ≤ 7) × (n ≡ b .width) × (largeGap (gapIn b) ≡ ltb 8 (sum + total (drop i (padded n (b .parts)))))
+Inv-loop b n sum₀ i₀ sum i = (sum ≤ TOTAL) × (i ≤ n) × (n ≤ COMPONENTS) × (n ≡ b .width) × (largeGap (gapIn b) ≡ ltb TOTAL (sum + total (drop i (padded n (b .parts)))))
 
 abbrev μ-loop : tie.MeasureT-loop
 μ-loop b n sum₀ i₀ sum i = n - i
@@ -27,7 +28,7 @@ loop-holds : tie.Need-loop-holds Inv-loop μ-loop
 loop-holds c =
     let b = c .before .args .t1 in
     let start : total (gapIn b) ≡ 0 + total (gapIn b) = omega arith in
-    (omega arith, omega arith, c .if1 .left, refl, gap-by-total b (c .if1 .left) ∙ ap (ltb 8) start)
+    (omega arith, omega arith, c .if1 .left, refl, gap-by-total b (c .if1 .left) ∙ ap (ltb TOTAL) start)
 
 element-copy-out-wide : tie.Need-element-copy-out-wide Inv-loop μ-loop
 element-copy-out-wide c = search needs
@@ -42,9 +43,9 @@ returns-2 : tie.Need-returns-2 Inv-loop μ-loop
 returns-2 c =
     let b = c .before .before .before .before .before .before .args .t1 in
     let l = c .before .before .before .before .loop in
-    let seven : length (b .parts) ≡ 7 = search needs in
+    let seven : length (b .parts) ≡ COMPONENTS = search needs in
     let more = total-more (b .parts) (b .width) (omega arith) (l .i) (omega arith) in
-    sym (l .inv .4 ∙ lt-ltb 8 (l .sum + total (drop (l .i) (gapIn b))) (omega (arith, more, c .before .wide .ensures .0)))
+    sym (l .inv .4 ∙ lt-ltb TOTAL (l .sum + total (drop (l .i) (gapIn b))) (omega (arith, more, c .before .wide .ensures .0)))
 
 add-i : tie.Need-add-i Inv-loop μ-loop
 add-i c = search needs
@@ -56,18 +57,18 @@ loop-again : tie.Need-loop-again Inv-loop μ-loop
 loop-again c =
     let b = c .before .before .before .before .before .before .args .t1 in
     let l = c .before .before .before .before .loop in
-    let seven : length (b .parts) ≡ 7 = search needs in
+    let seven : length (b .parts) ≡ COMPONENTS = search needs in
     let more = total-more (b .parts) (b .width) (omega arith) (l .i) (omega arith) in
     let added : l .sum + total (drop (l .i) (gapIn b)) ≡ l .sum + c .before .wide .result + total (drop (l .i + 1) (gapIn b)) = omega (arith, more, c .before .wide .ensures .0) in
-    (omega arith, omega arith, l .inv .2, refl, l .inv .4 ∙ ap (ltb 8) added)
+    (omega arith, omega arith, l .inv .2, refl, l .inv .4 ∙ ap (ltb TOTAL) added)
 
 returns-3 : tie.Need-returns-3 Inv-loop μ-loop
 returns-3 c =
     let b = c .before .before .before .args .t1 in
     let l = c .before .loop in
-    let seven : length (b .parts) ≡ 7 = search needs in
+    let seven : length (b .parts) ≡ COMPONENTS = search needs in
     let none = total-none (b .parts) (b .width) (omega arith) (l .i) (omega arith) in
-    sym (l .inv .4 ∙ le-ltb 8 (l .sum + total (drop (l .i) (gapIn b))) (omega (arith, none)))
+    sym (l .inv .4 ∙ le-ltb TOTAL (l .sum + total (drop (l .i) (gapIn b))) (omega (arith, none)))
 
 pub large-gap-spec : {M : Type 1} → statement M
 large-gap-spec =

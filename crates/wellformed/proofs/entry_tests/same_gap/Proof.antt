@@ -4,6 +4,7 @@ use mathlib.Core.Path.{_≡_, sym, ap₂, _∙_}
 use native.Mathlib.Omega.{arith}
 use lib.ListN.{length}
 use lib.Seq.{length-take-le}
+use Rattle.word.specs.Ceilings.{COMPONENTS}
 use Rattle.cell.specs.Cell.{same}
 use Rattle.scheme.specs.MemoryLaws.{padded-within}
 use borrow.Author.Needs.{needs}
@@ -13,25 +14,25 @@ use Rattle.wellformed.proofs.entry_tests.same_gap.Tie as tie
 array-share-prefix-p : tie.Need-array-share-prefix-p
 array-share-prefix-p c =
     let e = c .before .before .args .b in
-    let full : length (e .parts) ≡ 7 = search needs in
+    let full : length (e .parts) ≡ COMPONENTS = search needs in
     omega (arith, c .before .before .pre .0)
 
 slice-aggregate-same-bytes : tie.Need-slice-aggregate-same-bytes
 slice-aggregate-same-bytes c =
     let e = c .before .before .before .args .b in
-    let full : length (e .parts) ≡ 7 = search needs in
+    let full : length (e .parts) ≡ COMPONENTS = search needs in
     sym (length-take-le (e .width) (e .parts) (omega (arith, c .before .before .before .pre .0)))
 
 array-share-prefix-q : tie.Need-array-share-prefix-q
 array-share-prefix-q c =
     let e = c .before .before .before .args .d in
-    let full : length (e .parts) ≡ 7 = search needs in
+    let full : length (e .parts) ≡ COMPONENTS = search needs in
     omega (arith, c .before .before .before .pre .1)
 
 slice-aggregate-same-bytes-2 : tie.Need-slice-aggregate-same-bytes-2
 slice-aggregate-same-bytes-2 c =
     let e = c .before .before .before .before .args .d in
-    let full : length (e .parts) ≡ 7 = search needs in
+    let full : length (e .parts) ≡ COMPONENTS = search needs in
     sym (length-take-le (e .width) (e .parts) (omega (arith, c .before .before .before .before .pre .1)))
 
 same-bytes-requires : tie.Need-same-bytes-requires
@@ -41,8 +42,8 @@ returns : tie.Need-returns
 returns c =
     let e = c .before .before .before .before .before .args .b in
     let d = c .before .before .before .before .before .args .d in
-    let full : length (e .parts) ≡ 7 = search needs in
-    let full-too : length (d .parts) ≡ 7 = search needs in
+    let full : length (e .parts) ≡ COMPONENTS = search needs in
+    let full-too : length (d .parts) ≡ COMPONENTS = search needs in
     c .same-bytes .ensures ∙
     ap₂ same
     (sym (padded-within (e .width) (e .parts) (omega (arith, c .before .before .before .before .before .pre .0))))

@@ -6,6 +6,7 @@ use borrow.Author.Needs.{needs}
 use native.Mathlib.Omega.{arith}
 use lib.ListN.{length}
 use lib.Dec.{ltb}
+use Rattle.word.specs.Ceilings.{DIGITS}
 use Rattle.word.specs.declared.refusal.Refusal.the-variants.{Oversize}
 use Rattle.scheme.specs.WellFormed.{firstAt}
 use Rattle.scheme.specs.SchemeMemory.{patternsIn, faultOf}
@@ -15,13 +16,13 @@ use Rattle.wellformed.proofs.pattern_tests.first_long.Statement.{statem
 use Rattle.wellformed.proofs.pattern_tests.first_long.Tie as tie
 
 abbrev Inv-loop : tie.InvT-loop
-Inv-loop s n i₀ i = firstAt Oversize (λ β. ltb 8 (length β)) 0 (patternsIn s) ≡ first-from Oversize (λ β. ltb 8 (length β)) (placeIn s) (s .count) i
+Inv-loop s n i₀ i = firstAt Oversize (λ β. ltb DIGITS (length β)) 0 (patternsIn s) ≡ first-from Oversize (λ β. ltb DIGITS (length β)) (placeIn s) (s .count) i
 
 abbrev μ-loop : tie.MeasureT-loop
 μ-loop s n i₀ i = n - i
 
 loop-holds : tie.Need-loop-holds Inv-loop μ-loop
-loop-holds c = let s = c .args .t1 in first-start Oversize (λ β. ltb 8 (length β)) (placeIn s) (s .count)
+loop-holds c = let s = c .args .t1 in first-start Oversize (λ β. ltb DIGITS (length β)) (placeIn s) (s .count)
 
 mul-p : tie.Need-mul-p Inv-loop μ-loop
 mul-p c = search needs
@@ -36,7 +37,7 @@ returns : tie.Need-returns Inv-loop μ-loop
 returns c =
     let s = c .before .before .before .before .before .args .t1 in
     let l = c .before .before .before .before .loop in
-    ap faultOf (sym (l .inv ∙ first-here Oversize (λ β. ltb 8 (length β)) (placeIn s) (s .count) (l .i) (omega arith) (sym (c .before .too-long .ensures) ∙ c .if1 .taken)))
+    ap faultOf (sym (l .inv ∙ first-here Oversize (λ β. ltb DIGITS (length β)) (placeIn s) (s .count) (l .i) (omega arith) (sym (c .before .too-long .ensures) ∙ c .if1 .taken)))
 
 add-i : tie.Need-add-i Inv-loop μ-loop
 add-i c = search needs
@@ -48,13 +49,13 @@ loop-again : tie.Need-loop-again Inv-loop μ-loop
 loop-again c =
     let s = c .before .before .before .before .before .args .t1 in
     let l = c .before .before .before .before .loop in
-    l .inv ∙ first-later Oversize (λ β. ltb 8 (length β)) (placeIn s) (s .count) (l .i) (omega arith) (sym (c .before .too-long .ensures) ∙ c .if1 .left)
+    l .inv ∙ first-later Oversize (λ β. ltb DIGITS (length β)) (placeIn s) (s .count) (l .i) (omega arith) (sym (c .before .too-long .ensures) ∙ c .if1 .left)
 
 returns-2 : tie.Need-returns-2 Inv-loop μ-loop
 returns-2 c =
     let s = c .before .before .args .t1 in
     let l = c .before .loop in
-    ap faultOf (sym (l .inv ∙ first-end Oversize (λ β. ltb 8 (length β)) (placeIn s) (s .count) (l .i) (omega arith)))
+    ap faultOf (sym (l .inv ∙ first-end Oversize (λ β. ltb DIGITS (length β)) (placeIn s) (s .count) (l .i) (omega arith)))
 
 pub first-long-spec : {M : Type 1} → statement M
 first-long-spec =

@@ -5,6 +5,7 @@ use mathlib.Core.Bool.{not}
 use native.Mathlib.Omega.{arith}
 use lib.ListN.{length}
 use lib.Seq.{length-take-le}
+use Rattle.word.specs.Ceilings.{DIGITS}
 use Rattle.wellformed.proofs.PatternLaws.{no-empty, no-behind, pattern-within}
 use borrow.Author.Needs.{needs}
 use Rattle.wellformed.proofs.pattern_tests.no_pattern.Statement.{statement}
@@ -16,18 +17,18 @@ returns c = let p = c .before .before .args .p in sym (no-empty (p .digits) (p .
 returns-2 : tie.Need-returns-2
 returns-2 c =
     let p = c .before .before .before .args .p in
-    let eight : length (p .digits) ≡ 8 = search needs in
+    let eight : length (p .digits) ≡ DIGITS = search needs in
     sym (no-behind (p .digits) (p .length) (omega arith))
 
 array-share-prefix-digits : tie.Need-array-share-prefix-digits
 array-share-prefix-digits c =
     let p = c .before .before .before .args .p in
-    let eight : length (p .digits) ≡ 8 = search needs in omega arith
+    let eight : length (p .digits) ≡ DIGITS = search needs in omega arith
 
 slice-aggregate-is-permutation : tie.Need-slice-aggregate-is-permutation
 slice-aggregate-is-permutation c =
     let p = c .before .before .before .before .args .p in
-    let eight : length (p .digits) ≡ 8 = search needs in
+    let eight : length (p .digits) ≡ DIGITS = search needs in
     sym (length-take-le (p .length) (p .digits) (omega arith))
 
 is-permutation-requires : tie.Need-is-permutation-requires
@@ -36,7 +37,7 @@ is-permutation-requires c κs = search needs
 returns-3 : tie.Need-returns-3
 returns-3 c =
     let p = c .before .before .before .before .before .args .p in
-    let eight : length (p .digits) ≡ 8 = (let o = c .before .before in search needs) in
+    let eight : length (p .digits) ≡ DIGITS = (let o = c .before .before in search needs) in
     ap not (c .is-permutation .ensures ∙ sym (pattern-within (p .digits) (p .length) (omega arith) (omega arith)))
 
 pub no-pattern-spec : {M : Type 1} → statement M

@@ -5,6 +5,7 @@ use mathlib.Core.Path.{_≡_, sym, ap, _∙_}
 use borrow.Author.Needs.{needs}
 use native.Mathlib.Omega.{arith}
 use lib.ListN.{length}
+use Rattle.word.specs.Ceilings.{DIGITS}
 use Rattle.cell.specs.Cell.{same}
 use Rattle.scheme.specs.SchemeMemory.{padded}
 use Rattle.scheme.specs.MemoryLaws.{length-padded, same-lengths, same-from, same-start, same-later, same-differs, same-counted, same-end}
@@ -15,7 +16,7 @@ abbrev Inv-loop : tie.InvT-loop
 Inv-loop n a b i₀ i = same (padded n a) (padded n b) ≡ same-from n a b i
 
 abbrev μ-loop : tie.MeasureT-loop
-μ-loop n a b i₀ i = 8 - i
+μ-loop n a b i₀ i = DIGITS - i
 
 returns : tie.Need-returns Inv-loop μ-loop
 returns c =
@@ -47,8 +48,8 @@ returns-3 : tie.Need-returns-3 Inv-loop μ-loop
 returns-3 c =
     let p = c .before .before .before .before .before .before .before .before .args .p in
     let q = c .before .before .before .before .before .before .before .before .args .q in
-    let a : length (p .digits) ≡ 8 = (let o = c .before .before .before .before .before in search needs) in
-    let b : length (q .digits) ≡ 8 = (let o = c .before .before .before .before .before in search needs) in
+    let a : length (p .digits) ≡ DIGITS = (let o = c .before .before .before .before .before in search needs) in
+    let b : length (q .digits) ≡ DIGITS = (let o = c .before .before .before .before .before in search needs) in
     let e : p .length ≡ q .length = c .before .before .before .before .if1 .left in
     let w = ap (λ (m : ℕ). same (padded (p .length) (p .digits)) (padded m (q .digits))) e in
     sym (sym w ∙ c .before .before .before .loop .inv ∙ same-differs (p .length) (p .digits) (q .digits) (c .before .before .before .loop .i) (omega arith) (omega arith) (omega arith) (c .if3 .taken))
@@ -63,16 +64,16 @@ loop-again : tie.Need-loop-again Inv-loop μ-loop
 loop-again c =
     let p = c .before .before .before .before .before .before .before .before .args .p in
     let q = c .before .before .before .before .before .before .before .before .args .q in
-    let a : length (p .digits) ≡ 8 = (let o = c .before .before .before .before .before in search needs) in
-    let b : length (q .digits) ≡ 8 = (let o = c .before .before .before .before .before in search needs) in
+    let a : length (p .digits) ≡ DIGITS = (let o = c .before .before .before .before .before in search needs) in
+    let b : length (q .digits) ≡ DIGITS = (let o = c .before .before .before .before .before in search needs) in
     c .before .before .before .loop .inv ∙ same-later (p .length) (p .digits) (q .digits) (c .before .before .before .loop .i) (omega arith) (omega arith) (omega arith) (c .if3 .left)
 
 returns-4 : tie.Need-returns-4 Inv-loop μ-loop
 returns-4 c =
     let p = c .before .before .before .before .before .before .args .p in
     let q = c .before .before .before .before .before .before .args .q in
-    let a : length (p .digits) ≡ 8 = (let o = c .before .before .before in search needs) in
-    let b : length (q .digits) ≡ 8 = (let o = c .before .before .before in search needs) in
+    let a : length (p .digits) ≡ DIGITS = (let o = c .before .before .before in search needs) in
+    let b : length (q .digits) ≡ DIGITS = (let o = c .before .before .before in search needs) in
     let e : p .length ≡ q .length = c .before .before .if1 .left in
     let w = ap (λ (m : ℕ). same (padded (p .length) (p .digits)) (padded m (q .digits))) e in
     sym (sym w ∙ c .before .loop .inv ∙ same-end (p .length) (p .digits) (q .digits) (c .before .loop .i) (omega arith) (omega arith))

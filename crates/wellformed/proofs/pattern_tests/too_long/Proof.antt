@@ -2,12 +2,13 @@
 -- Assumes nothing.
 use mathlib.Core.Path.{sym, ap}
 use lib.Dec.{ltb}
+use Rattle.word.specs.Ceilings.{DIGITS}
 use Rattle.scheme.specs.MemoryLaws.{length-padded}
 use Rattle.wellformed.proofs.pattern_tests.too_long.Statement.{statement}
 use Rattle.wellformed.proofs.pattern_tests.too_long.Tie as tie
 
 returns : tie.Need-returns
-returns c = let p = c .before .args .p in ap (ltb 8) (sym (length-padded (p .length) (p .digits)))
+returns c = let p = c .before .args .p in ap (ltb DIGITS) (sym (length-padded (p .length) (p .digits)))
 
 pub too-long-spec : {M : Type 1} → statement M
 too-long-spec = tie.close (tie.spec returns)
