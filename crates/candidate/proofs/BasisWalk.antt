@@ -10,14 +10,14 @@ use native.Mathlib.Numerals.{add-one}
 use native.Mathlib.Omega.{arith}
 use lib.ListN.{length, getD, take, drop, set, length-set, length-take, drop-of-length-le}
 use lib.Dec.{leb}
-use lib.Seq.{drop-cons, getD-take, length-take-le, take-suc-set}
+use lib.Seq.{drop-cons, getD-take, length-take-le, take-suc-set, getD-set-same, getD-set-other}
 use borrow.Author.Tests.{le-leb, lt-leb, eq-eqb, ne-eqb, not-true, not-false}
 use Rattle.word.specs.Word.{contains, longest}
 use Rattle.word.specs.Containment.{patternsOf}
-use Rattle.word.specs.ListLaws.{below-or-not}
+use Rattle.word.specs.ListLaws.{below-or-not, same-or-not}
 use Rattle.cell.specs.Cell.{same}
-use Rattle.cell.specs.Basis.{basic, basis, kept, basisRows, basisLengths}
-use Rattle.candidate.specs.BasisMemory.{kept-patterns, kept-length}
+use Rattle.cell.specs.Basis.{basic}
+use Rattle.candidate.specs.Picked.{picked}
 
 -- a digit row, past its end and before it
 cut-ended : (p : List ℕ) (a k : ℕ) → a ≤ k → drop k (take a p) ≡ []
@@ -110,50 +110,49 @@ module _ (rows : List (List ℕ)) (lengths : List ℕ) (n : ℕ) (β : List ℕ)
   pub basic-later : not t ≡ false → basic (from rows lengths n j) β ≡ basic (from rows lengths n (j + 1)) β
   basic-later f = basic-cons ∙ rw (not-false t f) refl
 
--- what is kept of a set in memory from place j on
-module _ {A : Type 0} (f : List ℕ → Bool) (pick : List ℕ → ℕ → A) (rows : List (List ℕ)) (lengths : List ℕ) (n : ℕ) where
-  unfoldable pub kept-from : ℕ → List A
-  kept-from j = kept f pick (drop j rows) (drop j lengths) (n - j)
+-- what is picked by flags from place j on
+module _ {A : Type 0} (flags : List Bool) (xs : List A) (n : ℕ) where
+  unfoldable pub picked-from : ℕ → List A
+  picked-from j = picked (drop j flags) (drop j xs) (n - j)
 
-  pub kept-start : kept f pick rows lengths n ≡ kept-from 0
-  unfolding kept-from
-  kept-start = rw (sub-zero n) refl
+  pub picked-start : picked flags xs n ≡ picked-from 0
+  unfolding picked-from
+  picked-start = rw (sub-zero n) refl
 
-  pub kept-counted : (j : ℕ) → n ≤ j → kept-from j ≡ []
-  unfolding kept-from
-  kept-counted j h = go (n - j) (omega arith)
+  pub picked-counted : (j : ℕ) → n ≤ j → picked-from j ≡ []
+  unfolding picked-from
+  picked-counted j h = go (n - j) (omega arith)
     where
-      go : (m : ℕ) → m ≡ 0 → kept f pick (drop j rows) (drop j lengths) m ≡ []
+      go : (m : ℕ) → m ≡ 0 → picked (drop j flags) (drop j xs) m ≡ []
       go m e = rw e refl
 
-  pub kept-end : (j : ℕ) → length rows ≤ j → kept-from j ≡ []
-  unfolding kept-from
-  kept-end j h = rw (drop-of-length-le rows h) (go (n - j))
-    where
-      go : (m : ℕ) → kept f pick [] (drop j lengths) m ≡ []
-      go zero = refl
-      go (suc m) = refl
-
-  module _ (j : ℕ) (h : j < length rows) (l : j < length lengths) (k : j < n) where
-    kept-cons : kept-from j ≡
-        cond (f (take (getD lengths j 0) (getD rows j []))) (pick (getD rows j []) (getD lengths j 0) ∷ kept-from (j + 1)) (kept-from (j + 1))
-    unfolding kept-from
-    kept-cons = rw (add-one j, drop-cons rows j [] h, drop-cons lengths j 0 l) (go (n - j) (n - suc j) (omega arith))
+  module _ (z : A) (j : ℕ) (h : j < length flags) (l : j < length xs) (k : j < n) where
+    picked-cons : picked-from j ≡ cond (getD flags j false) (getD xs j z ∷ picked-from (j + 1)) (picked-from (j + 1))
+    unfolding picked-from
+    picked-cons = rw (add-one j, drop-cons flags j false h, drop-cons xs j z l) (go (n - j) (n - suc j) (omega arith))
       where
         rest : ℕ → List A
-        rest m = kept f pick (drop (suc j) rows) (drop (suc j) lengths) m
+        rest m = picked (drop (suc j) flags) (drop (suc j) xs) m
 
         go : (m r : ℕ) → m ≡ suc r →
-            kept f pick (getD rows j [] ∷ drop (suc j) rows) (getD lengths j 0 ∷ drop (suc j) lengths) m ≡
-            cond (f (take (getD lengths j 0) (getD rows j []))) (pick (getD rows j []) (getD lengths j 0) ∷ rest r) (rest r)
+            picked (getD flags j false ∷ drop (suc j) flags) (getD xs j z ∷ drop (suc j) xs) m ≡
+            cond (getD flags j false) (getD xs j z ∷ rest r) (rest r)
         go m r e = rw e refl
 
-    module _ (t : Bool) (e : t ≡ f (take (getD lengths j 0) (getD rows j []))) where
-      pub kept-here : t ≡ true → kept-from j ≡ pick (getD rows j []) (getD lengths j 0) ∷ kept-from (j + 1)
-      kept-here q = kept-cons ∙ rw (← e, q) refl
+    pub picked-here : getD flags j false ≡ true → picked-from j ≡ getD xs j z ∷ picked-from (j + 1)
+    picked-here q = picked-cons ∙ rw q refl
 
-      pub kept-skip : t ≡ false → kept-from j ≡ kept-from (j + 1)
-      kept-skip q = kept-cons ∙ rw (← e, q) refl
+    pub picked-skip : getD flags j false ≡ false → picked-from j ≡ picked-from (j + 1)
+    picked-skip q = picked-cons ∙ rw q refl
+
+-- one flag more says what it should
+pub flags-more : (f : ℕ → Bool) (flags : List Bool) (i : ℕ) (b : Bool) → i < length flags → b ≡ f i →
+    ((j : ℕ) → j < i → getD flags j false ≡ f j) → (j : ℕ) → j < i + 1 → getD (set flags i b) j false ≡ f j
+flags-more f flags i b room e told j h = go (same-or-not j i)
+  where
+    go : (j ≡ i) ⊎ (j ≡ i → ⊥) → getD (set flags i b) j false ≡ f j
+    go (inl q) = rw (q, getD-set-same flags i b false room) e
+    go (inr q) = rw (getD-set-other flags i j b false q) (told j (omega arith))
 
 -- what is to be gathered: the first n elements of out, and the rest, which is found from place i on
 pub record Gathering {A : Type 0} (whole rest out : List A) (n i : ℕ) : Type 0 where
@@ -189,20 +188,21 @@ module _ {A : Type 0} (whole rest out : List A) where
       }
 
 -- how many are counted: n, and the rest, which is found from place i on
-pub record Counting (whole : ℕ) (rest : List (List ℕ)) (n i : ℕ) : Type 0 where
+pub record Counting {A : Type 0} (whole : ℕ) (rest : List A) (n i : ℕ) : Type 0 where
   pub parts : whole ≡ n + length rest
   pub behind : n ≤ i
 
-module _ (whole : ℕ) (rest : List (List ℕ)) where
-  pub count-here : (n i : ℕ) (x : List ℕ) (later : List (List ℕ)) → Counting whole rest n i → rest ≡ x ∷ later → Counting whole later (n + 1) (i + 1)
+module _ {A : Type 0} (whole : ℕ) (rest : List A) where
+  pub count-here : (n i : ℕ) (x : A) (later : List A) → Counting whole rest n i → rest ≡ x ∷ later → Counting whole later (n + 1) (i + 1)
   count-here n i x later g e = record { parts = omega (arith, g .parts, ap length e); behind = omega (arith, g .behind) }
 
-  pub count-skip : (n i : ℕ) (later : List (List ℕ)) → Counting whole rest n i → rest ≡ later → Counting whole later n (i + 1)
+  pub count-skip : (n i : ℕ) (later : List A) → Counting whole rest n i → rest ≡ later → Counting whole later n (i + 1)
   count-skip n i later g e = record { parts = omega (arith, g .parts, ap length e); behind = omega (arith, g .behind) }
 
   pub count-done : (n i : ℕ) → Counting whole rest n i → rest ≡ [] → n ≡ whole
   count-done n i g e = omega (arith, g .parts, ap length e)
 
+module _ (whole : ℕ) (rest : List (List ℕ)) where
   -- the longest: of those seen, m, and of the rest
   pub longest-here : (m : ℕ) (x : List ℕ) (later : List (List ℕ)) → whole ≡ max m (longest rest) → rest ≡ x ∷ later →
       whole ≡ max (max m (length x)) (longest later)
@@ -212,27 +212,3 @@ module _ (whole : ℕ) (rest : List (List ℕ)) where
   pub longest-done : (m : ℕ) → whole ≡ max m (longest rest) → rest ≡ [] → m ≡ whole
   unfolding longest
   longest-done m h e = sym (h ∙ rw e (omega arith))
-
--- the basis, its rows and its lengths are what is kept from place 0 on
-module _ (rows : List (List ℕ)) (lengths : List ℕ) (n : ℕ) where
-  pub basis-walk : basis (patternsOf rows lengths n) ≡ kept-from (basic (patternsOf rows lengths n)) (λ r k. take k r) rows lengths n 0
-  unfolding basis
-  basis-walk =
-      kept-patterns (basic (patternsOf rows lengths n)) rows lengths n ∙
-      kept-start (basic (patternsOf rows lengths n)) (λ r k. take k r) rows lengths n
-
-  pub rows-walk : basisRows rows lengths n ≡ kept-from (basic (patternsOf rows lengths n)) (λ r k. r) rows lengths n 0
-  unfolding basisRows
-  rows-walk = kept-start (basic (patternsOf rows lengths n)) (λ r k. r) rows lengths n
-
-  pub rows-length : length (basis (patternsOf rows lengths n)) ≡ length (basisRows rows lengths n)
-  unfolding basis basisRows
-  rows-length = kept-length (basic (patternsOf rows lengths n)) (λ r k. r) rows lengths n
-
-  pub lengths-walk : basisLengths rows lengths n ≡ kept-from (basic (patternsOf rows lengths n)) (λ r k. k) rows lengths n 0
-  unfolding basisLengths
-  lengths-walk = kept-start (basic (patternsOf rows lengths n)) (λ r k. k) rows lengths n
-
-  pub lengths-length : length (basis (patternsOf rows lengths n)) ≡ length (basisLengths rows lengths n)
-  unfolding basis basisLengths
-  lengths-length = kept-length (basic (patternsOf rows lengths n)) (λ r k. k) rows lengths n

@@ -1,4 +1,5 @@
-// The basis of a pattern set in memory: the patterns that contain no other pattern of the set, and the length of the longest of them.
+// The basis of a pattern set in memory: the patterns that contain no other pattern of the set; and
+// the length of the longest pattern.
 use word::copy::first_copy;
 use word::limits::DIGITS;
 use word::limits::PATTERNS;
@@ -9,7 +10,9 @@ ghost use lib.ListN.{length, take};
 ghost use Rattle.word.specs.Word.{contains, longest};
 ghost use Rattle.word.specs.Containment.{patternsOf};
 ghost use Rattle.cell.specs.Cell.{same};
-ghost use Rattle.cell.specs.Basis.{basic, basis, basisRows, basisLengths};
+ghost use Rattle.word.specs.Ceilings.{DIGITS, PATTERNS};
+ghost use Rattle.cell.specs.Basis.{basic};
+ghost use Rattle.candidate.specs.Picked.{BasicFlags, picked};
 
 // Whether the first `a` digits of p are the first `b` digits of q.
 fn same_digits(p: [u8; DIGITS], a: usize, q: [u8; DIGITS], b: usize) -> bool
@@ -76,17 +79,34 @@ pub fn is_basic(
     true
 }
 
-// How many patterns the basis has.
-pub fn basis_count(set: [[u8; DIGITS]; PATTERNS], lengths: [u8; PATTERNS], count: usize) -> usize
-    ensures { λ r. ⌜ r ≡ length (basis (patternsOf set lengths count)) ⌝ }
+// Which of the first `count` patterns of the set the basis has: the one walk over all pairs. The rows, the lengths and the number of its patterns
+// are picked by these flags.
+pub fn basic_flags(
+    set: [[u8; DIGITS]; PATTERNS],
+    lengths: [u8; PATTERNS],
+    count: usize,
+) -> [bool; PATTERNS]
+    requires { ⌜ count ≤ PATTERNS ⌝ }
+    ensures { λ r. ⌜ BasicFlags set lengths count r ⌝ }
+{
+    let mut flags = [false; PATTERNS];
+    let mut i: usize = 0;
+    while i < count {
+        flags[i] = is_basic(set, lengths, count, set[i], lengths[i] as usize);
+        i += 1;
+    }
+    flags
+}
+
+// How many of the first `count` places are flagged.
+pub fn picked_count(flags: [bool; PATTERNS], count: usize) -> usize
+    requires { ⌜ count ≤ PATTERNS ⌝ }
+    ensures { λ r. ⌜ r ≡ length (picked flags flags count) ⌝ }
 {
     let mut n: usize = 0;
     let mut i: usize = 0;
-    while i < PATTERNS {
-        if count <= i {
-            return n;
-        }
-        if is_basic(set, lengths, count, set[i], lengths[i] as usize) {
+    while i < count {
+        if flags[i] {
             n += 1;
             i += 1;
         } else {
@@ -96,22 +116,20 @@ pub fn basis_count(set: [[u8; DIGITS]; PATTERNS], lengths: [u8; PATTERNS], count
     n
 }
 
-// The rows of the basis in the memory form of a set; the count is that of `basis_count`.
-pub fn basis_rows(
+// The rows at the flagged places, from place 0 on.
+pub fn picked_rows(
     set: [[u8; DIGITS]; PATTERNS],
-    lengths: [u8; PATTERNS],
+    flags: [bool; PATTERNS],
     count: usize,
 ) -> [[u8; DIGITS]; PATTERNS]
-    ensures { λ r. ⌜ take (length (basis (patternsOf set lengths count))) r ≡ basisRows set lengths count ⌝ }
+    requires { ⌜ count ≤ PATTERNS ⌝ }
+    ensures { λ r. ⌜ take (length (picked flags set count)) r ≡ picked flags set count ⌝ }
 {
     let mut rows = [[0u8; DIGITS]; PATTERNS];
     let mut n: usize = 0;
     let mut i: usize = 0;
-    while i < PATTERNS {
-        if count <= i {
-            return rows;
-        }
-        if is_basic(set, lengths, count, set[i], lengths[i] as usize) {
+    while i < count {
+        if flags[i] {
             rows[n] = set[i];
             n += 1;
             i += 1;
@@ -122,22 +140,20 @@ pub fn basis_rows(
     rows
 }
 
-// The lengths of the patterns of the basis, likewise.
-pub fn basis_lengths(
-    set: [[u8; DIGITS]; PATTERNS],
+// The lengths at the flagged places, likewise.
+pub fn picked_lengths(
     lengths: [u8; PATTERNS],
+    flags: [bool; PATTERNS],
     count: usize,
 ) -> [u8; PATTERNS]
-    ensures { λ r. ⌜ take (length (basis (patternsOf set lengths count))) r ≡ basisLengths set lengths count ⌝ }
+    requires { ⌜ count ≤ PATTERNS ⌝ }
+    ensures { λ r. ⌜ take (length (picked flags lengths count)) r ≡ picked flags lengths count ⌝ }
 {
     let mut out = [0u8; PATTERNS];
     let mut n: usize = 0;
     let mut i: usize = 0;
-    while i < PATTERNS {
-        if count <= i {
-            return out;
-        }
-        if is_basic(set, lengths, count, set[i], lengths[i] as usize) {
+    while i < count {
+        if flags[i] {
             out[n] = lengths[i];
             n += 1;
             i += 1;
@@ -150,7 +166,7 @@ pub fn basis_lengths(
 
 // How many of the first `len` digits of p there are.
 pub fn digits(p: [u8; DIGITS], len: usize) -> usize
-    ensures { λ r. ⌜ (r ≡ length (take len p)) × (r ≤ 8) ⌝ }
+    ensures { λ r. ⌜ (r ≡ length (take len p)) × (r ≤ DIGITS) ⌝ }
 {
     if len < p.len() { len } else { p.len() }
 }
@@ -164,7 +180,7 @@ fn larger(a: usize, b: usize) -> usize
 
 // The length of the longest of the first `count` patterns of the set, 0 for none.
 pub fn longest_length(set: [[u8; DIGITS]; PATTERNS], lengths: [u8; PATTERNS], count: usize) -> usize
-    ensures { λ r. ⌜ (r ≡ longest (patternsOf set lengths count)) × (r ≤ 8) ⌝ }
+    ensures { λ r. ⌜ (r ≡ longest (patternsOf set lengths count)) × (r ≤ DIGITS) ⌝ }
 {
     let mut m: usize = 0;
     let mut i: usize = 0;
