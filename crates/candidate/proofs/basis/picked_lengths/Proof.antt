@@ -48,7 +48,7 @@ loop-again c =
     let l = c .before .before .loop in
     let rest = picked-from (a .t2) (a .t1) (a .count) in
     gather-take (picked (a .t2) (a .t1) (a .count)) (rest (l .i)) (l .out) (l .n) (l .i) (l .inv) (omega arith) (getD (a .t1) (l .i) 0)
-    (rest (l .i + 1)) (picked-here (a .t2) (a .t1) (a .count) 0 (l .i) (search needs) (search needs) (omega arith) (c  .if1 .taken))
+    (rest (l .i + 1)) (picked-here (a .t2) (a .t1) (a .count) 0 (l .i) (search needs) (search needs) (omega arith) (c .if1 .taken))
 
 add-i-2 : tie.Need-add-i-2 Inv-loop μ-loop
 add-i-2 c = search needs
