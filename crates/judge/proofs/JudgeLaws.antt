@@ -11,9 +11,10 @@ use Rattle.word.specs.Finding.{Finding, clean, firstFault}
 use Rattle.word.specs.declared.refusal.Refusal.the-variants.{LiveGap, Irreversible}
 use Rattle.word.specs.Containment.{patternsOf}
 use Rattle.cell.specs.Cell.{mOf}
-use Rattle.cell.specs.Basis.{basis, basisRows, basisLengths}
+use Rattle.cell.specs.Basis.{basis}
 use Rattle.cell.specs.BasisLaws.{basis-in}
-use Rattle.candidate.specs.BasisMemory.{basis-memory}
+use Rattle.candidate.specs.Picked.{BasicFlags, picked}
+use Rattle.candidate.specs.BasisMemory.{basis-memory, picked-few}
 use Rattle.scheme.specs.SchemeList.{EntryList}
 use Rattle.scheme.specs.WellFormed.{firstAt, patternTests, schemeTests}
 use Rattle.scheme.specs.SchemeMemory.{patternsIn, schemeIn, faultOf, orElse, faulty}
@@ -28,7 +29,7 @@ use Rattle.verdict.specs.Truth.{WellFormed}
 use Rattle.claims.specs.EntryMemory.{ProperSet}
 use Rattle.judge.specs.SetMemory.{HasDigits, HasLengths, ProperScheme, ComparesCells}
 use Rattle.judge.specs.SetLaws.{set-holds}
-use Rattle.judge.specs.JudgementLaws.{verdict-parts, live-same, differs-same, basis-shorter, refused-answer}
+use Rattle.judge.specs.JudgementLaws.{verdict-parts, live-same, differs-same, refused-answer}
 use Rattle.judge.proofs.EntryWalkLaws.{liveEntry, differingEntry}
 
 -- the earlier of two findings, where the first decides and where it does not
@@ -61,25 +62,20 @@ module _ (P : List (List ℕ)) (E : List EntryList) where
     verdict-claims h =
         ap (λ (f : Fault). answered f (comparedCells P E)) (earlier-second formed _ (faultOf (firstFault (claimTests P E))) is h ∙ sym (verdict-parts P E))
 
--- a set has no more patterns than its count
-patterns-few : (rows : List (List ℕ)) (lengths : List ℕ) (n : ℕ) → length (patternsOf rows lengths n) ≤ n
-patterns-few rows lengths zero = omega arith
-patterns-few [] lengths (suc n) = omega arith
-patterns-few (r ∷ rows) [] (suc n) = omega arith
-patterns-few (r ∷ rows) (k ∷ lengths) (suc n) = omega (arith, patterns-few rows lengths n)
-
 -- The basis of a set, as the code makes it.
-module _ (set : List (List ℕ)) (lengths : List ℕ) (count : ℕ) (q : ProperSet set lengths count) (rows : List (List ℕ)) (sizes : List ℕ) (n : ℕ)
-    (hn : n ≡ length (basis (patternsOf set lengths count)))
-    (hr : take (length (basis (patternsOf set lengths count))) rows ≡ basisRows set lengths count)
-    (hs : take (length (basis (patternsOf set lengths count))) sizes ≡ basisLengths set lengths count) where
+module _ (set : List (List ℕ)) (lengths : List ℕ) (count : ℕ) (q : ProperSet set lengths count) (rs : length set ≡ 24) (ls : length lengths ≡ 24)
+    (flags : List Bool) (fs : length flags ≡ 24) (told : BasicFlags set lengths count flags) (rows : List (List ℕ)) (sizes : List ℕ) (n : ℕ)
+    (hn : n ≡ length (picked flags flags count))
+    (hr : take (length (picked flags set count)) rows ≡ picked flags set count)
+    (hs : take (length (picked flags lengths count)) sizes ≡ picked flags lengths count) where
   basis-holds : patternsOf rows sizes n ≡ basis (patternsOf set lengths count)
-  basis-holds = basis-memory set lengths count rows sizes n hn hr hs
+  basis-holds =
+      basis-memory set lengths count flags rows sizes n (omega (arith, q .few)) (omega (arith, q .few)) (omega (arith, q .few)) told hn hr hs
 
   pub basis-proper : ProperSet rows sizes n
   basis-proper =
       record {
-        few = omega (arith, hn, basis-shorter (patternsOf set lengths count), patterns-few set lengths count, q .few);
+        few = omega (arith, hn, picked-few flags count, q .few);
         perms = λ (β : List ℕ) (m : List·Memᴰ β (patternsOf rows sizes n)). q .perms β (basis-in (patternsOf set lengths count) (rw basis-holds at m));
       }
 

@@ -4,10 +4,11 @@ use crate::deletions::irreversible_fault;
 use crate::live_gaps::live_fault;
 use crate::sets::lengths_of;
 use crate::sets::rows_of;
-use candidate::basis::basis_count;
-use candidate::basis::basis_lengths;
-use candidate::basis::basis_rows;
+use candidate::basis::basic_flags;
 use candidate::basis::longest_length;
+use candidate::basis::picked_count;
+use candidate::basis::picked_lengths;
+use candidate::basis::picked_rows;
 use scheme::memory::Fault;
 use scheme::memory::Patterns;
 use scheme::memory::Scheme;
@@ -78,9 +79,10 @@ fn claims_fault(
     requires { ⌜ ProperSet set lengths count × ProperScheme scheme ⌝ }
     ensures { λ r. ⌜ r ≡ faultOf (firstFault (claimTests (patternsOf set lengths count) (schemeIn scheme))) ⌝ }
 {
-    let n = basis_count(set, lengths, count);
-    let rows = basis_rows(set, lengths, count);
-    let sizes = basis_lengths(set, lengths, count);
+    let flags = basic_flags(set, lengths, count);
+    let n = picked_count(flags, count);
+    let rows = picked_rows(set, flags, count);
+    let sizes = picked_lengths(lengths, flags, count);
     let live = live_fault(rows, sizes, n, scheme);
     let irreversible = irreversible_unless(live, rows, sizes, n, scheme);
     earlier(live, irreversible)
