@@ -1,4 +1,5 @@
--- The walks of the candidate search: over the patterns, over the spacings of a total, over the totals.
+-- The walks of the candidate search: over the patterns, over the spacings of a total, over the
+-- totals.
 -- Assumes nothing.
 use Prim.Native.Nat.{ℕ, zero, suc, _+_, _-_, _≤_, _<_}
 use mathlib.Core.Path.{_≡_, refl, sym, ap, _∙_}

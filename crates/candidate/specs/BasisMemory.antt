@@ -1,5 +1,5 @@
--- Sets of patterns in memory: the rows and the lengths that are flagged as basic hold the basis, and
--- the pattern at a place is one of the set.
+-- Sets of patterns in memory: the rows and the lengths that are flagged as basic hold the basis,
+-- and the pattern at a place is one of the set.
 use Prim.Native.Nat.{ℕ, zero, suc, _≤_, _<_}
 use native.Mathlib.Omega.{arith}
 use mathlib.Core.Path.{_≡_, refl, sym, ap, ap₂, _∙_}
@@ -36,7 +36,8 @@ picked-few (true ∷ flags) (suc n) = omega (arith, picked-few flags n)
 picked-few (false ∷ flags) (suc n) = omega (arith, picked-few flags n)
 
 module _ (f : List ℕ → Bool) where
-  -- the rows and the lengths at the places where f passes are a set in memory, which has the patterns that pass
+  -- the rows and the lengths at the places where f passes are a set in memory, which has the
+  -- patterns that pass
   picked-set : (flags : List Bool) (rows : List (List ℕ)) (lengths : List ℕ) (n : ℕ) →
       n ≤ length flags → n ≤ length rows → n ≤ length lengths → ((i : ℕ) → i < n → getD flags i false ≡ f (patternAt rows lengths i)) →
       patternsOf (picked flags rows n) (picked flags lengths n) (length (picked flags flags n)) ≡ keep f (patternsOf rows lengths n)

@@ -31,7 +31,8 @@ pub record Ready (p R g β levels gone need : List ℕ) : Type 0 where
 abbrev pub patternAt : List (List ℕ) → List ℕ → ℕ → List ℕ
 patternAt set lengths i = take (getD lengths i 0) (getD set i [])
 
--- for each pattern that is at least t long the levels that its head entries need, where its last t entries are the rest
+-- for each pattern that is at least t long the levels that its head entries need, where its last t
+-- entries are the rest
 abbrev pub Needs : List (List ℕ) → List ℕ → ℕ → ℕ → List (List ℕ) → Type 0
 Needs set lengths count t needs =
     (i : ℕ) → i < count → t ≤ length (patternAt set lengths i) →
@@ -68,7 +69,8 @@ TotalAnswer set lengths count p gone B k t r =
     (R : List ℕ) → FlaggedFor set lengths count p R gone → k ≡ length p →
     r ≡ any (λ g. free B g && violated (patternsOf set lengths count) p R g) (vectors (suc k) t)
 
--- The answer on an entry: it is the definition's, and it is no exactly if the deletion claim holds at every length.
+-- The answer on an entry: it is the definition's, and it is no exactly if the deletion claim holds
+-- at every length.
 pub record EntryAnswer (P : List (List ℕ)) (p : List ℕ) (B : List (List ℕ)) (R : List ℕ) (r : Bool) : Type 0 where
   pub defined : r ≡ irreversible P p B R
   pub claimed : (r ≡ false) ↔ DeletionClaim P p B R

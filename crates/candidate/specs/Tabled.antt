@@ -12,7 +12,7 @@ use Rattle.cell.specs.Cell.{total, without}
 use Rattle.cell.specs.Built.{level, lift, built}
 use Rattle.candidate.specs.Lookup.{VALUES, entryOf, flagged, Says, Flags}
 
--- the largest level that is looked at: a byte holds it with a prefix value for each entry added
+-- the largest level that is looked at: lifted by one for each prefix value it fits a byte
 abbrev pub LEVEL : ℕ
 LEVEL = 100
 
@@ -20,7 +20,8 @@ LEVEL = 100
 unfoldable pub keptValues : List ℕ → List ℕ → List ℕ → List ℕ
 keptValues levels gone p = map (λ a. min (a + entryOf levels a) 255) (keep (λ a. not (flagged gone a)) p)
 
--- the table `levels` says the levels of g, and the pattern entries from index `from` up to `to` need levels that g reaches
+-- the table `levels` says the levels of g, and the pattern entries from index `from` up to `to`
+-- need levels that g reaches
 pub record Reached (row : List ℕ) (from to : ℕ) (need levels : List ℕ) (k : ℕ) (g : List ℕ) : Type 0 where
   pub size : length g ≡ k + 1
   pub says : Says levels (k + 1) (level g)

@@ -79,8 +79,8 @@ pub fn is_basic(
     true
 }
 
-// Which of the first `count` patterns of the set the basis has: the one walk over all pairs. The rows, the lengths and the number of its patterns
-// are picked by these flags.
+// Which of the first `count` patterns of the set the basis has: the one walk over all pairs. The
+// rows, the lengths and the number of its patterns are picked by these flags.
 pub fn basic_flags(
     set: [[u8; DIGITS]; PATTERNS],
     lengths: [u8; PATTERNS],

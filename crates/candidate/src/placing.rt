@@ -1,4 +1,5 @@
-// Placing the head of a pattern in a prefix: the part of the candidate search that says whether a copy stands.
+// Placing the head of a pattern in a prefix: the part of the candidate search that says whether a
+// copy stands.
 use crate::tables::Tables;
 use crate::tables::VALUES;
 use crate::tables::told;
@@ -12,8 +13,9 @@ ghost use Rattle.word.specs.Vocabulary.{fits};
 ghost use Rattle.cell.specs.Candidate.{place};
 ghost use Rattle.candidate.specs.Lookup.{entryOf, flagged};
 
-// How far the head of a pattern is placed: the values at which its first `placed` entries stand, the
-// index in the prefix from which the next one is sought, and whether a value among them is deleted.
+// How far the head of a pattern is placed: the values at which its first `placed` entries stand,
+// the index in the prefix from which the next one is sought, and whether a value among them is
+// deleted.
 pub struct Placing {
     pub chosen: [u8; DIGITS],
     pub placed: usize,
@@ -52,7 +54,8 @@ fn pairs_fit(chosen: [u8; DIGITS], head: &[u8], s: usize, x: u8, a: u8) -> bool
     true
 }
 
-// Whether the entries of the head that are not placed yet can be placed in the prefix, behind those that are.
+// Whether the entries of the head that are not placed yet can be placed in the prefix, behind those
+// that are.
 pub fn placed(state: Placing, head: &[u8], prefix: &[u8], tables: Tables) -> bool
     requires { ⌜ length (now head) ≤ DIGITS ⌝ }
     ensures { λ r. ⌜ r ≡ place (entryOf (tables .need)) (entryOf (tables .levels)) (flagged (tables .gone)) (state .used) (take (state .placed) (now (head .entry))) (take (state .placed) (state .chosen)) (drop (state .placed) (now (head .entry))) (drop (state .from) (now (prefix .entry))) ⌝ }

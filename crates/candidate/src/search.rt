@@ -1,5 +1,6 @@
-// The candidate search: whether a deletion loses a member of the shorter cell. For each spacing and pattern there is one word to look at: the
-// prefix at the spacing, followed by the rest that the pattern's last entries make.
+// The candidate search: whether a deletion loses a member of the shorter cell. For each spacing and
+// pattern there is one word to look at: the prefix at the spacing, followed by the rest that the
+// pattern's last entries make.
 use crate::basis::digits;
 use crate::placing::Placing;
 use crate::placing::placed;
@@ -34,8 +35,8 @@ ghost use Rattle.spacing.specs.GapRows.{gapsOf};
 ghost use Rattle.candidate.specs.Lookup.{VALUES, Says};
 ghost use Rattle.candidate.specs.Ready.{Ready, Needs, Given, SpacingAnswer, FreeAnswer, TotalAnswer, EntryAnswer};
 
-// A deletion from an entry's prefix: the prefix, the deleted positions, how many gap vectors the entry
-// has, and the length of the longest pattern.
+// A deletion from an entry's prefix: the prefix, the deleted positions, how many gap vectors the
+// entry has, and the length of the longest pattern.
 pub struct Deletion {
     pub prefix: [u8; PREFIX],
     pub length: usize,
@@ -45,7 +46,8 @@ pub struct Deletion {
     pub longest: usize,
 }
 
-// The same while it is sought: the deleted values, flagged, in the place of the positions.
+// What the search keeps of a deletion: the prefix, the deleted values flagged in the place of the
+// positions, and how many gap vectors there are.
 struct Deleted {
     prefix: [u8; PREFIX],
     length: usize,
@@ -53,14 +55,15 @@ struct Deleted {
     gap_count: usize,
 }
 
-// At one spacing, with its total.
+// The same at one spacing, with its total.
 struct At {
     deleted: Deleted,
     spacing: [u8; COMPONENTS],
     total: usize,
 }
 
-// Whether the pattern's head can be placed in the prefix, a deleted value among its places, where its last t entries are the rest.
+// Whether the pattern's head can be placed in the prefix, a deleted value among its places, where
+// its last t entries are the rest.
 fn hits(
     row: [u8; DIGITS],
     len: usize,
@@ -85,7 +88,8 @@ fn hits(
     placed(start, &row[..head], &prefix[..k], tables)
 }
 
-// The levels that a pattern's head entries need, where its last t entries are the rest; for a shorter pattern anything.
+// The levels that a pattern's head entries need, where its last t entries are the rest; for a
+// shorter pattern anything.
 fn need_of(row: [u8; DIGITS], len: usize, t: usize) -> [u8; VALUES]
     ensures { λ r. ⌜ (t ≤ len → len ≤ DIGITS → Says r VALUES (under (drop (len - t) (take len row)))) ⌝ }
 {
@@ -118,7 +122,8 @@ fn needs_of(
     needs
 }
 
-// Whether the first `len` entries of the word contain a pattern. The one at place i, of which the word is made, is the likeliest, and is tried first.
+// Whether the first `len` entries of the word contain a pattern. The one at place i, of which the
+// word is made, is the likeliest, and is tried first.
 fn contained_by(
     set: [[u8; DIGITS]; PATTERNS],
     lengths: [u8; PATTERNS],
@@ -204,7 +209,8 @@ fn free_and_violated(
     spacing_violated(set, lengths, count, needs, at)
 }
 
-// Whether some spacing of total t that is at least no gap vector has a violation: the spacings in lexicographic order.
+// Whether some spacing of total t that is at least no gap vector has a violation: the spacings in
+// lexicographic order.
 fn total_violated(
     set: [[u8; DIGITS]; PATTERNS],
     lengths: [u8; PATTERNS],
@@ -236,7 +242,8 @@ fn total_violated(
     }
 }
 
-// Whether the deletion loses a member of the shorter cell at some compared spacing: by rising total, and in lexicographic order within a total.
+// Whether the deletion loses a member of the shorter cell at some compared spacing: by rising
+// total, and in lexicographic order within a total.
 pub fn irreversible(
     set: [[u8; DIGITS]; PATTERNS],
     lengths: [u8; PATTERNS],

@@ -1,4 +1,5 @@
-// The numbers that the candidate search looks up by value: levels, needed levels, deleted values; and the candidate's word.
+// The numbers that the candidate search looks up by value: levels, needed levels, deleted values;
+// and the candidate's word.
 use word::limits::COMPONENTS;
 use word::limits::DIGITS;
 use word::limits::PREFIX;
@@ -18,7 +19,7 @@ ghost use Rattle.candidate.specs.Tabled.{LEVEL, keptValues, Rest, IsCand
 
 // values that a list which is indexed by values reaches: 0 and the digits
 pub const VALUES: usize = DIGITS + 1;
-// the largest level that is looked at: a byte holds it with a prefix value for each entry added
+// the largest level that is looked at: lifted by one for each prefix value it fits a byte
 const LEVEL: u8 = 100;
 
 // What the search looks up by value, at one spacing and for one pattern: the level that each head
@@ -45,7 +46,8 @@ fn at_most(row: [u8; DIGITS], from: usize, to: usize, x: u8) -> u8
     n
 }
 
-// The level that each head entry of a pattern needs, by the entry: how many of the pattern's last t entries are at most as large.
+// The level that each head entry of a pattern needs, by the entry: how many of the pattern's last t
+// entries are at most as large.
 pub fn needed(row: [u8; DIGITS], len: usize, t: usize) -> [u8; VALUES]
     requires { ⌜ (t ≤ len) × (len ≤ DIGITS) ⌝ }
     ensures { λ r. ⌜ Says r VALUES (under (drop (len - t) (take len row))) ⌝ }
@@ -96,7 +98,8 @@ pub fn deleted_values(
     gone
 }
 
-// The actual value of the rest value s, by the levels of the prefix values 1 to k: one more for each that lies below it.
+// The actual value of the rest value s, by the levels of the prefix values 1 to k: one more for
+// each that lies below it.
 pub fn lifted(levels: [u8; VALUES], k: usize, s: u8) -> u8
     requires { ⌜ (k ≤ PREFIX) × (s ≤ LEVEL) ⌝ }
     ensures { λ r. ⌜ ((g : List ℕ) → length g ≡ k + 1 → Says levels (k + 1) (level g) → s ≤ total g → r ≡ lift g s) ⌝ }
@@ -164,7 +167,8 @@ pub fn kept(prefix: [u8; PREFIX], k: usize, levels: [u8; VALUES], gone: [u8; VAL
     }
 }
 
-// The word, and behind it the actual values of the pattern entries from index `from` up to `to`, each by the level that it needs.
+// The word, and behind it the actual values of the pattern entries from index `from` up to `to`,
+// each by the level that it needs.
 fn with_rest(w: Word, row: [u8; DIGITS], from: usize, to: usize, tables: Tables, k: usize) -> Word
     requires { ⌜ (k ≤ PREFIX) × (from ≤ to) × (to ≤ DIGITS) × (w .length ≤ PREFIX) ⌝ }
     ensures { λ r. ⌜ (r .length ≤ PREFIX + DIGITS) × Rest row from to (tables .need) (tables .levels) k (take (w .length) (w .entries)) (take (r .length) (r .entries)) ⌝ }
@@ -186,7 +190,8 @@ fn with_rest(w: Word, row: [u8; DIGITS], from: usize, to: usize, tables: Tables,
     }
 }
 
-// The candidate for a violation: the prefix without its deleted values, and the last t entries of the pattern as its rest.
+// The candidate for a violation: the prefix without its deleted values, and the last t entries of
+// the pattern as its rest.
 pub fn candidate_word(
     prefix: [u8; PREFIX],
     k: usize,

@@ -1,4 +1,5 @@
--- `candidate::basis::basic_flags` meets its contract: the flags before the index say which patterns are basic.
+-- `candidate::basis::basic_flags` meets its contract: the flags before the index say which patterns
+-- are basic.
 -- Assumes nothing.
 use Prim.Native.Nat.{_-_, _+_, _≤_, _<_, ℕ}
 use mathlib.Core.Path.{_≡_, refl, ap, _∙_}

@@ -1,4 +1,5 @@
--- `candidate::basis::picked_lengths` meets its contract: what is gathered and what is picked from the index on make up the whole.
+-- `candidate::basis::picked_lengths` meets its contract: what is gathered and what is picked from
+-- the index on make up the whole.
 -- Assumes nothing.
 use Prim.Native.Nat.{_-_, _+_, _≤_, _<_, ℕ}
 use mathlib.Core.Path.{_≡_, refl, ap, _∙_}

@@ -1,4 +1,5 @@
--- The proof of the cycle of calls {placed}: each turn of the loop is a step of the state. The measure is what is left of the prefix.
+-- The proof of the cycle of calls {placed}: each turn of the loop is a step of the state. The
+-- measure is what is left of the prefix.
 -- Assumes nothing.
 use mathlib.Core.Path.{_≡_, refl, sym, ap, _∙_}
 use mathlib.Core.Bool.{Bool, true, false, _||_}

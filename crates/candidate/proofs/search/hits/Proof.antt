@@ -1,4 +1,5 @@
--- `candidate::search::hits` meets its contract: the lists say of the entries what the definition says.
+-- `candidate::search::hits` meets its contract: the lists say of the entries what the definition
+-- says.
 -- Assumes nothing.
 use Prim.Native.Nat.{_-_}
 use mathlib.Core.Path.{_≡_, sym, _∙_}

@@ -1,4 +1,5 @@
--- `candidate::search::irreversible` meets its contract: the totals before the one at hand have no violation, and the candidates decide the claim.
+-- `candidate::search::irreversible` meets its contract: the totals before the one at hand have no
+-- violation, and the candidates decide the claim.
 -- Assumes nothing.
 use Prim.Native.Nat.{ℕ, suc, _-_, _+_, _≤_}
 use mathlib.Core.Path.{_≡_, sym, ap, _∙_}

@@ -1,4 +1,5 @@
--- `candidate::search::spacing_violated` meets its contract: the patterns before the index do not violate.
+-- `candidate::search::spacing_violated` meets its contract: the patterns before the index do not
+-- violate.
 -- Assumes nothing.
 use Prim.Native.Nat.{ℕ, _-_, _≤_}
 use mathlib.Core.Path.{_≡_, sym, ap, _∙_}

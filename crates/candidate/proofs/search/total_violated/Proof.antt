@@ -1,4 +1,5 @@
--- `candidate::search::total_violated` meets its contract: the spacings before the one at hand have no violation.
+-- `candidate::search::total_violated` meets its contract: the spacings before the one at hand have
+-- no violation.
 -- Assumes nothing.
 use Prim.Native.Nat.{suc, _+_}
 use mathlib.Core.Path.{_≡_, sym, _∙_}

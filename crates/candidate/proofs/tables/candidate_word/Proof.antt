@@ -1,4 +1,5 @@
--- `candidate::tables::candidate_word` meets its contract: the kept values with the rest behind them are the built word.
+-- `candidate::tables::candidate_word` meets its contract: the kept values with the rest behind them
+-- are the built word.
 -- Assumes nothing.
 use Prim.Native.Nat.{ℕ, _-_}
 use mathlib.Core.Path.{_≡_, ap, _∙_}

@@ -1,4 +1,5 @@
--- `candidate::tables::with_rest` meets its contract: the entries, and the values of the rest still to come, are the whole.
+-- `candidate::tables::with_rest` meets its contract: the entries, and the values of the rest still
+-- to come, are the whole.
 -- Assumes nothing.
 use Prim.Native.Nat.{ℕ, _+_, _-_, _≤_}
 use mathlib.Core.Path.{_≡_, refl, ap, _∙_}
