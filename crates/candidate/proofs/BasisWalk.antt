@@ -1,23 +1,34 @@
 -- Two digit rows compared from a place on, and the patterns of a set in memory from a place on.
 -- Assumes nothing.
 use Prim.Native.Nat.{ℕ, zero, suc, _+_, _-_, _≤_, _<_, max}
-use mathlib.Core.Path.{_≡_, refl, sym, ap, _∙_}
+use mathlib.Core.Path.{_≡_, refl, sym, ap, ap₂, _∙_}
 use mathlib.Core.Logic.{_⊎_, inl, inr}
 use mathlib.Core.Bool.{Bool, true, false, not, _&&_, _||_, cond}
-use mathlib.Core.List.{List, [], _∷_, _++_, append-assoc, append-nil}
-use native.Mathlib.Nat.{sub-zero}
+use mathlib.Core.List.{List, [], _∷_, _++_, map, append-assoc, append-nil}
+use native.Mathlib.Nat.{sub-zero, zero-add}
 use native.Mathlib.Numerals.{add-one}
 use native.Mathlib.Omega.{arith}
-use lib.ListN.{length, getD, take, drop, set, length-set, length-take, drop-of-length-le}
+use lib.ListN.{length, getD, take, drop, length-set, length-take, drop-of-length-le}
+use lib.ListN.{set as set-at}
 use lib.Dec.{leb}
-use lib.Seq.{drop-cons, getD-take, length-take-le, take-suc-set, getD-set-same, getD-set-other}
+use lib.Seq.{drop-cons, getD-take, getD-set-same, getD-set-other}
 use borrow.Author.Tests.{le-leb, lt-leb, eq-eqb, ne-eqb, not-true, not-false}
+use Rattle.word.specs.Lists.{keep, row}
 use Rattle.word.specs.Word.{contains, longest}
 use Rattle.word.specs.Containment.{patternsOf}
 use Rattle.word.specs.ListLaws.{below-or-not, same-or-not}
 use Rattle.cell.specs.Cell.{same}
-use Rattle.cell.specs.Basis.{basic}
-use Rattle.candidate.specs.Picked.{picked}
+use Rattle.cell.specs.Basis.{basic, basis}
+use Rattle.scheme.specs.SchemeMemory.{padded, noPattern, patternIn}
+use Rattle.scheme.specs.MemoryLaws.{padded-within}
+use Rattle.scheme.specs.declared.memory.Pattern.{Pattern}
+use Rattle.candidate.specs.BasisSet.{IsBasis}
+
+-- a part that is cut again at its own length
+pub take-again : (n : ℕ) (l : List ℕ) → take (length (take n l)) l ≡ take n l
+take-again zero l = refl
+take-again (suc n) [] = refl
+take-again (suc n) (x ∷ l) = ap {B = List ℕ} (λ r. x ∷ r) (take-again n l)
 
 -- a digit row, past its end and before it
 cut-ended : (p : List ℕ) (a k : ℕ) → a ≤ k → drop k (take a p) ≡ []
@@ -110,97 +121,105 @@ module _ (rows : List (List ℕ)) (lengths : List ℕ) (n : ℕ) (β : List ℕ)
   pub basic-later : not t ≡ false → basic (from rows lengths n j) β ≡ basic (from rows lengths n (j + 1)) β
   basic-later f = basic-cons ∙ rw (not-false t f) refl
 
--- what is picked by flags from place j on
-module _ {A : Type 0} (flags : List Bool) (xs : List A) (n : ℕ) where
-  unfoldable pub picked-from : ℕ → List A
-  picked-from j = picked (drop j flags) (drop j xs) (n - j)
+-- a pattern in memory, and the patterns of an array of them
+abbrev held : List Pattern → ℕ → List ℕ
+held items j = patternIn (getD items j noPattern)
 
-  pub picked-start : picked flags xs n ≡ picked-from 0
-  unfolding picked-from
-  picked-start = rw (sub-zero n) refl
+held-cut : (l : ℕ) (p : List ℕ) (len : ℕ) → len ≡ length (take l p) → padded len p ≡ take l p
+held-cut l p len e = padded-within len p (omega (arith, length-take l p)) ∙ ap (λ (m : ℕ). take m p) e ∙ take-again l p
 
-  pub picked-counted : (j : ℕ) → n ≤ j → picked-from j ≡ []
-  unfolding picked-from
-  picked-counted j h = go (n - j) (omega arith)
-    where
-      go : (m : ℕ) → m ≡ 0 → picked (drop j flags) (drop j xs) m ≡ []
-      go m e = rw e refl
+one-more : (f g : ℕ → List ℕ) (a n : ℕ) → ((j : ℕ) → a ≤ j → j < a + n → g j ≡ f j) → map g (row a (suc n)) ≡ map f (row a n) ++ (g (a + n) ∷ [])
+one-more f g a zero h = let e : a ≡ a + 0 = omega arith in ap {B = List (List ℕ)} (λ (m : ℕ). g m ∷ []) e
+one-more f g a (suc n) h =
+    ap₂ (λ (x : List ℕ) (l : List (List ℕ)). x ∷ l) (h a (omega arith) (omega arith))
+    (one-more f g (suc a) n (λ (j : ℕ) (p : suc a ≤ j) (q : j < suc a + n). h j (omega arith) (omega arith)) ∙
+    ap (λ (m : ℕ). map f (row (suc a) n) ++ (g m ∷ [])) (omega arith))
 
-  module _ (z : A) (j : ℕ) (h : j < length flags) (l : j < length xs) (k : j < n) where
-    picked-cons : picked-from j ≡ cond (getD flags j false) (getD xs j z ∷ picked-from (j + 1)) (picked-from (j + 1))
-    unfolding picked-from
-    picked-cons = rw (add-one j, drop-cons flags j false h, drop-cons xs j z l) (go (n - j) (n - suc j) (omega arith))
-      where
-        rest : ℕ → List A
-        rest m = picked (drop (suc j) flags) (drop (suc j) xs) m
-
-        go : (m r : ℕ) → m ≡ suc r →
-            picked (getD flags j false ∷ drop (suc j) flags) (getD xs j z ∷ drop (suc j) xs) m ≡
-            cond (getD flags j false) (getD xs j z ∷ rest r) (rest r)
-        go m r e = rw e refl
-
-    pub picked-here : getD flags j false ≡ true → picked-from j ≡ getD xs j z ∷ picked-from (j + 1)
-    picked-here q = picked-cons ∙ rw q refl
-
-    pub picked-skip : getD flags j false ≡ false → picked-from j ≡ picked-from (j + 1)
-    picked-skip q = picked-cons ∙ rw q refl
-
--- one flag more says what it should
-pub flags-more : (f : ℕ → Bool) (flags : List Bool) (i : ℕ) (b : Bool) → i < length flags → b ≡ f i →
-    ((j : ℕ) → j < i → getD flags j false ≡ f j) → (j : ℕ) → j < i + 1 → getD (set flags i b) j false ≡ f j
-flags-more f flags i b room e told j h = go (same-or-not j i)
-  where
-    go : (j ≡ i) ⊎ (j ≡ i → ⊥) → getD (set flags i b) j false ≡ f j
-    go (inl q) = rw (q, getD-set-same flags i b false room) e
-    go (inr q) = rw (getD-set-other flags i j b false q) (told j (omega arith))
-
--- what is to be gathered: the first n elements of out, and the rest, which is found from place i on
-pub record Gathering {A : Type 0} (whole rest out : List A) (n i : ℕ) : Type 0 where
-  pub parts : whole ≡ take n out ++ rest
+-- how far the basis is gathered: n patterns, and those that are basic from place i on
+pub record Gathered (set : List (List ℕ)) (lengths : List ℕ) (count : ℕ) (items : List Pattern) (n i : ℕ) : Type 0 where
+  pub parts :
+      basis (patternsOf set lengths count) ≡
+      map (held items) (row 0 n) ++ keep (basic (patternsOf set lengths count)) (from set lengths count i)
   pub behind : n ≤ i
-  pub inside : i ≤ 24
-  pub room : length out ≡ 24
+  pub inside : i ≤ count
+  pub room : length items ≡ 24
+  pub short : (j : ℕ) → j < n → (getD items j noPattern) .length ≤ 8
 
-module _ {A : Type 0} (whole rest out : List A) where
-  module _ (n i : ℕ) (g : Gathering whole rest out n i) where
-    pub gather-done : (m : ℕ) → rest ≡ [] → m ≡ length whole → take m out ≡ whole
-    gather-done m e l =
-        let all-out : whole ≡ take n out = g .parts ∙ ap (λ r. take n out ++ r) e ∙ append-nil (take n out) in
-        let count : m ≡ n = l ∙ ap length all-out ∙ length-take-le n out (omega (arith, g .behind, g .inside, g .room)) in
-        ap (λ k. take k out) count ∙ sym all-out
+module _ (set : List (List ℕ)) (lengths : List ℕ) (count : ℕ) where
+  pub gathered-start : (items : List Pattern) → length items ≡ 24 → Gathered set lengths count items 0 0
+  unfolding basis
+  gathered-start items h = record {
+    parts = ap (keep (basic (patternsOf set lengths count))) (from-start set lengths count);
+    behind = omega arith;
+    inside = omega arith;
+    room = h;
+    short = λ (j : ℕ) (q : j < 0). absurd (omega arith);
+  }
 
-    module _ (h : i < 24) where
-      pub gather-take : (x : A) (later : List A) → rest ≡ x ∷ later → Gathering whole later (set out n x) (n + 1) (i + 1)
-      gather-take x later e = record {
-        parts =
-            g .parts ∙ rw (add-one n, take-suc-set out n x (omega (arith, g .behind, g .room)), e) (sym (append-assoc (take n out) (x ∷ []) later));
-        behind = omega (arith, g .behind);
-        inside = omega arith;
-        room = length-set out n x ∙ g .room;
-      }
+  module _ (items : List Pattern) (n i : ℕ) (g : Gathered set lengths count items n i) where
+    pub gathered-end : count ≤ i → (few : count ≤ 24) → IsBasis set lengths count (record { items = items; count = n })
+    gathered-end h few = record {
+      holds =
+          sym (g .parts ∙
+          ap (λ (l : List (List ℕ)). map (held items) (row 0 n) ++ keep (basic (patternsOf set lengths count)) l) (from-counted set lengths count i h) ∙
+          append-nil (map (held items) (row 0 n)));
+      few = omega (arith, g .behind, g .inside);
+      short = g .short;
+    }
 
-      pub gather-skip : (later : List A) → rest ≡ later → Gathering whole later out n (i + 1)
-      gather-skip later e = record {
-        parts = g .parts ∙ ap (λ r. take n out ++ r) e;
+    module _ (hr : i < length set) (hl : i < length lengths) (hn : i < count) (few : count ≤ 24) (len : ℕ)
+        (cut : len ≡ length (take (getD lengths i 0) (getD set i []))) (t : Bool)
+        (e : t ≡ basic (patternsOf set lengths count) (take len (getD set i []))) where
+      β : List ℕ
+      β = take (getD lengths i 0) (getD set i [])
+
+      said : t ≡ basic (patternsOf set lengths count) (take (getD lengths i 0) (getD set i []))
+      said =
+          e ∙ ap (basic (patternsOf set lengths count))
+          (ap (λ (m : ℕ). take m (getD set i [])) cut ∙ take-again (getD lengths i 0) (getD set i []))
+
+      next : keep (basic (patternsOf set lengths count)) (from set lengths count i) ≡
+          cond t (take (getD lengths i 0) (getD set i []) ∷ keep (basic (patternsOf set lengths count)) (from set lengths count (i + 1)))
+          (keep (basic (patternsOf set lengths count)) (from set lengths count (i + 1)))
+      next = ap (keep (basic (patternsOf set lengths count))) (from-cons set lengths count i hr hl hn) ∙ rw said refl
+
+      pub gathered-skip : t ≡ false → Gathered set lengths count items n (i + 1)
+      gathered-skip f = record {
+        parts = g .parts ∙ ap (λ (l : List (List ℕ)). map (held items) (row 0 n) ++ l) (next ∙ rw f refl);
         behind = omega (arith, g .behind);
         inside = omega arith;
         room = g .room;
+        short = g .short;
       }
 
--- how many are counted: n, and the rest, which is found from place i on
-pub record Counting {A : Type 0} (whole : ℕ) (rest : List A) (n i : ℕ) : Type 0 where
-  pub parts : whole ≡ n + length rest
-  pub behind : n ≤ i
-
-module _ {A : Type 0} (whole : ℕ) (rest : List A) where
-  pub count-here : (n i : ℕ) (x : A) (later : List A) → Counting whole rest n i → rest ≡ x ∷ later → Counting whole later (n + 1) (i + 1)
-  count-here n i x later g e = record { parts = omega (arith, g .parts, ap length e); behind = omega (arith, g .behind) }
-
-  pub count-skip : (n i : ℕ) (later : List A) → Counting whole rest n i → rest ≡ later → Counting whole later n (i + 1)
-  count-skip n i later g e = record { parts = omega (arith, g .parts, ap length e); behind = omega (arith, g .behind) }
-
-  pub count-done : (n i : ℕ) → Counting whole rest n i → rest ≡ [] → n ≡ whole
-  count-done n i g e = omega (arith, g .parts, ap length e)
+      pub gathered-take : t ≡ true → len ≤ 8 → Gathered set lengths count (set-at items n (record { digits = getD set i []; length = len })) (n + 1) (i + 1)
+      gathered-take f low =
+          let p : Pattern = record { digits = getD set i []; length = len } in
+          let rest : List (List ℕ) = keep (basic (patternsOf set lengths count)) (from set lengths count (i + 1)) in
+          let here : getD (set-at items n p) n noPattern ≡ p = getD-set-same items n p noPattern (omega (arith, g .behind, g .room)) in
+          let more : map (held (set-at items n p)) (row 0 (n + 1)) ≡ map (held items) (row 0 n) ++ (take (getD lengths i 0) (getD set i []) ∷ []) =
+          rw (add-one n)
+          (one-more (held items) (held (set-at items n p)) 0 n
+          (λ (j : ℕ) (a : 0 ≤ j) (q : j < 0 + n).
+          ap patternIn (getD-set-other items n j p noPattern (λ (z : j ≡ n). let y : j < n = omega arith in absurd (omega arith)))) ∙
+          ap (λ (x : List ℕ). map (held items) (row 0 n) ++ (x ∷ []))
+          (ap (held (set-at items n p)) (zero-add n) ∙ ap patternIn here ∙ held-cut (getD lengths i 0) (getD set i []) len cut)) in
+          record {
+            parts =
+                g .parts ∙
+                ap (λ (l : List (List ℕ)). map (held items) (row 0 n) ++ l) (next ∙ rw f refl) ∙
+                sym (append-assoc (map (held items) (row 0 n)) (take (getD lengths i 0) (getD set i []) ∷ []) rest) ∙
+                ap (λ (l : List (List ℕ)). l ++ rest) (sym more);
+            behind = omega (arith, g .behind);
+            inside = omega arith;
+            room = length-set items n p ∙ g .room;
+            short = λ (j : ℕ) (q : j < n + 1). short-more p low j q (same-or-not j n) here;
+          }
+        where
+          short-more : (p : Pattern) → p .length ≤ 8 → (j : ℕ) → j < n + 1 → (j ≡ n) ⊎ (j ≡ n → ⊥) → getD (set-at items n p) n noPattern ≡ p →
+              (getD (set-at items n p) j noPattern) .length ≤ 8
+          short-more p low j q (inl z) here = rw (z, here) low
+          short-more p low j q (inr z) here = rw (getD-set-other items n j p noPattern z) (g .short j (omega arith))
 
 module _ (whole : ℕ) (rest : List (List ℕ)) where
   -- the longest: of those seen, m, and of the rest

@@ -1,5 +1,7 @@
 // The basis of a pattern set in memory: the patterns that contain no other pattern of the set; and
 // the length of the longest pattern.
+use scheme::memory::Pattern;
+use scheme::memory::Patterns;
 use word::copy::first_copy;
 use word::limits::DIGITS;
 use word::limits::PATTERNS;
@@ -12,7 +14,7 @@ ghost use Rattle.word.specs.Containment.{patternsOf};
 ghost use Rattle.cell.specs.Cell.{same};
 ghost use Rattle.word.specs.Ceilings.{DIGITS, PATTERNS};
 ghost use Rattle.cell.specs.Basis.{basic};
-ghost use Rattle.candidate.specs.Picked.{BasicFlags, picked};
+ghost use Rattle.candidate.specs.BasisSet.{IsBasis};
 
 // Whether the first `a` digits of p are the first `b` digits of q.
 fn same_digits(p: [u8; DIGITS], a: usize, q: [u8; DIGITS], b: usize) -> bool
@@ -79,89 +81,35 @@ pub fn is_basic(
     true
 }
 
-// Which of the first `count` patterns of the set the basis has: the one walk over all pairs. The
-// rows, the lengths and the number of its patterns are picked by these flags.
-pub fn basic_flags(
-    set: [[u8; DIGITS]; PATTERNS],
-    lengths: [u8; PATTERNS],
-    count: usize,
-) -> [bool; PATTERNS]
+// The basis of the first `count` patterns of the set: those that contain no other, in their order.
+pub fn basis_of(set: [[u8; DIGITS]; PATTERNS], lengths: [u8; PATTERNS], count: usize) -> Patterns
     requires { ⌜ count ≤ PATTERNS ⌝ }
-    ensures { λ r. ⌜ BasicFlags set lengths count r ⌝ }
+    ensures { λ r. ⌜ IsBasis set lengths count r ⌝ }
 {
-    let mut flags = [false; PATTERNS];
-    let mut i: usize = 0;
-    while i < count {
-        flags[i] = is_basic(set, lengths, count, set[i], lengths[i] as usize);
-        i += 1;
-    }
-    flags
-}
-
-// How many of the first `count` places are flagged.
-pub fn picked_count(flags: [bool; PATTERNS], count: usize) -> usize
-    requires { ⌜ count ≤ PATTERNS ⌝ }
-    ensures { λ r. ⌜ r ≡ length (picked flags flags count) ⌝ }
-{
+    let mut items = [Pattern {
+        digits: [0u8; DIGITS],
+        length: 0,
+    }; PATTERNS];
     let mut n: usize = 0;
     let mut i: usize = 0;
     while i < count {
-        if flags[i] {
+        let row = set[i];
+        let len = digits(row, lengths[i] as usize);
+        if is_basic(set, lengths, count, row, len) {
+            items[n] = Pattern {
+                digits: row,
+                length: len,
+            };
             n += 1;
             i += 1;
         } else {
             i += 1;
         }
     }
-    n
-}
-
-// The rows at the flagged places, from place 0 on.
-pub fn picked_rows(
-    set: [[u8; DIGITS]; PATTERNS],
-    flags: [bool; PATTERNS],
-    count: usize,
-) -> [[u8; DIGITS]; PATTERNS]
-    requires { ⌜ count ≤ PATTERNS ⌝ }
-    ensures { λ r. ⌜ take (length (picked flags set count)) r ≡ picked flags set count ⌝ }
-{
-    let mut rows = [[0u8; DIGITS]; PATTERNS];
-    let mut n: usize = 0;
-    let mut i: usize = 0;
-    while i < count {
-        if flags[i] {
-            rows[n] = set[i];
-            n += 1;
-            i += 1;
-        } else {
-            i += 1;
-        }
+    Patterns {
+        items: items,
+        count: n,
     }
-    rows
-}
-
-// The lengths at the flagged places, likewise.
-pub fn picked_lengths(
-    lengths: [u8; PATTERNS],
-    flags: [bool; PATTERNS],
-    count: usize,
-) -> [u8; PATTERNS]
-    requires { ⌜ count ≤ PATTERNS ⌝ }
-    ensures { λ r. ⌜ take (length (picked flags lengths count)) r ≡ picked flags lengths count ⌝ }
-{
-    let mut out = [0u8; PATTERNS];
-    let mut n: usize = 0;
-    let mut i: usize = 0;
-    while i < count {
-        if flags[i] {
-            out[n] = lengths[i];
-            n += 1;
-            i += 1;
-        } else {
-            i += 1;
-        }
-    }
-    out
 }
 
 // How many of the first `len` digits of p there are.

@@ -43,7 +43,8 @@ pub fn has_live_gap(
     false
 }
 
-// Refusal 11 of one entry: whether some compared sizes differ, m being the length of the longest pattern.
+// Refusal 11 of one entry: whether some compared sizes differ, m being the length of the longest
+// pattern.
 pub fn is_irreversible(
     set: [[u8; DIGITS]; PATTERNS],
     lengths: [u8; PATTERNS],

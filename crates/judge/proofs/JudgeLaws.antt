@@ -13,8 +13,7 @@ use Rattle.word.specs.Containment.{patternsOf}
 use Rattle.cell.specs.Cell.{mOf}
 use Rattle.cell.specs.Basis.{basis}
 use Rattle.cell.specs.BasisLaws.{basis-in}
-use Rattle.candidate.specs.Picked.{BasicFlags, picked}
-use Rattle.candidate.specs.BasisMemory.{basis-memory, picked-few}
+use Rattle.candidate.specs.BasisSet.{IsBasis}
 use Rattle.scheme.specs.SchemeList.{EntryList}
 use Rattle.scheme.specs.WellFormed.{firstAt, patternTests, schemeTests}
 use Rattle.scheme.specs.SchemeMemory.{patternsIn, schemeIn, faultOf, orElse, faulty}
@@ -28,7 +27,7 @@ use Rattle.verdict.specs.Verdict.{claimTests, comparedCells, answered, verdictO
 use Rattle.verdict.specs.Truth.{WellFormed}
 use Rattle.claims.specs.EntryMemory.{ProperSet}
 use Rattle.judge.specs.SetMemory.{HasDigits, HasLengths, ProperScheme, ComparesCells}
-use Rattle.judge.specs.SetLaws.{set-holds}
+use Rattle.judge.specs.SetLaws.{set-held}
 use Rattle.judge.specs.JudgementLaws.{verdict-parts, live-same, differs-same, refused-answer}
 use Rattle.judge.proofs.EntryWalkLaws.{liveEntry, differingEntry}
 
@@ -63,23 +62,20 @@ module _ (P : List (List ℕ)) (E : List EntryList) where
         ap (λ (f : Fault). answered f (comparedCells P E)) (earlier-second formed _ (faultOf (firstFault (claimTests P E))) is h ∙ sym (verdict-parts P E))
 
 -- The basis of a set, as the code makes it.
-module _ (set : List (List ℕ)) (lengths : List ℕ) (count : ℕ) (q : ProperSet set lengths count) (rs : length set ≡ 24) (ls : length lengths ≡ 24)
-    (flags : List Bool) (fs : length flags ≡ 24) (told : BasicFlags set lengths count flags) (rows : List (List ℕ)) (sizes : List ℕ) (n : ℕ)
-    (hn : n ≡ length (picked flags flags count))
-    (hr : take (length (picked flags set count)) rows ≡ picked flags set count)
-    (hs : take (length (picked flags lengths count)) sizes ≡ picked flags lengths count) where
-  basis-holds : patternsOf rows sizes n ≡ basis (patternsOf set lengths count)
-  basis-holds =
-      basis-memory set lengths count flags rows sizes n (omega (arith, q .few)) (omega (arith, q .few)) (omega (arith, q .few)) told hn hr hs
+module _ (set : List (List ℕ)) (lengths : List ℕ) (count : ℕ) (q : ProperSet set lengths count) (b : Patterns) (is-basis : IsBasis set lengths count b)
+    (rows : List (List ℕ)) (sizes : List ℕ) (hr : length rows ≡ 24) (hs : length sizes ≡ 24)
+    (has : HasDigits (b .items) rows) (sized : HasLengths (b .items) sizes) where
+  basis-holds : patternsOf rows sizes (b .count) ≡ basis (patternsOf set lengths count)
+  basis-holds = set-held b (is-basis .few) (is-basis .short) rows sizes hr hs has sized ∙ is-basis .holds
 
-  pub basis-proper : ProperSet rows sizes n
+  pub basis-proper : ProperSet rows sizes (b .count)
   basis-proper =
       record {
-        few = omega (arith, hn, picked-few flags count, q .few);
-        perms = λ (β : List ℕ) (m : List·Memᴰ β (patternsOf rows sizes n)). q .perms β (basis-in (patternsOf set lengths count) (rw basis-holds at m));
+        few = is-basis .few;
+        perms = λ (β : List ℕ) (m : List·Memᴰ β (patternsOf rows sizes (b .count))). q .perms β (basis-in (patternsOf set lengths count) (rw basis-holds at m));
       }
 
-  module _ (s : Scheme) (p : ProperScheme s) (live : Fault) (is : live ≡ faultOf (firstAt LiveGap (liveEntry (patternsOf rows sizes n)) 0 (schemeIn s))) where
+  module _ (s : Scheme) (p : ProperScheme s) (live : Fault) (is : live ≡ faultOf (firstAt LiveGap (liveEntry (patternsOf rows sizes (b .count))) 0 (schemeIn s))) where
     live-is : live ≡ faultOf (firstAt LiveGap (liveEntry (patternsOf set lengths count)) 0 (schemeIn s))
     live-is =
         is ∙ ap (λ (Q : List (List ℕ)). faultOf (firstAt LiveGap (liveEntry Q) 0 (schemeIn s))) basis-holds ∙
@@ -93,7 +89,7 @@ module _ (set : List (List ℕ)) (lengths : List ℕ) (count : ℕ) (q : ProperS
         (firstAt Irreversible (differingEntry (patternsOf set lengths count)) 0 (schemeIn s))
 
     -- the earlier of the two findings on the basis is that of the tests
-    pub claims-found : (lost : Fault) → orElse live lost ≡ orElse live (faultOf (firstAt Irreversible (differingEntry (patternsOf rows sizes n)) 0 (schemeIn s))) →
+    pub claims-found : (lost : Fault) → orElse live lost ≡ orElse live (faultOf (firstAt Irreversible (differingEntry (patternsOf rows sizes (b .count))) 0 (schemeIn s))) →
         orElse live lost ≡ faultOf (firstFault (claimTests (patternsOf set lengths count) (schemeIn s)))
     claims-found lost e =
         e ∙

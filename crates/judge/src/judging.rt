@@ -4,11 +4,8 @@ use crate::deletions::irreversible_fault;
 use crate::live_gaps::live_fault;
 use crate::sets::lengths_of;
 use crate::sets::rows_of;
-use candidate::basis::basic_flags;
+use candidate::basis::basis_of;
 use candidate::basis::longest_length;
-use candidate::basis::picked_count;
-use candidate::basis::picked_lengths;
-use candidate::basis::picked_rows;
 use scheme::memory::Fault;
 use scheme::memory::Patterns;
 use scheme::memory::Scheme;
@@ -79,10 +76,10 @@ fn claims_fault(
     requires { ⌜ ProperSet set lengths count × ProperScheme scheme ⌝ }
     ensures { λ r. ⌜ r ≡ faultOf (firstFault (claimTests (patternsOf set lengths count) (schemeIn scheme))) ⌝ }
 {
-    let flags = basic_flags(set, lengths, count);
-    let n = picked_count(flags, count);
-    let rows = picked_rows(set, flags, count);
-    let sizes = picked_lengths(lengths, flags, count);
+    let basis = basis_of(set, lengths, count);
+    let n = basis.count;
+    let rows = rows_of(basis);
+    let sizes = lengths_of(basis);
     let live = live_fault(rows, sizes, n, scheme);
     let irreversible = irreversible_unless(live, rows, sizes, n, scheme);
     earlier(live, irreversible)

@@ -10,7 +10,8 @@ use borrow.Author.Tests.{not-true, not-false}
 use native.Mathlib.Omega.{arith}
 use lib.ListN.{length, getD, take, length-take}
 use lib.Seq.{length-take-le}
-use Rattle.candidate.proofs.CandidateWalk.{Passed, passed-start, passed-end, passed-short, passed-missed, passed-contained, violation, take-again, word-made}
+use Rattle.candidate.proofs.CandidateWalk.{Passed, passed-start, passed-end, passed-short, passed-missed, passed-contained, violation, word-made}
+use Rattle.candidate.proofs.BasisWalk.{take-again}
 use Rattle.candidate.specs.Ready.{patternAt}
 use Rattle.candidate.proofs.search.spacing_violated.Statement.{statement}
 use Rattle.candidate.proofs.search.spacing_violated.Tie as tie
