@@ -1,4 +1,5 @@
--- Two digit rows compared from a place on, and the patterns of a set in memory from a place on.
+-- Two digit rows compared from a place on, the patterns of a set in memory from a place on, and the
+-- basis as it is gathered.
 -- Assumes nothing.
 use Prim.Native.Nat.{ℕ, zero, suc, _+_, _-_, _≤_, _<_, max}
 use mathlib.Core.Path.{_≡_, refl, sym, ap, ap₂, _∙_}
@@ -170,9 +171,6 @@ module _ (set : List (List ℕ)) (lengths : List ℕ) (count : ℕ) where
     module _ (hr : i < length set) (hl : i < length lengths) (hn : i < count) (few : count ≤ 24) (len : ℕ)
         (cut : len ≡ length (take (getD lengths i 0) (getD set i []))) (t : Bool)
         (e : t ≡ basic (patternsOf set lengths count) (take len (getD set i []))) where
-      β : List ℕ
-      β = take (getD lengths i 0) (getD set i [])
-
       said : t ≡ basic (patternsOf set lengths count) (take (getD lengths i 0) (getD set i []))
       said =
           e ∙ ap (basic (patternsOf set lengths count))

@@ -5,7 +5,7 @@ use native.Mathlib.Omega.{arith}
 use mathlib.Core.Path.{_≡_, refl, sym, ap, ap₂, _∙_}
 use mathlib.Core.Bool.{Bool, true, false}
 use mathlib.Core.List.{List, [], _∷_, _++_, List·Memᴰ}
-use lib.ListN.{length, take}
+use lib.ListN.{length}
 use Rattle.word.specs.Word.{isPerm, longest}
 use Rattle.word.specs.Finding.{Finding, clean, firstFault}
 use Rattle.word.specs.declared.refusal.Refusal.the-variants.{LiveGap, Irreversible}
