@@ -1,23 +1,35 @@
--- Two digit rows compared from a place on, and the patterns of a set in memory from a place on.
+-- Two digit rows compared from a place on, the patterns of a set in memory from a place on, and the
+-- basis as it is gathered.
 -- Assumes nothing.
 use Prim.Native.Nat.{ℕ, zero, suc, _+_, _-_, _≤_, _<_, max}
-use mathlib.Core.Path.{_≡_, refl, sym, ap, _∙_}
+use mathlib.Core.Path.{_≡_, refl, sym, ap, ap₂, _∙_}
 use mathlib.Core.Logic.{_⊎_, inl, inr}
 use mathlib.Core.Bool.{Bool, true, false, not, _&&_, _||_, cond}
-use mathlib.Core.List.{List, [], _∷_, _++_, append-assoc, append-nil}
-use native.Mathlib.Nat.{sub-zero}
+use mathlib.Core.List.{List, [], _∷_, _++_, map, append-assoc, append-nil}
+use native.Mathlib.Nat.{sub-zero, zero-add}
 use native.Mathlib.Numerals.{add-one}
 use native.Mathlib.Omega.{arith}
-use lib.ListN.{length, getD, take, drop, set, length-set, length-take, drop-of-length-le}
+use lib.ListN.{length, getD, take, drop, length-set, length-take, drop-of-length-le}
+use lib.ListN.{set as set-at}
 use lib.Dec.{leb}
-use lib.Seq.{drop-cons, getD-take, length-take-le, take-suc-set}
+use lib.Seq.{drop-cons, getD-take, getD-set-same, getD-set-other}
 use borrow.Author.Tests.{le-leb, lt-leb, eq-eqb, ne-eqb, not-true, not-false}
+use Rattle.word.specs.Lists.{keep, row}
 use Rattle.word.specs.Word.{contains, longest}
 use Rattle.word.specs.Containment.{patternsOf}
-use Rattle.word.specs.ListLaws.{below-or-not}
+use Rattle.word.specs.ListLaws.{below-or-not, same-or-not}
 use Rattle.cell.specs.Cell.{same}
-use Rattle.cell.specs.Basis.{basic, basis, kept, basisRows, basisLengths}
-use Rattle.candidate.specs.BasisMemory.{kept-patterns, kept-length}
+use Rattle.cell.specs.Basis.{basic, basis}
+use Rattle.scheme.specs.SchemeMemory.{padded, noPattern, patternIn}
+use Rattle.scheme.specs.MemoryLaws.{padded-within}
+use Rattle.scheme.specs.declared.memory.Pattern.{Pattern}
+use Rattle.candidate.specs.BasisSet.{IsBasis}
+
+-- a part that is cut again at its own length
+pub take-again : (n : ℕ) (l : List ℕ) → take (length (take n l)) l ≡ take n l
+take-again zero l = refl
+take-again (suc n) [] = refl
+take-again (suc n) (x ∷ l) = ap {B = List ℕ} (λ r. x ∷ r) (take-again n l)
 
 -- a digit row, past its end and before it
 cut-ended : (p : List ℕ) (a k : ℕ) → a ≤ k → drop k (take a p) ≡ []
@@ -110,99 +122,104 @@ module _ (rows : List (List ℕ)) (lengths : List ℕ) (n : ℕ) (β : List ℕ)
   pub basic-later : not t ≡ false → basic (from rows lengths n j) β ≡ basic (from rows lengths n (j + 1)) β
   basic-later f = basic-cons ∙ rw (not-false t f) refl
 
--- what is kept of a set in memory from place j on
-module _ {A : Type 0} (f : List ℕ → Bool) (pick : List ℕ → ℕ → A) (rows : List (List ℕ)) (lengths : List ℕ) (n : ℕ) where
-  unfoldable pub kept-from : ℕ → List A
-  kept-from j = kept f pick (drop j rows) (drop j lengths) (n - j)
+-- a pattern in memory, and the patterns of an array of them
+abbrev held : List Pattern → ℕ → List ℕ
+held items j = patternIn (getD items j noPattern)
 
-  pub kept-start : kept f pick rows lengths n ≡ kept-from 0
-  unfolding kept-from
-  kept-start = rw (sub-zero n) refl
+held-cut : (l : ℕ) (p : List ℕ) (len : ℕ) → len ≡ length (take l p) → padded len p ≡ take l p
+held-cut l p len e = padded-within len p (omega (arith, length-take l p)) ∙ ap (λ (m : ℕ). take m p) e ∙ take-again l p
 
-  pub kept-counted : (j : ℕ) → n ≤ j → kept-from j ≡ []
-  unfolding kept-from
-  kept-counted j h = go (n - j) (omega arith)
-    where
-      go : (m : ℕ) → m ≡ 0 → kept f pick (drop j rows) (drop j lengths) m ≡ []
-      go m e = rw e refl
+one-more : (f g : ℕ → List ℕ) (a n : ℕ) → ((j : ℕ) → a ≤ j → j < a + n → g j ≡ f j) → map g (row a (suc n)) ≡ map f (row a n) ++ (g (a + n) ∷ [])
+one-more f g a zero h = let e : a ≡ a + 0 = omega arith in ap {B = List (List ℕ)} (λ (m : ℕ). g m ∷ []) e
+one-more f g a (suc n) h =
+    ap₂ (λ (x : List ℕ) (l : List (List ℕ)). x ∷ l) (h a (omega arith) (omega arith))
+    (one-more f g (suc a) n (λ (j : ℕ) (p : suc a ≤ j) (q : j < suc a + n). h j (omega arith) (omega arith)) ∙
+    ap (λ (m : ℕ). map f (row (suc a) n) ++ (g m ∷ [])) (omega arith))
 
-  pub kept-end : (j : ℕ) → length rows ≤ j → kept-from j ≡ []
-  unfolding kept-from
-  kept-end j h = rw (drop-of-length-le rows h) (go (n - j))
-    where
-      go : (m : ℕ) → kept f pick [] (drop j lengths) m ≡ []
-      go zero = refl
-      go (suc m) = refl
-
-  module _ (j : ℕ) (h : j < length rows) (l : j < length lengths) (k : j < n) where
-    kept-cons : kept-from j ≡
-        cond (f (take (getD lengths j 0) (getD rows j []))) (pick (getD rows j []) (getD lengths j 0) ∷ kept-from (j + 1)) (kept-from (j + 1))
-    unfolding kept-from
-    kept-cons = rw (add-one j, drop-cons rows j [] h, drop-cons lengths j 0 l) (go (n - j) (n - suc j) (omega arith))
-      where
-        rest : ℕ → List A
-        rest m = kept f pick (drop (suc j) rows) (drop (suc j) lengths) m
-
-        go : (m r : ℕ) → m ≡ suc r →
-            kept f pick (getD rows j [] ∷ drop (suc j) rows) (getD lengths j 0 ∷ drop (suc j) lengths) m ≡
-            cond (f (take (getD lengths j 0) (getD rows j []))) (pick (getD rows j []) (getD lengths j 0) ∷ rest r) (rest r)
-        go m r e = rw e refl
-
-    module _ (t : Bool) (e : t ≡ f (take (getD lengths j 0) (getD rows j []))) where
-      pub kept-here : t ≡ true → kept-from j ≡ pick (getD rows j []) (getD lengths j 0) ∷ kept-from (j + 1)
-      kept-here q = kept-cons ∙ rw (← e, q) refl
-
-      pub kept-skip : t ≡ false → kept-from j ≡ kept-from (j + 1)
-      kept-skip q = kept-cons ∙ rw (← e, q) refl
-
--- what is to be gathered: the first n elements of out, and the rest, which is found from place i on
-pub record Gathering {A : Type 0} (whole rest out : List A) (n i : ℕ) : Type 0 where
-  pub parts : whole ≡ take n out ++ rest
+-- how far the basis is gathered: n patterns, and those that are basic from place i on
+pub record Gathered (set : List (List ℕ)) (lengths : List ℕ) (count : ℕ) (items : List Pattern) (n i : ℕ) : Type 0 where
+  pub parts :
+      basis (patternsOf set lengths count) ≡
+      map (held items) (row 0 n) ++ keep (basic (patternsOf set lengths count)) (from set lengths count i)
   pub behind : n ≤ i
-  pub inside : i ≤ 24
-  pub room : length out ≡ 24
+  pub inside : i ≤ count
+  pub room : length items ≡ 24
+  pub short : (j : ℕ) → j < n → (getD items j noPattern) .length ≤ 8
 
-module _ {A : Type 0} (whole rest out : List A) where
-  module _ (n i : ℕ) (g : Gathering whole rest out n i) where
-    pub gather-done : (m : ℕ) → rest ≡ [] → m ≡ length whole → take m out ≡ whole
-    gather-done m e l =
-        let all-out : whole ≡ take n out = g .parts ∙ ap (λ r. take n out ++ r) e ∙ append-nil (take n out) in
-        let count : m ≡ n = l ∙ ap length all-out ∙ length-take-le n out (omega (arith, g .behind, g .inside, g .room)) in
-        ap (λ k. take k out) count ∙ sym all-out
+module _ (set : List (List ℕ)) (lengths : List ℕ) (count : ℕ) where
+  pub gathered-start : (items : List Pattern) → length items ≡ 24 → Gathered set lengths count items 0 0
+  unfolding basis
+  gathered-start items h = record {
+    parts = ap (keep (basic (patternsOf set lengths count))) (from-start set lengths count);
+    behind = omega arith;
+    inside = omega arith;
+    room = h;
+    short = λ (j : ℕ) (q : j < 0). absurd (omega arith);
+  }
 
-    module _ (h : i < 24) where
-      pub gather-take : (x : A) (later : List A) → rest ≡ x ∷ later → Gathering whole later (set out n x) (n + 1) (i + 1)
-      gather-take x later e = record {
-        parts =
-            g .parts ∙ rw (add-one n, take-suc-set out n x (omega (arith, g .behind, g .room)), e) (sym (append-assoc (take n out) (x ∷ []) later));
-        behind = omega (arith, g .behind);
-        inside = omega arith;
-        room = length-set out n x ∙ g .room;
-      }
+  module _ (items : List Pattern) (n i : ℕ) (g : Gathered set lengths count items n i) where
+    pub gathered-end : count ≤ i → (few : count ≤ 24) → IsBasis set lengths count (record { items = items; count = n })
+    gathered-end h few = record {
+      holds =
+          sym (g .parts ∙
+          ap (λ (l : List (List ℕ)). map (held items) (row 0 n) ++ keep (basic (patternsOf set lengths count)) l) (from-counted set lengths count i h) ∙
+          append-nil (map (held items) (row 0 n)));
+      few = omega (arith, g .behind, g .inside);
+      short = g .short;
+    }
 
-      pub gather-skip : (later : List A) → rest ≡ later → Gathering whole later out n (i + 1)
-      gather-skip later e = record {
-        parts = g .parts ∙ ap (λ r. take n out ++ r) e;
+    module _ (hr : i < length set) (hl : i < length lengths) (hn : i < count) (few : count ≤ 24) (len : ℕ)
+        (cut : len ≡ length (take (getD lengths i 0) (getD set i []))) (t : Bool)
+        (e : t ≡ basic (patternsOf set lengths count) (take len (getD set i []))) where
+      said : t ≡ basic (patternsOf set lengths count) (take (getD lengths i 0) (getD set i []))
+      said =
+          e ∙ ap (basic (patternsOf set lengths count))
+          (ap (λ (m : ℕ). take m (getD set i [])) cut ∙ take-again (getD lengths i 0) (getD set i []))
+
+      next : keep (basic (patternsOf set lengths count)) (from set lengths count i) ≡
+          cond t (take (getD lengths i 0) (getD set i []) ∷ keep (basic (patternsOf set lengths count)) (from set lengths count (i + 1)))
+          (keep (basic (patternsOf set lengths count)) (from set lengths count (i + 1)))
+      next = ap (keep (basic (patternsOf set lengths count))) (from-cons set lengths count i hr hl hn) ∙ rw said refl
+
+      pub gathered-skip : t ≡ false → Gathered set lengths count items n (i + 1)
+      gathered-skip f = record {
+        parts = g .parts ∙ ap (λ (l : List (List ℕ)). map (held items) (row 0 n) ++ l) (next ∙ rw f refl);
         behind = omega (arith, g .behind);
         inside = omega arith;
         room = g .room;
+        short = g .short;
       }
 
--- how many are counted: n, and the rest, which is found from place i on
-pub record Counting (whole : ℕ) (rest : List (List ℕ)) (n i : ℕ) : Type 0 where
-  pub parts : whole ≡ n + length rest
-  pub behind : n ≤ i
+      pub gathered-take : t ≡ true → len ≤ 8 → Gathered set lengths count (set-at items n (record { digits = getD set i []; length = len })) (n + 1) (i + 1)
+      gathered-take f low =
+          let p : Pattern = record { digits = getD set i []; length = len } in
+          let rest : List (List ℕ) = keep (basic (patternsOf set lengths count)) (from set lengths count (i + 1)) in
+          let here : getD (set-at items n p) n noPattern ≡ p = getD-set-same items n p noPattern (omega (arith, g .behind, g .room)) in
+          let more : map (held (set-at items n p)) (row 0 (n + 1)) ≡ map (held items) (row 0 n) ++ (take (getD lengths i 0) (getD set i []) ∷ []) =
+          rw (add-one n)
+          (one-more (held items) (held (set-at items n p)) 0 n
+          (λ (j : ℕ) (a : 0 ≤ j) (q : j < 0 + n).
+          ap patternIn (getD-set-other items n j p noPattern (λ (z : j ≡ n). let y : j < n = omega arith in absurd (omega arith)))) ∙
+          ap (λ (x : List ℕ). map (held items) (row 0 n) ++ (x ∷ []))
+          (ap (held (set-at items n p)) (zero-add n) ∙ ap patternIn here ∙ held-cut (getD lengths i 0) (getD set i []) len cut)) in
+          record {
+            parts =
+                g .parts ∙
+                ap (λ (l : List (List ℕ)). map (held items) (row 0 n) ++ l) (next ∙ rw f refl) ∙
+                sym (append-assoc (map (held items) (row 0 n)) (take (getD lengths i 0) (getD set i []) ∷ []) rest) ∙
+                ap (λ (l : List (List ℕ)). l ++ rest) (sym more);
+            behind = omega (arith, g .behind);
+            inside = omega arith;
+            room = length-set items n p ∙ g .room;
+            short = λ (j : ℕ) (q : j < n + 1). short-more p low j q (same-or-not j n) here;
+          }
+        where
+          short-more : (p : Pattern) → p .length ≤ 8 → (j : ℕ) → j < n + 1 → (j ≡ n) ⊎ (j ≡ n → ⊥) → getD (set-at items n p) n noPattern ≡ p →
+              (getD (set-at items n p) j noPattern) .length ≤ 8
+          short-more p low j q (inl z) here = rw (z, here) low
+          short-more p low j q (inr z) here = rw (getD-set-other items n j p noPattern z) (g .short j (omega arith))
 
 module _ (whole : ℕ) (rest : List (List ℕ)) where
-  pub count-here : (n i : ℕ) (x : List ℕ) (later : List (List ℕ)) → Counting whole rest n i → rest ≡ x ∷ later → Counting whole later (n + 1) (i + 1)
-  count-here n i x later g e = record { parts = omega (arith, g .parts, ap length e); behind = omega (arith, g .behind) }
-
-  pub count-skip : (n i : ℕ) (later : List (List ℕ)) → Counting whole rest n i → rest ≡ later → Counting whole later n (i + 1)
-  count-skip n i later g e = record { parts = omega (arith, g .parts, ap length e); behind = omega (arith, g .behind) }
-
-  pub count-done : (n i : ℕ) → Counting whole rest n i → rest ≡ [] → n ≡ whole
-  count-done n i g e = omega (arith, g .parts, ap length e)
-
   -- the longest: of those seen, m, and of the rest
   pub longest-here : (m : ℕ) (x : List ℕ) (later : List (List ℕ)) → whole ≡ max m (longest rest) → rest ≡ x ∷ later →
       whole ≡ max (max m (length x)) (longest later)
@@ -212,27 +229,3 @@ module _ (whole : ℕ) (rest : List (List ℕ)) where
   pub longest-done : (m : ℕ) → whole ≡ max m (longest rest) → rest ≡ [] → m ≡ whole
   unfolding longest
   longest-done m h e = sym (h ∙ rw e (omega arith))
-
--- the basis, its rows and its lengths are what is kept from place 0 on
-module _ (rows : List (List ℕ)) (lengths : List ℕ) (n : ℕ) where
-  pub basis-walk : basis (patternsOf rows lengths n) ≡ kept-from (basic (patternsOf rows lengths n)) (λ r k. take k r) rows lengths n 0
-  unfolding basis
-  basis-walk =
-      kept-patterns (basic (patternsOf rows lengths n)) rows lengths n ∙
-      kept-start (basic (patternsOf rows lengths n)) (λ r k. take k r) rows lengths n
-
-  pub rows-walk : basisRows rows lengths n ≡ kept-from (basic (patternsOf rows lengths n)) (λ r k. r) rows lengths n 0
-  unfolding basisRows
-  rows-walk = kept-start (basic (patternsOf rows lengths n)) (λ r k. r) rows lengths n
-
-  pub rows-length : length (basis (patternsOf rows lengths n)) ≡ length (basisRows rows lengths n)
-  unfolding basis basisRows
-  rows-length = kept-length (basic (patternsOf rows lengths n)) (λ r k. r) rows lengths n
-
-  pub lengths-walk : basisLengths rows lengths n ≡ kept-from (basic (patternsOf rows lengths n)) (λ r k. k) rows lengths n 0
-  unfolding basisLengths
-  lengths-walk = kept-start (basic (patternsOf rows lengths n)) (λ r k. k) rows lengths n
-
-  pub lengths-length : length (basis (patternsOf rows lengths n)) ≡ length (basisLengths rows lengths n)
-  unfolding basis basisLengths
-  lengths-length = kept-length (basic (patternsOf rows lengths n)) (λ r k. k) rows lengths n

@@ -1,4 +1,5 @@
--- Laws for the making of a candidate's word: one entry more, the values that are kept, the rest behind them, and that the whole is the built word.
+-- Laws for the making of a candidate's word: one entry more, the values that are kept, the rest
+-- behind them, and that the whole is the built word.
 -- Assumes nothing.
 use Prim.Native.Nat.{ℕ, suc, _+_, _-_, _≤_, _<_, min}
 use native.Mathlib.Nat.{zero-add, add-zero, suc-add, add-suc}

@@ -1,4 +1,5 @@
--- The walks of the candidate search: over the patterns, over the spacings of a total, over the totals.
+-- The walks of the candidate search: over the patterns, over the spacings of a total, over the
+-- totals.
 -- Assumes nothing.
 use Prim.Native.Nat.{ℕ, zero, suc, _+_, _-_, _≤_, _<_}
 use mathlib.Core.Path.{_≡_, refl, sym, ap, _∙_}
@@ -28,13 +29,7 @@ use Rattle.candidate.specs.BasisMemory.{pattern-member}
 use Rattle.spacing.specs.Following.{firstVector, later, Follows}
 use Rattle.spacing.specs.SpacingOrder.{vectors-first, first-length, first-total}
 use Rattle.candidate.proofs.HitLaws.{hit-short}
-use Rattle.candidate.proofs.BasisWalk.{from, from-start, from-counted, from-end, from-cons}
-
--- a part that is cut again at its own length
-pub take-again : (n : ℕ) (l : List ℕ) → take (length (take n l)) l ≡ take n l
-take-again zero l = refl
-take-again (suc n) [] = refl
-take-again (suc n) (x ∷ l) = ap {B = List ℕ} (λ r. x ∷ r) (take-again n l)
+use Rattle.candidate.proofs.BasisWalk.{take-again, from, from-start, from-counted, from-end, from-cons}
 
 -- what is looked up for the pattern at place i
 pub ready : (set : List (List ℕ)) (lengths : List ℕ) (count : ℕ) (p R g levels gone : List ℕ) (needs : List (List ℕ)) (t i : ℕ) →

@@ -1,4 +1,5 @@
--- Laws over lists for the tables of the candidate search: one entry more of a count, of a table, of the levels, of the deleted values.
+-- Laws over lists for the tables of the candidate search: one entry more of a count, of a table, of
+-- the levels, of the deleted values.
 -- Assumes nothing.
 use Prim.Native.Nat.{ℕ, zero, suc, _+_, _-_, _≤_, _<_}
 use native.Mathlib.Nat.{add-zero}

@@ -1,4 +1,5 @@
--- The state of `placed`: what placing the rest of the head in the rest of the prefix comes to, one step at a time.
+-- The state of `placed`: what placing the rest of the head in the rest of the prefix comes to, one
+-- step at a time.
 -- Assumes nothing.
 use Prim.Native.Nat.{ℕ, suc, _+_, _≤_, _<_}
 use mathlib.Core.Path.{_≡_, refl, sym, ap, _∙_}
@@ -14,7 +15,8 @@ use Rattle.word.specs.Vocabulary.{fits}
 use Rattle.cell.specs.Candidate.{place}
 
 module _ (need lev : ℕ → ℕ) (gone : ℕ → Bool) (H P : List ℕ) where
-  -- the entries of the head from place s on are to be placed in the prefix from index i on, behind the values of `chosen`
+  -- the entries of the head from place s on are to be placed in the prefix from index i on, behind
+  -- the values of `chosen`
   abbrev pub state : Bool → List ℕ → ℕ → ℕ → Bool
   state used chosen s i = place need lev gone used (take s H) (take s chosen) (drop s H) (drop i P)
 

@@ -2,4 +2,5 @@
 pub mod Lookup
 pub mod Ready
 pub mod Tabled
+pub mod BasisSet
 pub mod BasisMemory

@@ -1,10 +1,15 @@
 -- Lists that are indexed by values.
-use Prim.Native.Nat.{ℕ, _<_}
+use Prim.Native.Nat.{ℕ, _+_, _<_}
 use mathlib.Core.Path.{_≡_}
 use mathlib.Core.Bool.{Bool, not}
 use mathlib.Core.List.{List}
 use lib.ListN.{getD}
 use lib.Dec.{eqb}
+use Rattle.word.specs.Ceilings.{DIGITS}
+
+-- values that such a list reaches: 0 and the digits
+abbrev pub VALUES : ℕ
+VALUES = DIGITS + 1
 
 -- what a list that is indexed by values says of a value
 abbrev pub entryOf : List ℕ → ℕ → ℕ

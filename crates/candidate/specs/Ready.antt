@@ -5,6 +5,7 @@ use mathlib.Core.Bool.{Bool, true, false, _&&_}
 use mathlib.Core.Logic.{_↔_}
 use mathlib.Core.List.{List, [], map}
 use lib.ListN.{length, getD, take, drop}
+use Rattle.word.specs.Ceilings.{DIGITS, PATTERNS, PREFIX}
 use Rattle.word.specs.Lists.{all, any}
 use Rattle.word.specs.Containment.{patternsOf}
 use Rattle.word.specs.Word.{under, has, entry, isPerm, within}
@@ -12,42 +13,43 @@ use Rattle.cell.specs.Cell.{total, free, vectors}
 use Rattle.cell.specs.Claim.{DeletionClaim}
 use Rattle.cell.specs.Built.{level}
 use Rattle.cell.specs.Candidate.{headLength, violated, irreversible}
-use Rattle.candidate.specs.Lookup.{Says, Flags}
+use Rattle.candidate.specs.Lookup.{VALUES, Says, Flags}
 
 -- of one prefix, its deleted positions, one spacing and one pattern
 pub record Ready (p R g β levels gone need : List ℕ) : Type 0 where
   pub perm : isPerm p ≡ true
-  pub short : length p ≤ 6
+  pub short : length p ≤ PREFIX
   pub inside : all (within (length p)) R ≡ true
   pub size : length g ≡ suc (length p)
   pub pattern : isPerm β ≡ true
-  pub digits : length β ≤ 8
+  pub digits : length β ≤ DIGITS
   pub said-levels : Says levels (suc (length p)) (level g)
-  pub said-gone : Flags gone 9 (λ v. has v (map (entry p) R))
-  pub said-need : total g ≤ length β → Says need 9 (under (drop (headLength β (total g)) β))
+  pub said-gone : Flags gone VALUES (λ v. has v (map (entry p) R))
+  pub said-need : total g ≤ length β → Says need VALUES (under (drop (headLength β (total g)) β))
 
 -- the pattern at place i of a set in memory
 abbrev pub patternAt : List (List ℕ) → List ℕ → ℕ → List ℕ
 patternAt set lengths i = take (getD lengths i 0) (getD set i [])
 
--- for each pattern that is at least t long the levels that its head entries need, where its last t entries are the rest
+-- for each pattern that is at least t long the levels that its head entries need, where its last t
+-- entries are the rest
 abbrev pub Needs : List (List ℕ) → List ℕ → ℕ → ℕ → List (List ℕ) → Type 0
 Needs set lengths count t needs =
     (i : ℕ) → i < count → t ≤ length (patternAt set lengths i) →
-    Says (getD needs i []) 9 (under (drop (headLength (patternAt set lengths i) t) (patternAt set lengths i)))
+    Says (getD needs i []) VALUES (under (drop (headLength (patternAt set lengths i) t) (patternAt set lengths i)))
 
 -- a set of patterns and an entry's prefix and positions that went through the tests 2, 3 and 7
 pub record Given (set : List (List ℕ)) (lengths : List ℕ) (count : ℕ) (p R : List ℕ) : Type 0 where
-  pub few : count ≤ 24
+  pub few : count ≤ PATTERNS
   pub patterns : (i : ℕ) → i < count → isPerm (patternAt set lengths i) ≡ true
   pub perm : isPerm p ≡ true
-  pub short : length p ≤ 6
+  pub short : length p ≤ PREFIX
   pub inside : all (within (length p)) R ≡ true
 
 -- The answers, for every list of positions that the flags are of.
 
 abbrev pub FlaggedFor : List (List ℕ) → List ℕ → ℕ → List ℕ → List ℕ → List ℕ → Type 0
-FlaggedFor set lengths count p R gone = Given set lengths count p R × Flags gone 9 (λ v. has v (map (entry p) R))
+FlaggedFor set lengths count p R gone = Given set lengths count p R × Flags gone VALUES (λ v. has v (map (entry p) R))
 
 -- at one spacing
 abbrev pub SpacingAnswer : List (List ℕ) → List ℕ → ℕ → List (List ℕ) → List ℕ → List ℕ → List ℕ → ℕ → Bool → Type 0
@@ -67,7 +69,8 @@ TotalAnswer set lengths count p gone B k t r =
     (R : List ℕ) → FlaggedFor set lengths count p R gone → k ≡ length p →
     r ≡ any (λ g. free B g && violated (patternsOf set lengths count) p R g) (vectors (suc k) t)
 
--- The answer on an entry: it is the definition's, and it is no exactly if the deletion claim holds at every length.
+-- The answer on an entry: it is the definition's, and it is no exactly if the deletion claim holds
+-- at every length.
 pub record EntryAnswer (P : List (List ℕ)) (p : List ℕ) (B : List (List ℕ)) (R : List ℕ) (r : Bool) : Type 0 where
   pub defined : r ≡ irreversible P p B R
   pub claimed : (r ≡ false) ↔ DeletionClaim P p B R

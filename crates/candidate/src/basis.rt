@@ -1,4 +1,7 @@
-// The basis of a pattern set in memory: the patterns that contain no other pattern of the set, and the length of the longest of them.
+// The basis of a pattern set in memory: the patterns that contain no other pattern of the set; and
+// the length of the longest pattern.
+use scheme::memory::Pattern;
+use scheme::memory::Patterns;
 use word::copy::first_copy;
 use word::limits::DIGITS;
 use word::limits::PATTERNS;
@@ -9,7 +12,9 @@ ghost use lib.ListN.{length, take};
 ghost use Rattle.word.specs.Word.{contains, longest};
 ghost use Rattle.word.specs.Containment.{patternsOf};
 ghost use Rattle.cell.specs.Cell.{same};
-ghost use Rattle.cell.specs.Basis.{basic, basis, basisRows, basisLengths};
+ghost use Rattle.word.specs.Ceilings.{DIGITS, PATTERNS};
+ghost use Rattle.cell.specs.Basis.{basic};
+ghost use Rattle.candidate.specs.BasisSet.{IsBasis};
 
 // Whether the first `a` digits of p are the first `b` digits of q.
 fn same_digits(p: [u8; DIGITS], a: usize, q: [u8; DIGITS], b: usize) -> bool
@@ -76,81 +81,40 @@ pub fn is_basic(
     true
 }
 
-// How many patterns the basis has.
-pub fn basis_count(set: [[u8; DIGITS]; PATTERNS], lengths: [u8; PATTERNS], count: usize) -> usize
-    ensures { λ r. ⌜ r ≡ length (basis (patternsOf set lengths count)) ⌝ }
+// The basis of the first `count` patterns of the set: those that contain no other, in their order.
+pub fn basis_of(set: [[u8; DIGITS]; PATTERNS], lengths: [u8; PATTERNS], count: usize) -> Patterns
+    requires { ⌜ count ≤ PATTERNS ⌝ }
+    ensures { λ r. ⌜ IsBasis set lengths count r ⌝ }
 {
+    let mut items = [Pattern {
+        digits: [0u8; DIGITS],
+        length: 0,
+    }; PATTERNS];
     let mut n: usize = 0;
     let mut i: usize = 0;
-    while i < PATTERNS {
-        if count <= i {
-            return n;
-        }
-        if is_basic(set, lengths, count, set[i], lengths[i] as usize) {
+    while i < count {
+        let row = set[i];
+        let len = digits(row, lengths[i] as usize);
+        if is_basic(set, lengths, count, row, len) {
+            items[n] = Pattern {
+                digits: row,
+                length: len,
+            };
             n += 1;
             i += 1;
         } else {
             i += 1;
         }
     }
-    n
-}
-
-// The rows of the basis in the memory form of a set; the count is that of `basis_count`.
-pub fn basis_rows(
-    set: [[u8; DIGITS]; PATTERNS],
-    lengths: [u8; PATTERNS],
-    count: usize,
-) -> [[u8; DIGITS]; PATTERNS]
-    ensures { λ r. ⌜ take (length (basis (patternsOf set lengths count))) r ≡ basisRows set lengths count ⌝ }
-{
-    let mut rows = [[0u8; DIGITS]; PATTERNS];
-    let mut n: usize = 0;
-    let mut i: usize = 0;
-    while i < PATTERNS {
-        if count <= i {
-            return rows;
-        }
-        if is_basic(set, lengths, count, set[i], lengths[i] as usize) {
-            rows[n] = set[i];
-            n += 1;
-            i += 1;
-        } else {
-            i += 1;
-        }
+    Patterns {
+        items: items,
+        count: n,
     }
-    rows
-}
-
-// The lengths of the patterns of the basis, likewise.
-pub fn basis_lengths(
-    set: [[u8; DIGITS]; PATTERNS],
-    lengths: [u8; PATTERNS],
-    count: usize,
-) -> [u8; PATTERNS]
-    ensures { λ r. ⌜ take (length (basis (patternsOf set lengths count))) r ≡ basisLengths set lengths count ⌝ }
-{
-    let mut out = [0u8; PATTERNS];
-    let mut n: usize = 0;
-    let mut i: usize = 0;
-    while i < PATTERNS {
-        if count <= i {
-            return out;
-        }
-        if is_basic(set, lengths, count, set[i], lengths[i] as usize) {
-            out[n] = lengths[i];
-            n += 1;
-            i += 1;
-        } else {
-            i += 1;
-        }
-    }
-    out
 }
 
 // How many of the first `len` digits of p there are.
 pub fn digits(p: [u8; DIGITS], len: usize) -> usize
-    ensures { λ r. ⌜ (r ≡ length (take len p)) × (r ≤ 8) ⌝ }
+    ensures { λ r. ⌜ (r ≡ length (take len p)) × (r ≤ DIGITS) ⌝ }
 {
     if len < p.len() { len } else { p.len() }
 }
@@ -164,7 +128,7 @@ fn larger(a: usize, b: usize) -> usize
 
 // The length of the longest of the first `count` patterns of the set, 0 for none.
 pub fn longest_length(set: [[u8; DIGITS]; PATTERNS], lengths: [u8; PATTERNS], count: usize) -> usize
-    ensures { λ r. ⌜ (r ≡ longest (patternsOf set lengths count)) × (r ≤ 8) ⌝ }
+    ensures { λ r. ⌜ (r ≡ longest (patternsOf set lengths count)) × (r ≤ DIGITS) ⌝ }
 {
     let mut m: usize = 0;
     let mut i: usize = 0;

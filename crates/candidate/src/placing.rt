@@ -1,18 +1,26 @@
-// Placing the head of a pattern in a prefix: the part of the candidate search that says whether a copy stands.
+// Placing the head of a pattern in a prefix: the part of the candidate search that says whether a
+// copy stands.
+use crate::tables::Tables;
+use crate::tables::VALUES;
+use crate::tables::told;
+use word::limits::DIGITS;
 ghost use mathlib.Core.Path.{_≡_};
 ghost use mathlib.Core.Bool.{_||_};
 ghost use Prim.Native.Nat.{_≤_};
 ghost use lib.ListN.{length, take, drop};
+ghost use Rattle.word.specs.Ceilings.{DIGITS};
 ghost use Rattle.word.specs.Vocabulary.{fits};
 ghost use Rattle.cell.specs.Candidate.{place};
 ghost use Rattle.candidate.specs.Lookup.{entryOf, flagged};
 
-// What a list that is indexed by values says of a value, and 0 of a value that it does not reach.
-pub fn of_value(a: &[u8], v: u8) -> u8
-    ensures { λ r. ⌜ r ≡ entryOf (now (a .entry)) v ⌝ }
-{
-    let i = v as usize;
-    if i < a.len() { a[i] } else { 0 }
+// How far the head of a pattern is placed: the values at which its first `placed` entries stand,
+// the index in the prefix from which the next one is sought, and whether a value among them is
+// deleted.
+pub struct Placing {
+    pub chosen: [u8; DIGITS],
+    pub placed: usize,
+    pub from: usize,
+    pub used: bool,
 }
 
 // Whether one of the two holds.
@@ -22,16 +30,16 @@ fn either(a: bool, b: bool) -> bool
     if a { true } else { b }
 }
 
-// Whether such a list flags a value.
-pub fn is_flagged(a: &[u8], v: u8) -> bool
-    ensures { λ r. ⌜ r ≡ flagged (now (a .entry)) v ⌝ }
+// Whether a table flags a value.
+fn is_flagged(table: [u8; VALUES], v: u8) -> bool
+    ensures { λ r. ⌜ r ≡ flagged table v ⌝ }
 {
-    of_value(a, v) != 0
+    told(table, v) != 0
 }
 
 // Whether the new pair compares with the first s pairs alike.
-fn pairs_fit(chosen: [u8; 8], head: &[u8], s: usize, x: u8, a: u8) -> bool
-    requires { ⌜ (s ≤ 8) × (s ≤ length (now head)) ⌝ }
+fn pairs_fit(chosen: [u8; DIGITS], head: &[u8], s: usize, x: u8, a: u8) -> bool
+    requires { ⌜ (s ≤ DIGITS) × (s ≤ length (now head)) ⌝ }
     ensures { λ r. ⌜ r ≡ fits (take s (now (head .entry))) x (take s chosen) a ⌝ }
 {
     let mut j: usize = 0;
@@ -46,31 +54,28 @@ fn pairs_fit(chosen: [u8; 8], head: &[u8], s: usize, x: u8, a: u8) -> bool
     true
 }
 
-// Whether the entries of the head from place s on can be placed in the prefix from index i on, behind those that stand at the values `chosen`.
-pub fn placed(
-    chosen: [u8; 8],
-    head: &[u8],
-    need: &[u8],
-    prefix: &[u8],
-    levels: &[u8],
-    gone: &[u8],
-    s: usize,
-    i: usize,
-    used: bool,
-) -> bool
-    requires { ⌜ length (now head) ≤ 8 ⌝ }
-    ensures { λ r. ⌜ r ≡ place (entryOf (now (need .entry))) (entryOf (now (levels .entry))) (flagged (now (gone .entry))) used (take s (now (head .entry))) (take s chosen) (drop s (now (head .entry))) (drop i (now (prefix .entry))) ⌝ }
+// Whether the entries of the head that are not placed yet can be placed in the prefix, behind those
+// that are.
+pub fn placed(state: Placing, head: &[u8], prefix: &[u8], tables: Tables) -> bool
+    requires { ⌜ length (now head) ≤ DIGITS ⌝ }
+    ensures { λ r. ⌜ r ≡ place (entryOf (tables .need)) (entryOf (tables .levels)) (flagged (tables .gone)) (state .used) (take (state .placed) (now (head .entry))) (take (state .placed) (state .chosen)) (drop (state .placed) (now (head .entry))) (drop (state .from) (now (prefix .entry))) ⌝ }
 {
+    let s = state.placed;
+    let used = state.used;
     if head.len() <= s {
         return used;
     }
     let x = head[s];
-    let level = of_value(need, x);
-    let mut j = i;
+    let need = tables.need;
+    let levels = tables.levels;
+    let gone = tables.gone;
+    let chosen = state.chosen;
+    let level = told(need, x);
+    let mut j = state.from;
     while j < prefix.len() {
         let a = prefix[j];
         j += 1;
-        if of_value(levels, a) != level {
+        if told(levels, a) != level {
             continue;
         }
         if !pairs_fit(chosen, head, s, x, a) {
@@ -79,7 +84,14 @@ pub fn placed(
         let mut next = chosen;
         next[s] = a;
         let more = either(used, is_flagged(gone, a));
-        if placed(next, head, need, prefix, levels, gone, s + 1, j, more) {
+        let count = s + 1;
+        let longer = Placing {
+            chosen: next,
+            placed: count,
+            from: j,
+            used: more,
+        };
+        if placed(longer, head, prefix, tables) {
             return true;
         }
     }

@@ -1,8 +1,11 @@
-// The candidate search: whether a deletion loses a member of the shorter cell. For each spacing and pattern there is one word to look at: the
-// prefix at the spacing, followed by the rest that the pattern's last entries make.
+// The candidate search: whether a deletion loses a member of the shorter cell. For each spacing and
+// pattern there is one word to look at: the prefix at the spacing, followed by the rest that the
+// pattern's last entries make.
 use crate::basis::digits;
-use crate::basis::longest_length;
+use crate::placing::Placing;
 use crate::placing::placed;
+use crate::tables::Tables;
+use crate::tables::VALUES;
 use crate::tables::candidate_word;
 use crate::tables::deleted_values;
 use crate::tables::levels_of;
@@ -12,62 +15,89 @@ use spacing::first_spacing;
 use spacing::is_free;
 use spacing::next_spacing;
 use word::copy::first_copy;
+use word::limits::COMPONENTS;
 use word::limits::DIGITS;
+use word::limits::GAPS;
 use word::limits::PATTERNS;
+use word::limits::PREFIX;
 use word::limits::WORD;
 ghost use mathlib.Core.Path.{_≡_};
 ghost use mathlib.Core.Bool.{not};
 ghost use mathlib.Core.List.{List};
 ghost use Prim.Native.Nat.{ℕ, _+_, _-_, _≤_, _<_};
 ghost use lib.ListN.{take, drop};
-ghost use Rattle.word.specs.Word.{avoids, under};
+ghost use Rattle.word.specs.Ceilings.{DIGITS, PATTERNS, PREFIX, TOTAL, WORD};
+ghost use Rattle.word.specs.Word.{avoids, longest, under};
 ghost use Rattle.word.specs.Containment.{patternsOf};
 ghost use Rattle.cell.specs.Cell.{total};
 ghost use Rattle.cell.specs.Candidate.{hit};
 ghost use Rattle.spacing.specs.GapRows.{gapsOf};
-ghost use Rattle.candidate.specs.Lookup.{Says};
+ghost use Rattle.candidate.specs.Lookup.{VALUES, Says};
 ghost use Rattle.candidate.specs.Ready.{Ready, Needs, Given, SpacingAnswer, FreeAnswer, TotalAnswer, EntryAnswer};
 
-// Whether the pattern's head can be placed in the prefix, a deleted value among its places, where its last t entries are the rest.
+// A deletion from an entry's prefix: the prefix, the deleted positions, how many gap vectors the
+// entry has, and the length of the longest pattern.
+pub struct Deletion {
+    pub prefix: [u8; PREFIX],
+    pub length: usize,
+    pub positions: [u8; PREFIX],
+    pub position_count: usize,
+    pub gap_count: usize,
+    pub longest: usize,
+}
+
+// What the search keeps of a deletion: the prefix, the deleted values flagged in the place of the
+// positions, and how many gap vectors there are.
+struct Deleted {
+    prefix: [u8; PREFIX],
+    length: usize,
+    gone: [u8; VALUES],
+    gap_count: usize,
+}
+
+// The same at one spacing, with its total.
+struct At {
+    deleted: Deleted,
+    spacing: [u8; COMPONENTS],
+    total: usize,
+}
+
+// Whether the pattern's head can be placed in the prefix, a deleted value among its places, where
+// its last t entries are the rest.
 fn hits(
     row: [u8; DIGITS],
     len: usize,
     t: usize,
-    need: [u8; 9],
-    prefix: [u8; 6],
+    prefix: [u8; PREFIX],
     k: usize,
-    levels: [u8; 9],
-    gone: [u8; 9],
+    tables: Tables,
 ) -> bool
-    requires { ⌜ (len ≤ 8) × (k ≤ 6) ⌝ }
-    ensures { λ r. ⌜ ((R g : List ℕ) → Ready (take k prefix) R g (take len row) levels gone need → total g ≡ t → r ≡ hit (take k prefix) R g (take len row)) ⌝ }
+    requires { ⌜ (len ≤ DIGITS) × (k ≤ PREFIX) ⌝ }
+    ensures { λ r. ⌜ ((R g : List ℕ) → Ready (take k prefix) R g (take len row) (tables .levels) (tables .gone) (tables .need) → total g ≡ t → r ≡ hit (take k prefix) R g (take len row)) ⌝ }
 {
     if len <= t {
         return false;
     }
     let head = len - t;
-    placed(
-        [0u8; 8],
-        &row[..head],
-        &need,
-        &prefix[..k],
-        &levels,
-        &gone,
-        0,
-        0,
-        false,
-    )
+    let start = Placing {
+        chosen: [0u8; DIGITS],
+        placed: 0,
+        from: 0,
+        used: false,
+    };
+    placed(start, &row[..head], &prefix[..k], tables)
 }
 
-// The levels that a pattern's head entries need, where its last t entries are the rest; for a shorter pattern anything.
-fn need_of(row: [u8; DIGITS], len: usize, t: usize) -> [u8; 9]
-    ensures { λ r. ⌜ (t ≤ len → len ≤ 8 → Says r 9 (under (drop (len - t) (take len row)))) ⌝ }
+// The levels that a pattern's head entries need, where its last t entries are the rest; for a
+// shorter pattern anything.
+fn need_of(row: [u8; DIGITS], len: usize, t: usize) -> [u8; VALUES]
+    ensures { λ r. ⌜ (t ≤ len → len ≤ DIGITS → Says r VALUES (under (drop (len - t) (take len row)))) ⌝ }
 {
     if len < t {
-        return [0u8; 9];
+        return [0u8; VALUES];
     }
     if DIGITS < len {
-        return [0u8; 9];
+        return [0u8; VALUES];
     }
     needed(row, len, t)
 }
@@ -78,11 +108,11 @@ fn needs_of(
     lengths: [u8; PATTERNS],
     count: usize,
     t: usize,
-) -> [[u8; 9]; PATTERNS]
-    requires { ⌜ count ≤ 24 ⌝ }
+) -> [[u8; VALUES]; PATTERNS]
+    requires { ⌜ count ≤ PATTERNS ⌝ }
     ensures { λ r. ⌜ Needs set lengths count t r ⌝ }
 {
-    let mut needs = [[0u8; 9]; PATTERNS];
+    let mut needs = [[0u8; VALUES]; PATTERNS];
     let mut i: usize = 0;
     while i < count {
         let len = digits(set[i], lengths[i] as usize);
@@ -92,7 +122,8 @@ fn needs_of(
     needs
 }
 
-// Whether the first `len` entries of the word contain a pattern. The one at place i, of which the word is made, is the likeliest, and is tried first.
+// Whether the first `len` entries of the word contain a pattern. The one at place i, of which the
+// word is made, is the likeliest, and is tried first.
 fn contained_by(
     set: [[u8; DIGITS]; PATTERNS],
     lengths: [u8; PATTERNS],
@@ -101,7 +132,7 @@ fn contained_by(
     word: [u8; WORD],
     len: usize,
 ) -> bool
-    requires { ⌜ (len ≤ 20) × (i < count) × (count ≤ 24) ⌝ }
+    requires { ⌜ (len ≤ WORD) × (i < count) × (count ≤ PATTERNS) ⌝ }
     ensures { λ r. ⌜ r ≡ not (avoids (patternsOf set lengths count) (take len word)) ⌝ }
 {
     let copy = first_copy(set[i], lengths[i] as usize, &word[..len]);
@@ -116,20 +147,22 @@ fn spacing_violated(
     set: [[u8; DIGITS]; PATTERNS],
     lengths: [u8; PATTERNS],
     count: usize,
-    needs: [[u8; 9]; PATTERNS],
-    prefix: [u8; 6],
-    k: usize,
-    gone: [u8; 9],
-    g: [u8; 7],
-    t: usize,
+    needs: [[u8; VALUES]; PATTERNS],
+    at: At,
 ) -> bool
-    requires { ⌜ (count ≤ 24) × (k ≤ 6) × (total (take (k + 1) g) ≤ 8) ⌝ }
-    ensures { λ r. ⌜ SpacingAnswer set lengths count needs (take k prefix) gone (take (k + 1) g) t r ⌝ }
+    requires { ⌜ (count ≤ PATTERNS) × (at .deleted .length ≤ PREFIX) × (total (take (at .deleted .length + 1) (at .spacing)) ≤ TOTAL) ⌝ }
+    ensures { λ r. ⌜ SpacingAnswer set lengths count needs (take (at .deleted .length) (at .deleted .prefix)) (at .deleted .gone) (take (at .deleted .length + 1) (at .spacing)) (at .total) r ⌝ }
 {
+    let d = at.deleted;
+    let prefix = d.prefix;
+    let k = d.length;
+    let gone = d.gone;
+    let g = at.spacing;
+    let t = at.total;
     let levels = levels_of(g, k);
     let mut i: usize = 0;
     while i < count {
-        let at = i;
+        let place = i;
         let row = set[i];
         let len = digits(row, lengths[i] as usize);
         let need = needs[i];
@@ -137,13 +170,18 @@ fn spacing_violated(
         if len <= t {
             continue;
         }
-        if !hits(row, len, t, need, prefix, k, levels, gone) {
+        let tables = Tables {
+            need: need,
+            levels: levels,
+            gone: gone,
+        };
+        if !hits(row, len, t, prefix, k, tables) {
             continue;
         }
-        let w = candidate_word(prefix, k, levels, gone, row, len, t, need);
+        let w = candidate_word(prefix, k, row, len, t, tables);
         let entries = w.entries;
         let length = w.length;
-        if contained_by(set, lengths, count, at, entries, length) {
+        if contained_by(set, lengths, count, place, entries, length) {
             continue;
         }
         return true;
@@ -156,55 +194,44 @@ fn free_and_violated(
     set: [[u8; DIGITS]; PATTERNS],
     lengths: [u8; PATTERNS],
     count: usize,
-    needs: [[u8; 9]; PATTERNS],
-    prefix: [u8; 6],
-    k: usize,
-    gone: [u8; 9],
-    gaps: [[u8; 7]; 8],
-    gap_count: usize,
-    g: [u8; 7],
-    t: usize,
+    needs: [[u8; VALUES]; PATTERNS],
+    gaps: [[u8; COMPONENTS]; GAPS],
+    at: At,
 ) -> bool
-    requires { ⌜ (count ≤ 24) × (k ≤ 6) × (total (take (k + 1) g) ≤ 8) ⌝ }
-    ensures { λ r. ⌜ FreeAnswer set lengths count needs (take k prefix) gone (gapsOf gaps (k + 1) «gap_count») (take (k + 1) g) t r ⌝ }
+    requires { ⌜ (count ≤ PATTERNS) × (at .deleted .length ≤ PREFIX) × (total (take (at .deleted .length + 1) (at .spacing)) ≤ TOTAL) ⌝ }
+    ensures { λ r. ⌜ FreeAnswer set lengths count needs (take (at .deleted .length) (at .deleted .prefix)) (at .deleted .gone) (gapsOf gaps (at .deleted .length + 1) (at .deleted .«gap_count»)) (take (at .deleted .length + 1) (at .spacing)) (at .total) r ⌝ }
 {
-    if !is_free(gaps, gap_count, k, g) {
+    let d = at.deleted;
+    let g = at.spacing;
+    if !is_free(gaps, d.gap_count, d.length, g) {
         return false;
     }
-    spacing_violated(set, lengths, count, needs, prefix, k, gone, g, t)
+    spacing_violated(set, lengths, count, needs, at)
 }
 
-// Whether some spacing of total t that is at least no gap vector has a violation: the spacings in lexicographic order.
+// Whether some spacing of total t that is at least no gap vector has a violation: the spacings in
+// lexicographic order.
 fn total_violated(
     set: [[u8; DIGITS]; PATTERNS],
     lengths: [u8; PATTERNS],
     count: usize,
-    prefix: [u8; 6],
-    k: usize,
-    gone: [u8; 9],
-    gaps: [[u8; 7]; 8],
-    gap_count: usize,
+    gaps: [[u8; COMPONENTS]; GAPS],
+    deleted: Deleted,
     t: usize,
 ) -> bool
-    requires { ⌜ (count ≤ 24) × (k ≤ 6) × (t ≤ 8) ⌝ }
-    ensures { λ r. ⌜ TotalAnswer set lengths count (take k prefix) gone (gapsOf gaps (k + 1) «gap_count») k t r ⌝ }
+    requires { ⌜ (count ≤ PATTERNS) × (deleted .length ≤ PREFIX) × (t ≤ TOTAL) ⌝ }
+    ensures { λ r. ⌜ TotalAnswer set lengths count (take (deleted .length) (deleted .prefix)) (deleted .gone) (gapsOf gaps (deleted .length + 1) (deleted .«gap_count»)) (deleted .length) t r ⌝ }
 {
+    let k = deleted.length;
     let needs = needs_of(set, lengths, count, t);
     let mut g = first_spacing(k, t as u8);
     loop {
-        if free_and_violated(
-            set,
-            lengths,
-            count,
-            needs,
-            prefix,
-            k,
-            gone,
-            gaps,
-            gap_count,
-            g,
-            t,
-        ) {
+        let at = At {
+            deleted: deleted,
+            spacing: g,
+            total: t,
+        };
+        if free_and_violated(set, lengths, count, needs, gaps, at) {
             return true;
         }
         let next = next_spacing(g, k);
@@ -215,27 +242,32 @@ fn total_violated(
     }
 }
 
-// Whether the deletion of the positions loses a member of the shorter cell at some compared spacing: by rising total, and in lexicographic order
-// within a total.
+// Whether the deletion loses a member of the shorter cell at some compared spacing: by rising
+// total, and in lexicographic order within a total.
 pub fn irreversible(
     set: [[u8; DIGITS]; PATTERNS],
     lengths: [u8; PATTERNS],
     count: usize,
-    prefix: [u8; 6],
-    k: usize,
-    positions: [u8; 6],
-    position_count: usize,
-    gaps: [[u8; 7]; 8],
-    gap_count: usize,
+    gaps: [[u8; COMPONENTS]; GAPS],
+    deletion: Deletion,
 ) -> bool
-    requires { ⌜ (k ≤ 6) × («position_count» ≤ 6) × Given set lengths count (take k prefix) (take «position_count» positions) ⌝ }
-    ensures { λ r. ⌜ EntryAnswer (patternsOf set lengths count) (take k prefix) (gapsOf gaps (k + 1) «gap_count») (take «position_count» positions) r ⌝ }
+    requires { ⌜ (deletion .length ≤ PREFIX) × (deletion .«position_count» ≤ PREFIX) × (deletion .longest ≡ longest (patternsOf set lengths count)) × (deletion .longest ≤ DIGITS) × Given set lengths count (take (deletion .length) (deletion .prefix)) (take (deletion .«position_count») (deletion .positions)) ⌝ }
+    ensures { λ r. ⌜ EntryAnswer (patternsOf set lengths count) (take (deletion .length) (deletion .prefix)) (gapsOf gaps (deletion .length + 1) (deletion .«gap_count»)) (take (deletion .«position_count») (deletion .positions)) r ⌝ }
 {
-    let gone = deleted_values(prefix, k, positions, position_count);
-    let m = longest_length(set, lengths, count);
+    let prefix = deletion.prefix;
+    let k = deletion.length;
+    let positions = deletion.positions;
+    let gone = deleted_values(prefix, k, positions, deletion.position_count);
+    let deleted = Deleted {
+        prefix: prefix,
+        length: k,
+        gone: gone,
+        gap_count: deletion.gap_count,
+    };
+    let m = deletion.longest;
     let mut t: usize = 0;
     while t + 1 <= m {
-        if total_violated(set, lengths, count, prefix, k, gone, gaps, gap_count, t) {
+        if total_violated(set, lengths, count, gaps, deleted, t) {
             return true;
         }
         t += 1;

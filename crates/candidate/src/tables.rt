@@ -1,19 +1,38 @@
-// The numbers that the candidate search looks up by value: levels, needed levels, deleted values; and the candidate's word.
+// The numbers that the candidate search looks up by value: levels, needed levels, deleted values;
+// and the candidate's word.
+use word::limits::COMPONENTS;
+use word::limits::DIGITS;
+use word::limits::PREFIX;
+use word::limits::WORD;
 ghost use mathlib.Core.Path.{_≡_};
 ghost use mathlib.Core.Bool.{true};
 ghost use mathlib.Core.List.{List, map};
 ghost use Prim.Native.Nat.{ℕ, _+_, _-_, _<_, _≤_, min};
 ghost use lib.ListN.{length, take, drop};
+ghost use Rattle.word.specs.Ceilings.{DIGITS, PREFIX, TOTAL};
 ghost use Rattle.word.specs.Lists.{all};
 ghost use Rattle.word.specs.Word.{under, has, entry, isPerm, within};
 ghost use Rattle.cell.specs.Cell.{total};
 ghost use Rattle.cell.specs.Built.{level, lift};
-ghost use Rattle.candidate.specs.Lookup.{entryOf, Says, Flags};
-ghost use Rattle.candidate.specs.Tabled.{keptValues, Rest, IsCandidate};
+ghost use Rattle.candidate.specs.Lookup.{VALUES, entryOf, Says, Flags};
+ghost use Rattle.candidate.specs.Tabled.{LEVEL, keptValues, Rest, IsCandidate};
+
+// values that a list which is indexed by values reaches: 0 and the digits
+pub const VALUES: usize = DIGITS + 1;
+// the largest level that is looked at: lifted by one for each prefix value it fits a byte
+const LEVEL: u8 = 100;
+
+// What the search looks up by value, at one spacing and for one pattern: the level that each head
+// entry of the pattern needs, the level of each prefix value, and which prefix values are deleted.
+pub struct Tables {
+    pub need: [u8; VALUES],
+    pub levels: [u8; VALUES],
+    pub gone: [u8; VALUES],
+}
 
 // How many of the entries of the row from index `from` up to `to` are at most x.
-fn at_most(row: [u8; 8], from: usize, to: usize, x: u8) -> u8
-    requires { ⌜ (from ≤ to) × (to ≤ 8) ⌝ }
+fn at_most(row: [u8; DIGITS], from: usize, to: usize, x: u8) -> u8
+    requires { ⌜ (from ≤ to) × (to ≤ DIGITS) ⌝ }
     ensures { λ r. ⌜ r ≡ under (drop from (take to row)) x ⌝ }
 {
     let mut n: u8 = 0;
@@ -27,14 +46,15 @@ fn at_most(row: [u8; 8], from: usize, to: usize, x: u8) -> u8
     n
 }
 
-// The level that each head entry of a pattern needs, by the entry: how many of the pattern's last t entries are at most as large.
-pub fn needed(row: [u8; 8], len: usize, t: usize) -> [u8; 9]
-    requires { ⌜ (t ≤ len) × (len ≤ 8) ⌝ }
-    ensures { λ r. ⌜ Says r 9 (under (drop (len - t) (take len row))) ⌝ }
+// The level that each head entry of a pattern needs, by the entry: how many of the pattern's last t
+// entries are at most as large.
+pub fn needed(row: [u8; DIGITS], len: usize, t: usize) -> [u8; VALUES]
+    requires { ⌜ (t ≤ len) × (len ≤ DIGITS) ⌝ }
+    ensures { λ r. ⌜ Says r VALUES (under (drop (len - t) (take len row))) ⌝ }
 {
-    let mut need = [0u8; 9];
+    let mut need = [0u8; VALUES];
     let mut x: usize = 0;
-    while x < 9 {
+    while x < VALUES {
         need[x] = at_most(row, len - t, len, x as u8);
         x += 1;
     }
@@ -42,11 +62,11 @@ pub fn needed(row: [u8; 8], len: usize, t: usize) -> [u8; 9]
 }
 
 // The level of each prefix value: what the components before it hold together.
-pub fn levels_of(g: [u8; 7], k: usize) -> [u8; 9]
-    requires { ⌜ (k ≤ 6) × (total (take (k + 1) g) ≤ 8) ⌝ }
+pub fn levels_of(g: [u8; COMPONENTS], k: usize) -> [u8; VALUES]
+    requires { ⌜ (k ≤ PREFIX) × (total (take (k + 1) g) ≤ TOTAL) ⌝ }
     ensures { λ r. ⌜ Says r (k + 1) (level (take (k + 1) g)) ⌝ }
 {
-    let mut levels = [0u8; 9];
+    let mut levels = [0u8; VALUES];
     let mut sum: u8 = 0;
     let mut v: usize = 0;
     while v < k {
@@ -58,11 +78,16 @@ pub fn levels_of(g: [u8; 7], k: usize) -> [u8; 9]
 }
 
 // The values that a prefix has at the deleted positions, flagged.
-pub fn deleted_values(prefix: [u8; 6], k: usize, positions: [u8; 6], count: usize) -> [u8; 9]
-    requires { ⌜ (k ≤ 6) × (count ≤ 6) × (isPerm (take k prefix) ≡ true) × (all (within k) (take count positions) ≡ true) ⌝ }
-    ensures { λ r. ⌜ Flags r 9 (λ v. has v (map (entry (take k prefix)) (take count positions))) ⌝ }
+pub fn deleted_values(
+    prefix: [u8; PREFIX],
+    k: usize,
+    positions: [u8; PREFIX],
+    count: usize,
+) -> [u8; VALUES]
+    requires { ⌜ (k ≤ PREFIX) × (count ≤ PREFIX) × (isPerm (take k prefix) ≡ true) × (all (within k) (take count positions) ≡ true) ⌝ }
+    ensures { λ r. ⌜ Flags r VALUES (λ v. has v (map (entry (take k prefix)) (take count positions))) ⌝ }
 {
-    let mut gone = [0u8; 9];
+    let mut gone = [0u8; VALUES];
     let mut j: usize = 0;
     while j < count {
         let at = positions[j] as usize;
@@ -73,9 +98,10 @@ pub fn deleted_values(prefix: [u8; 6], k: usize, positions: [u8; 6], count: usiz
     gone
 }
 
-// The actual value of the rest value s, by the levels of the prefix values 1 to k: one more for each that lies below it.
-pub fn lifted(levels: [u8; 9], k: usize, s: u8) -> u8
-    requires { ⌜ (k ≤ 6) × (s ≤ 100) ⌝ }
+// The actual value of the rest value s, by the levels of the prefix values 1 to k: one more for
+// each that lies below it.
+pub fn lifted(levels: [u8; VALUES], k: usize, s: u8) -> u8
+    requires { ⌜ (k ≤ PREFIX) × (s ≤ LEVEL) ⌝ }
     ensures { λ r. ⌜ ((g : List ℕ) → length g ≡ k + 1 → Says levels (k + 1) (level g) → s ≤ total g → r ≡ lift g s) ⌝ }
 {
     let mut r = s;
@@ -91,23 +117,23 @@ pub fn lifted(levels: [u8; 9], k: usize, s: u8) -> u8
 
 // A word in memory: so many of the entries.
 pub struct Word {
-    pub entries: [u8; 20],
+    pub entries: [u8; WORD],
     pub length: usize,
 }
 
 // What a table says of a value, and 0 of a value that it does not reach.
-fn told(table: [u8; 9], v: u8) -> u8
+pub fn told(table: [u8; VALUES], v: u8) -> u8
     ensures { λ r. ⌜ r ≡ entryOf table v ⌝ }
 {
     let i = v as usize;
-    if i < 9 { table[i] } else { 0 }
+    if i < VALUES { table[i] } else { 0 }
 }
 
-// A level, or 100 where it is larger.
+// A level, or the largest that is looked at.
 fn capped(s: u8) -> u8
-    ensures { λ r. ⌜ r ≡ min s 100 ⌝ }
+    ensures { λ r. ⌜ r ≡ min s LEVEL ⌝ }
 {
-    if s <= 100 { s } else { 100 }
+    if s <= LEVEL { s } else { LEVEL }
 }
 
 // A value with its level added, or 255 where the sum is larger.
@@ -118,11 +144,11 @@ fn added(a: u8, x: u8) -> u8
 }
 
 // The actual values of the prefix values that are not flagged, in their order.
-pub fn kept(prefix: [u8; 6], k: usize, levels: [u8; 9], gone: [u8; 9]) -> Word
-    requires { ⌜ k ≤ 6 ⌝ }
-    ensures { λ r. ⌜ (r .length ≤ 6) × (take (r .length) (r .entries) ≡ keptValues levels gone (take k prefix)) ⌝ }
+pub fn kept(prefix: [u8; PREFIX], k: usize, levels: [u8; VALUES], gone: [u8; VALUES]) -> Word
+    requires { ⌜ k ≤ PREFIX ⌝ }
+    ensures { λ r. ⌜ (r .length ≤ PREFIX) × (take (r .length) (r .entries) ≡ keptValues levels gone (take k prefix)) ⌝ }
 {
-    let mut entries = [0u8; 20];
+    let mut entries = [0u8; WORD];
     let mut n: usize = 0;
     let mut i: usize = 0;
     while i < k {
@@ -141,19 +167,14 @@ pub fn kept(prefix: [u8; 6], k: usize, levels: [u8; 9], gone: [u8; 9]) -> Word
     }
 }
 
-// The word, and behind it the actual values of the pattern entries from index `from` up to `to`, each by the level that it needs.
-fn with_rest(
-    w: Word,
-    row: [u8; 8],
-    from: usize,
-    to: usize,
-    need: [u8; 9],
-    levels: [u8; 9],
-    k: usize,
-) -> Word
-    requires { ⌜ (k ≤ 6) × (from ≤ to) × (to ≤ 8) × (w .length ≤ 6) ⌝ }
-    ensures { λ r. ⌜ (r .length ≤ 14) × Rest row from to need levels k (take (w .length) (w .entries)) (take (r .length) (r .entries)) ⌝ }
+// The word, and behind it the actual values of the pattern entries from index `from` up to `to`,
+// each by the level that it needs.
+fn with_rest(w: Word, row: [u8; DIGITS], from: usize, to: usize, tables: Tables, k: usize) -> Word
+    requires { ⌜ (k ≤ PREFIX) × (from ≤ to) × (to ≤ DIGITS) × (w .length ≤ PREFIX) ⌝ }
+    ensures { λ r. ⌜ (r .length ≤ PREFIX + DIGITS) × Rest row from to (tables .need) (tables .levels) k (take (w .length) (w .entries)) (take (r .length) (r .entries)) ⌝ }
 {
+    let need = tables.need;
+    let levels = tables.levels;
     let mut entries = w.entries;
     let mut n = w.length;
     let mut j = from;
@@ -169,20 +190,21 @@ fn with_rest(
     }
 }
 
-// The candidate for a violation: the prefix without its deleted values, and the last t entries of the pattern as its rest.
+// The candidate for a violation: the prefix without its deleted values, and the last t entries of
+// the pattern as its rest.
 pub fn candidate_word(
-    prefix: [u8; 6],
+    prefix: [u8; PREFIX],
     k: usize,
-    levels: [u8; 9],
-    gone: [u8; 9],
-    row: [u8; 8],
+    row: [u8; DIGITS],
     len: usize,
     t: usize,
-    need: [u8; 9],
+    tables: Tables,
 ) -> Word
-    requires { ⌜ (k ≤ 6) × (t ≤ len) × (len ≤ 8) ⌝ }
-    ensures { λ r. ⌜ (r .length ≤ 14) × IsCandidate prefix k levels gone row len t need (take (r .length) (r .entries)) ⌝ }
+    requires { ⌜ (k ≤ PREFIX) × (t ≤ len) × (len ≤ DIGITS) ⌝ }
+    ensures { λ r. ⌜ (r .length ≤ PREFIX + DIGITS) × IsCandidate prefix k (tables .levels) (tables .gone) row len t (tables .need) (take (r .length) (r .entries)) ⌝ }
 {
+    let levels = tables.levels;
+    let gone = tables.gone;
     let w = kept(prefix, k, levels, gone);
-    with_rest(w, row, len - t, len, need, levels, k)
+    with_rest(w, row, len - t, len, tables, k)
 }

@@ -1,6 +1,7 @@
 // The claims of one entry in memory: whether a gap vector's cell is not empty, whether the deletion is irreversible, how many cells are compared.
 use crate::gaps::gap_rows;
 use crate::gaps::is_live;
+use candidate::search::Deletion;
 use candidate::search::irreversible;
 use scheme::memory::Entry;
 use scheme::memory::Rule;
@@ -12,6 +13,7 @@ ghost use mathlib.Core.Path.{_≡_};
 ghost use Prim.Native.Nat.{_≤_};
 ghost use Rattle.word.specs.Ceilings.{DIGITS};
 ghost use Rattle.word.specs.Containment.{patternsOf};
+ghost use Rattle.word.specs.Word.{longest};
 ghost use Rattle.scheme.specs.SchemeMemory.{entryIn};
 ghost use Rattle.verdict.specs.Verdict.{liveGap, differs};
 ghost use Rattle.verdict.specs.Proper.{ProperEntry};
@@ -41,20 +43,22 @@ pub fn has_live_gap(
     false
 }
 
-// Refusal 11 of one entry: whether some compared sizes differ.
+// Refusal 11 of one entry: whether some compared sizes differ, m being the length of the longest
+// pattern.
 pub fn is_irreversible(
     set: [[u8; DIGITS]; PATTERNS],
     lengths: [u8; PATTERNS],
     count: usize,
+    m: usize,
     e: Entry,
 ) -> bool
-    requires { ⌜ ProperSet set lengths count × ProperEntry (entryIn e) ⌝ }
+    requires { ⌜ ProperSet set lengths count × (m ≡ longest (patternsOf set lengths count)) × (m ≤ DIGITS) × ProperEntry (entryIn e) ⌝ }
     ensures { λ r. ⌜ r ≡ differs (patternsOf set lengths count) ((entryIn e) .prefix) ((entryIn e) .gaps) ((entryIn e) .rule) ⌝ }
 {
     let rule = e.rule;
     match rule {
         Rule::Expand => false,
-        Rule::Delete(r) => loses(set, lengths, count, e, r),
+        Rule::Delete(r) => loses(set, lengths, count, m, e, r),
     }
 }
 
@@ -63,10 +67,11 @@ fn loses(
     set: [[u8; DIGITS]; PATTERNS],
     lengths: [u8; PATTERNS],
     count: usize,
+    m: usize,
     e: Entry,
     r: usize,
 ) -> bool
-    requires { ⌜ ProperSet set lengths count × ProperEntry (entryIn e) × DeletesAt e r ⌝ }
+    requires { ⌜ ProperSet set lengths count × (m ≡ longest (patternsOf set lengths count)) × (m ≤ DIGITS) × ProperEntry (entryIn e) × DeletesAt e r ⌝ }
     ensures { λ b. ⌜ b ≡ differs (patternsOf set lengths count) ((entryIn e) .prefix) ((entryIn e) .gaps) ((entryIn e) .rule) ⌝ }
 {
     let prefix = e.prefix;
@@ -76,7 +81,15 @@ fn loses(
     let n = e.gap_count;
     let mut positions = [0u8; PREFIX];
     positions[0] = r as u8;
-    irreversible(set, lengths, count, prefix, k, positions, 1, rows, n)
+    let deletion = Deletion {
+        prefix: prefix,
+        length: k,
+        positions: positions,
+        position_count: 1,
+        gap_count: n,
+        longest: m,
+    };
+    irreversible(set, lengths, count, rows, deletion)
 }
 
 // How many cells are compared for one entry, m being the length of the longest pattern.

@@ -1,4 +1,5 @@
--- The values from v to n, and what one of them adds to the two tests of the emptiness search; the front of a word, entry by entry.
+-- The values from v to n, and what one of them adds to the two tests of the emptiness search; the
+-- front of a word, entry by entry.
 -- Assumes nothing.
 use Prim.Native.Nat.{ℕ, suc, _+_, _-_, _≤_, _<_}
 use mathlib.Core.Path.{_≡_, refl, sym, ap, _∙_}

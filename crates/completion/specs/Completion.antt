@@ -1,4 +1,5 @@
--- Words of first entries, and whether an avoider of a given length begins with them. Definitions only.
+-- Words of first entries, and whether an avoider of a given length begins with them. Definitions
+-- only.
 use Prim.Native.Nat.{ℕ}
 use mathlib.Core.Bool.{Bool, not, _&&_, _||_}
 use mathlib.Core.List.{List, [], _∷_, _++_}

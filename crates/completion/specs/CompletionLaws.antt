@@ -1,4 +1,5 @@
--- Laws of completions: what a completion is, by which next entries there is one, and what rules it out.
+-- Laws of completions: what a completion is, by which next entries there is one, and what rules it
+-- out.
 use Prim.Native.Nat.{ℕ, _≤_, _<_}
 use mathlib.Core.Path.{_≡_, refl, sym, ap, _∙_}
 use mathlib.Core.Bool.{Bool, true, false, not, _||_}
@@ -78,7 +79,8 @@ distinct-snoc (x ∷ u) v d f =
     fresh g (inl m) = g m
     fresh g (inr m) = f (List·Memᴰ·head (sym (List·Memᴰ·eq-of-singleton m)))
 
--- what begins an avoider of length n has distinct entries from 1 to n, at most n of them, and avoids the patterns
+-- what begins an avoider of length n has distinct entries from 1 to n, at most n of them, and
+-- avoids the patterns
 pub completable-begun : (P : List (List ℕ)) (n : ℕ) (u : List ℕ) → completable P n u ≡ true → begun n u ≡ true
 unfolding begun
 completable-begun P n u e =
@@ -123,7 +125,8 @@ begun-last n u v r e =
     fresh true q = absurd (distinct-behind u v r (and-right (all (within n) (u ++ (v ∷ r))) (distinct (u ++ (v ∷ r))) e) (has-out v u q))
     fresh false q = q
 
--- a begun word of length n is a permutation: whether it can be completed is whether it avoids the patterns
+-- a begun word of length n is a permutation: whether it can be completed is whether it avoids the
+-- patterns
 pub completable-whole : (P : List (List ℕ)) (n : ℕ) (u : List ℕ) → begun n u ≡ true → length u ≡ n → completable P n u ≡ avoids P u
 unfolding begun
 completable-whole P n u b l =
@@ -160,7 +163,8 @@ completable-next P n u h = same-test (completable P n u) (any (goesOn P n u) (on
         let q = sym (append-assoc u (v ∷ []) r) in
         completable-in P n u (v ∷ r) (ap isPerm q ∙ p) (ap length q ∙ l) (ap (avoids P) q ∙ a)
 
--- where u can be completed, u followed by a value of 1 to n that does not stand in it avoids the patterns: the value stands behind u in the completion
+-- where u can be completed, u followed by a value of 1 to n that does not stand in it avoids the
+-- patterns: the value stands behind u in the completion
 pub completable-fits : (P : List (List ℕ)) (n : ℕ) (u : List ℕ) (v : ℕ) → completable P n u ≡ true → 1 ≤ v → v ≤ n → has v u ≡ false → avoids P (u ++ (v ∷ [])) ≡ true
 completable-fits P n u v e h k f =
     let (r, p, l, a) = completable-out P n u e in

@@ -1,4 +1,5 @@
-// The emptiness search: whether a word of first entries can be completed to an avoider of a given length.
+// The emptiness search: whether a word of first entries can be completed to an avoider of a given
+// length.
 use word::containment::any_in;
 use word::limits::DIGITS;
 use word::limits::PATTERNS;
@@ -8,6 +9,7 @@ ghost use mathlib.Core.Bool.{true, not};
 ghost use mathlib.Core.List.{[], _∷_, _++_};
 ghost use Prim.Native.Nat.{_+_, _≤_, _<_};
 ghost use lib.ListN.{take};
+ghost use Rattle.word.specs.Ceilings.{WORD};
 ghost use Rattle.word.specs.Word.{avoids, has};
 ghost use Rattle.word.specs.Containment.{patternsOf};
 ghost use Rattle.completion.specs.Completion.{completable as completes, begun, allAllowed};
@@ -21,7 +23,7 @@ pub fn completable(
     len: usize,
     n: usize,
 ) -> bool
-    requires { ⌜ (len ≤ 20) × (n ≤ 20) ⌝ }
+    requires { ⌜ (len ≤ WORD) × (n ≤ WORD) ⌝ }
     ensures { λ r. ⌜ r ≡ completes (patternsOf set lengths count) n (take len word) ⌝ }
 {
     if n < len {
@@ -35,7 +37,7 @@ pub fn completable(
 
 // Whether the first `len` entries of the word are from 1 to n, none of them twice.
 fn is_begun(word: [u8; WORD], len: usize, n: usize) -> bool
-    requires { ⌜ len ≤ 20 ⌝ }
+    requires { ⌜ len ≤ WORD ⌝ }
     ensures { λ r. ⌜ r ≡ begun n (take len word) ⌝ }
 {
     let mut i: usize = 0;
@@ -57,7 +59,7 @@ fn is_begun(word: [u8; WORD], len: usize, n: usize) -> bool
 
 // Whether v stands among the first `len` entries of the word.
 fn stands(word: [u8; WORD], len: usize, v: u8) -> bool
-    requires { ⌜ len ≤ 20 ⌝ }
+    requires { ⌜ len ≤ WORD ⌝ }
     ensures { λ r. ⌜ r ≡ has v (take len word) ⌝ }
 {
     let mut i: usize = 0;
@@ -70,8 +72,8 @@ fn stands(word: [u8; WORD], len: usize, v: u8) -> bool
     false
 }
 
-// The search: where every value that does not stand in the word can follow it, each of them is tried, in rising order, until one leads to
-// an avoider.
+// The search: where every value that does not stand in the word can follow it, each of them is
+// tried, in rising order, until one leads to an avoider.
 fn goes_on(
     set: [[u8; DIGITS]; PATTERNS],
     lengths: [u8; PATTERNS],
@@ -80,7 +82,7 @@ fn goes_on(
     len: usize,
     n: usize,
 ) -> bool
-    requires { ⌜ (len ≤ n) × (n ≤ 20) × (begun n (take len word) ≡ true) ⌝ }
+    requires { ⌜ (len ≤ n) × (n ≤ WORD) × (begun n (take len word) ≡ true) ⌝ }
     ensures { λ r. ⌜ r ≡ completes (patternsOf set lengths count) n (take len word) ⌝ }
 {
     if len == n {
@@ -105,7 +107,8 @@ fn goes_on(
     false
 }
 
-// Whether each value from 1 to n stands in the word, or the word followed by it avoids the patterns.
+// Whether each value from 1 to n stands in the word, or the word followed by it avoids the
+// patterns.
 fn all_allowed(
     set: [[u8; DIGITS]; PATTERNS],
     lengths: [u8; PATTERNS],
@@ -114,7 +117,7 @@ fn all_allowed(
     len: usize,
     n: usize,
 ) -> bool
-    requires { ⌜ (len < n) × (n ≤ 20) ⌝ }
+    requires { ⌜ (len < n) × (n ≤ WORD) ⌝ }
     ensures { λ r. ⌜ r ≡ allAllowed (patternsOf set lengths count) n (take len word) ⌝ }
 {
     let mut next: usize = 1;
@@ -134,7 +137,7 @@ fn all_allowed(
 
 // The word with v behind its first `len` entries.
 fn put(word: [u8; WORD], len: usize, v: u8) -> [u8; WORD]
-    requires { ⌜ len < 20 ⌝ }
+    requires { ⌜ len < WORD ⌝ }
     ensures { λ r. ⌜ take (len + 1) r ≡ take len word ++ (v ∷ []) ⌝ }
 {
     let mut longer = word;
@@ -150,7 +153,7 @@ pub fn contained(
     word: [u8; WORD],
     len: usize,
 ) -> bool
-    requires { ⌜ len ≤ 20 ⌝ }
+    requires { ⌜ len ≤ WORD ⌝ }
     ensures { λ r. ⌜ r ≡ not (avoids (patternsOf set lengths count) (take len word)) ⌝ }
 {
     any_in(set, lengths, count, &word[..len])

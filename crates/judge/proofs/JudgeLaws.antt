@@ -5,15 +5,15 @@ use native.Mathlib.Omega.{arith}
 use mathlib.Core.Path.{_≡_, refl, sym, ap, ap₂, _∙_}
 use mathlib.Core.Bool.{Bool, true, false}
 use mathlib.Core.List.{List, [], _∷_, _++_, List·Memᴰ}
-use lib.ListN.{length, take}
+use lib.ListN.{length}
 use Rattle.word.specs.Word.{isPerm, longest}
 use Rattle.word.specs.Finding.{Finding, clean, firstFault}
 use Rattle.word.specs.declared.refusal.Refusal.the-variants.{LiveGap, Irreversible}
 use Rattle.word.specs.Containment.{patternsOf}
 use Rattle.cell.specs.Cell.{mOf}
-use Rattle.cell.specs.Basis.{basis, basisRows, basisLengths}
+use Rattle.cell.specs.Basis.{basis}
 use Rattle.cell.specs.BasisLaws.{basis-in}
-use Rattle.candidate.specs.BasisMemory.{basis-memory}
+use Rattle.candidate.specs.BasisSet.{IsBasis}
 use Rattle.scheme.specs.SchemeList.{EntryList}
 use Rattle.scheme.specs.WellFormed.{firstAt, patternTests, schemeTests}
 use Rattle.scheme.specs.SchemeMemory.{patternsIn, schemeIn, faultOf, orElse, faulty}
@@ -27,8 +27,8 @@ use Rattle.verdict.specs.Verdict.{claimTests, comparedCells, answered, verdictO
 use Rattle.verdict.specs.Truth.{WellFormed}
 use Rattle.claims.specs.EntryMemory.{ProperSet}
 use Rattle.judge.specs.SetMemory.{HasDigits, HasLengths, ProperScheme, ComparesCells}
-use Rattle.judge.specs.SetLaws.{set-holds}
-use Rattle.judge.specs.JudgementLaws.{verdict-parts, live-same, differs-same, basis-shorter, refused-answer}
+use Rattle.judge.specs.SetLaws.{set-held}
+use Rattle.judge.specs.JudgementLaws.{verdict-parts, live-same, differs-same, refused-answer}
 use Rattle.judge.proofs.EntryWalkLaws.{liveEntry, differingEntry}
 
 -- the earlier of two findings, where the first decides and where it does not
@@ -61,29 +61,21 @@ module _ (P : List (List ℕ)) (E : List EntryList) where
     verdict-claims h =
         ap (λ (f : Fault). answered f (comparedCells P E)) (earlier-second formed _ (faultOf (firstFault (claimTests P E))) is h ∙ sym (verdict-parts P E))
 
--- a set has no more patterns than its count
-patterns-few : (rows : List (List ℕ)) (lengths : List ℕ) (n : ℕ) → length (patternsOf rows lengths n) ≤ n
-patterns-few rows lengths zero = omega arith
-patterns-few [] lengths (suc n) = omega arith
-patterns-few (r ∷ rows) [] (suc n) = omega arith
-patterns-few (r ∷ rows) (k ∷ lengths) (suc n) = omega (arith, patterns-few rows lengths n)
-
 -- The basis of a set, as the code makes it.
-module _ (set : List (List ℕ)) (lengths : List ℕ) (count : ℕ) (q : ProperSet set lengths count) (rows : List (List ℕ)) (sizes : List ℕ) (n : ℕ)
-    (hn : n ≡ length (basis (patternsOf set lengths count)))
-    (hr : take (length (basis (patternsOf set lengths count))) rows ≡ basisRows set lengths count)
-    (hs : take (length (basis (patternsOf set lengths count))) sizes ≡ basisLengths set lengths count) where
-  basis-holds : patternsOf rows sizes n ≡ basis (patternsOf set lengths count)
-  basis-holds = basis-memory set lengths count rows sizes n hn hr hs
+module _ (set : List (List ℕ)) (lengths : List ℕ) (count : ℕ) (q : ProperSet set lengths count) (b : Patterns) (is-basis : IsBasis set lengths count b)
+    (rows : List (List ℕ)) (sizes : List ℕ) (hr : length rows ≡ 24) (hs : length sizes ≡ 24)
+    (has : HasDigits (b .items) rows) (sized : HasLengths (b .items) sizes) where
+  basis-holds : patternsOf rows sizes (b .count) ≡ basis (patternsOf set lengths count)
+  basis-holds = set-held b (is-basis .few) (is-basis .short) rows sizes hr hs has sized ∙ is-basis .holds
 
-  pub basis-proper : ProperSet rows sizes n
+  pub basis-proper : ProperSet rows sizes (b .count)
   basis-proper =
       record {
-        few = omega (arith, hn, basis-shorter (patternsOf set lengths count), patterns-few set lengths count, q .few);
-        perms = λ (β : List ℕ) (m : List·Memᴰ β (patternsOf rows sizes n)). q .perms β (basis-in (patternsOf set lengths count) (rw basis-holds at m));
+        few = is-basis .few;
+        perms = λ (β : List ℕ) (m : List·Memᴰ β (patternsOf rows sizes (b .count))). q .perms β (basis-in (patternsOf set lengths count) (rw basis-holds at m));
       }
 
-  module _ (s : Scheme) (p : ProperScheme s) (live : Fault) (is : live ≡ faultOf (firstAt LiveGap (liveEntry (patternsOf rows sizes n)) 0 (schemeIn s))) where
+  module _ (s : Scheme) (p : ProperScheme s) (live : Fault) (is : live ≡ faultOf (firstAt LiveGap (liveEntry (patternsOf rows sizes (b .count))) 0 (schemeIn s))) where
     live-is : live ≡ faultOf (firstAt LiveGap (liveEntry (patternsOf set lengths count)) 0 (schemeIn s))
     live-is =
         is ∙ ap (λ (Q : List (List ℕ)). faultOf (firstAt LiveGap (liveEntry Q) 0 (schemeIn s))) basis-holds ∙
@@ -97,7 +89,7 @@ module _ (set : List (List ℕ)) (lengths : List ℕ) (count : ℕ) (q : ProperS
         (firstAt Irreversible (differingEntry (patternsOf set lengths count)) 0 (schemeIn s))
 
     -- the earlier of the two findings on the basis is that of the tests
-    pub claims-found : (lost : Fault) → orElse live lost ≡ orElse live (faultOf (firstAt Irreversible (differingEntry (patternsOf rows sizes n)) 0 (schemeIn s))) →
+    pub claims-found : (lost : Fault) → orElse live lost ≡ orElse live (faultOf (firstAt Irreversible (differingEntry (patternsOf rows sizes (b .count))) 0 (schemeIn s))) →
         orElse live lost ≡ faultOf (firstFault (claimTests (patternsOf set lengths count) (schemeIn s)))
     claims-found lost e =
         e ∙

@@ -16,7 +16,6 @@ use Rattle.word.specs.Containment.{patternsOf}
 use Rattle.cell.specs.Cell.{cell}
 use Rattle.cell.specs.Basis.{basis}
 use Rattle.cell.specs.BasisLaws.{basis-in, basis-cell, basis-deletion}
-use Rattle.cell.specs.BinomialLaws.{keep-shorter}
 use Rattle.scheme.specs.SchemeList.{Does, expands, deletes, EntryList}
 use Rattle.scheme.specs.WellFormed.{firstAt, outside, patternTests, schemeTests}
 use Rattle.scheme.specs.SchemeMemory.{noEntry, entryIn, schemeIn, faultOf, orElse, faulty, toldOr}
@@ -77,11 +76,6 @@ module _ (P : List (List ℕ)) (perms : (β : List ℕ) → List·Memᴰ β P �
         first-same Irreversible (λ (e : EntryList). differs (basis P) (e .prefix) (e .gaps) (e .rule)) (λ (e : EntryList). differs P (e .prefix) (e .gaps) (e .rule))
         0 (schemeIn s)
         (λ e m. differs-basis (e .prefix) (e .gaps) (e .rule) (entry-of s q e m .perm) (entry-of s q e m .inside))
-
--- the basis is no larger than the set
-pub basis-shorter : (P : List (List ℕ)) → length (basis P) ≤ length P
-unfolding basis
-basis-shorter P = keep-shorter (Rattle.cell.specs.Basis.basic P) P
 
 -- the first of three findings
 pub or-else-assoc : (a b c : Fault) → orElse a (orElse b c) ≡ orElse (orElse a b) c

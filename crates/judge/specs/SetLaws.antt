@@ -35,6 +35,25 @@ patterns-row (r ∷ rows) (x ∷ lengths) (suc n) h k = ap (λ u. take x r ∷ u
     later a zero = refl
     later a (suc n) = ap (λ u. patternAt rows lengths a ∷ u) (later (suc a) n)
 
+-- arrays that have the digits and the lengths of a set within the ceilings hold its patterns
+module _ (s : Patterns) (few : s .count ≤ PATTERNS) (short : (i : ℕ) → i < s .count → (getD (s .items) i noPattern) .length ≤ DIGITS)
+    (rows : List (List ℕ)) (lengths : List ℕ) (hr : length rows ≡ PATTERNS) (hl : length lengths ≡ PATTERNS)
+    (has : HasDigits (s .items) rows) (sizes : HasLengths (s .items) lengths) where
+  pub set-held : patternsOf rows lengths (s .count) ≡ patternsIn s
+  set-held =
+      patterns-row rows lengths (s .count) (omega (arith, few, hr)) (omega (arith, few, hl)) ∙
+      map-same (patternAt rows lengths) (λ i. patternIn (getD (s .items) i noPattern)) (row 0 (s .count))
+      (λ (i : ℕ) (m : List·Memᴰ i (row 0 (s .count))). at i (omega (arith, row-out 0 (s .count) m)))
+    where
+      at : (i : ℕ) → i < s .count → patternAt rows lengths i ≡ patternIn (getD (s .items) i noPattern)
+      at i h =
+          let p = getD (s .items) i noPattern in
+          let (same, eight) = has i (omega (arith, few)) in
+          let low = short i h in
+          let size : getD lengths i 0 ≡ p .length = sizes i (omega (arith, few)) ∙ omega arith in
+          let d : length (p .digits) ≡ DIGITS = sym (ap length same) ∙ eight in
+          ap₂ take size same ∙ sym (padded-within (p .length) (p .digits) (omega (arith, d)))
+
 module _ (s : Patterns) (formed : firstFault (patternTests (patternsIn s)) ≡ clean) where
   few : s .count ≤ PATTERNS
   few = omega (arith, few-patterns (patternsIn s) formed, length-items (λ i. patternIn (getD (s .items) i noPattern)) (s .count))
@@ -49,19 +68,7 @@ module _ (s : Patterns) (formed : firstFault (patternTests (patternsIn s)) ≡ c
   module _ (rows : List (List ℕ)) (lengths : List ℕ) (hr : length rows ≡ PATTERNS) (hl : length lengths ≡ PATTERNS) (has : HasDigits (s .items) rows) (sizes : HasLengths (s .items) lengths) where
     -- the arrays hold the patterns
     pub set-holds : patternsOf rows lengths (s .count) ≡ patternsIn s
-    set-holds =
-        patterns-row rows lengths (s .count) (omega (arith, few, hr)) (omega (arith, few, hl)) ∙
-        map-same (patternAt rows lengths) (λ i. patternIn (getD (s .items) i noPattern)) (row 0 (s .count))
-        (λ (i : ℕ) (m : List·Memᴰ i (row 0 (s .count))). at i (omega (arith, row-out 0 (s .count) m)))
-      where
-        at : (i : ℕ) → i < s .count → patternAt rows lengths i ≡ patternIn (getD (s .items) i noPattern)
-        at i h =
-            let p = getD (s .items) i noPattern in
-            let (same, eight) = has i (omega (arith, few)) in
-            let low = short i h in
-            let size : getD lengths i 0 ≡ p .length = sizes i (omega (arith, few)) ∙ omega arith in
-            let d : length (p .digits) ≡ DIGITS = sym (ap length same) ∙ eight in
-            ap₂ take size same ∙ sym (padded-within (p .length) (p .digits) (omega (arith, d)))
+    set-holds = set-held s few short rows lengths hr hl has sizes
 
     pub proper-set : ProperSet rows lengths (s .count)
     proper-set =

@@ -1,4 +1,5 @@
 // Test 11 over all entries, one entry at a time.
+use candidate::basis::longest_length;
 use claims::entries::is_irreversible;
 use scheme::memory::Fault;
 use scheme::memory::Scheme;
@@ -24,11 +25,12 @@ pub fn irreversible_fault(
     requires { ⌜ ProperSet set lengths count × ProperScheme s ⌝ }
     ensures { λ r. ⌜ r ≡ faultOf (firstAt Irreversible (λ e. differs (patternsOf set lengths count) (e .prefix) (e .gaps) (e .rule)) 0 (schemeIn s)) ⌝ }
 {
+    let m = longest_length(set, lengths, count);
     let n = s.count;
     let mut i: usize = 0;
     while i < n {
         let e = s.entries[i];
-        if is_irreversible(set, lengths, count, e) {
+        if is_irreversible(set, lengths, count, m, e) {
             return Fault::At(Refusal::Irreversible, i);
         }
         i += 1;

@@ -4,9 +4,7 @@ use crate::deletions::irreversible_fault;
 use crate::live_gaps::live_fault;
 use crate::sets::lengths_of;
 use crate::sets::rows_of;
-use candidate::basis::basis_count;
-use candidate::basis::basis_lengths;
-use candidate::basis::basis_rows;
+use candidate::basis::basis_of;
 use candidate::basis::longest_length;
 use scheme::memory::Fault;
 use scheme::memory::Patterns;
@@ -78,9 +76,10 @@ fn claims_fault(
     requires { ⌜ ProperSet set lengths count × ProperScheme scheme ⌝ }
     ensures { λ r. ⌜ r ≡ faultOf (firstFault (claimTests (patternsOf set lengths count) (schemeIn scheme))) ⌝ }
 {
-    let n = basis_count(set, lengths, count);
-    let rows = basis_rows(set, lengths, count);
-    let sizes = basis_lengths(set, lengths, count);
+    let basis = basis_of(set, lengths, count);
+    let n = basis.count;
+    let rows = rows_of(basis);
+    let sizes = lengths_of(basis);
     let live = live_fault(rows, sizes, n, scheme);
     let irreversible = irreversible_unless(live, rows, sizes, n, scheme);
     earlier(live, irreversible)

@@ -1,5 +1,6 @@
--- The proof of the cycle of calls {goes_on}. The measure is how many entries are still to come. A word that is whole is tested; before the
--- loop the forward check was passed; the word can be completed if one of the values that are left leads to an avoider.
+-- The proof of the cycle of calls {goes_on}. The measure is how many entries are still to come. A
+-- word that is whole is tested; before the loop the forward check was passed; the word can be
+-- completed if one of the values that are left leads to an avoider.
 -- Assumes nothing.
 use Prim.Native.Nat.{ℕ, suc, _+_, _-_, _≤_, _<_}
 use mathlib.Core.Path.{_≡_, sym, ap, _∙_}

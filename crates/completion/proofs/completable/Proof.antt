@@ -1,4 +1,5 @@
--- `completion::completable` meets its contract: a word that is too long or not begun begins no avoider.
+-- `completion::completable` meets its contract: a word that is too long or not begun begins no
+-- avoider.
 -- Assumes nothing.
 use mathlib.Core.Path.{_≡_, sym, _∙_}
 use borrow.Author.Tests.{not-true, not-false}

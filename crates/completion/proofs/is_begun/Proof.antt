@@ -1,4 +1,5 @@
--- `completion::is_begun` meets its contract: the entries up to the index are begun, and one that is not allowed breaks the whole.
+-- `completion::is_begun` meets its contract: the entries up to the index are begun, and one that is
+-- not allowed breaks the whole.
 -- Assumes nothing.
 use Prim.Native.Nat.{ℕ, _-_, _≤_}
 use mathlib.Core.Path.{_≡_, sym, ap, _∙_}

@@ -1,4 +1,5 @@
--- `completion::stands` meets its contract: what stands in the front of the word is what stands there from the index on.
+-- `completion::stands` meets its contract: what stands in the front of the word is what stands
+-- there from the index on.
 -- Assumes nothing.
 use Prim.Native.Nat.{_-_}
 use mathlib.Core.Path.{_≡_, sym, _∙_}

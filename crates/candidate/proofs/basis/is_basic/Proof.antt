@@ -1,4 +1,5 @@
--- `candidate::basis::is_basic` meets its contract: no other pattern of the set is contained if none from the index on is.
+-- `candidate::basis::is_basic` meets its contract: no other pattern of the set is contained if none
+-- from the index on is.
 -- Assumes nothing.
 use Prim.Native.Nat.{_-_}
 use mathlib.Core.Path.{_≡_, sym, _∙_}

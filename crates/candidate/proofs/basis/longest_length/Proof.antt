@@ -1,4 +1,5 @@
--- `candidate::basis::longest_length` meets its contract: the longest is the longest of those seen and of those from the index on.
+-- `candidate::basis::longest_length` meets its contract: the longest is the longest of those seen
+-- and of those from the index on.
 -- Assumes nothing.
 use Prim.Native.Nat.{_-_, _+_, _≤_, max}
 use mathlib.Core.Path.{_≡_, ap, _∙_}

@@ -1,4 +1,5 @@
--- `candidate::basis::same_digits` meets its contract: the rows are the same if they are from the index on.
+-- `candidate::basis::same_digits` meets its contract: the rows are the same if they are from the
+-- index on.
 -- Assumes nothing.
 use Prim.Native.Nat.{_-_}
 use mathlib.Core.Path.{_≡_, sym, _∙_}

@@ -1,4 +1,5 @@
--- `candidate::basis::stands_in` meets its contract: the search for a copy says whether there is one.
+-- `candidate::basis::stands_in` meets its contract: the search for a copy says whether there is
+-- one.
 -- Assumes nothing.
 use mathlib.Core.Path.{_≡_, sym, ap, _∙_}
 use native.Mathlib.Omega.{arith}

@@ -1,4 +1,5 @@
--- The proof of the cycle of calls {placed}: each turn of the loop is a step of the state. The measure is what is left of the prefix.
+-- The proof of the cycle of calls {placed}: each turn of the loop is a step of the state. The
+-- measure is what is left of the prefix.
 -- Assumes nothing.
 use mathlib.Core.Path.{_≡_, refl, sym, ap, _∙_}
 use mathlib.Core.Bool.{Bool, true, false, _||_}
@@ -16,32 +17,32 @@ use Rattle.candidate.proofs.placing.placed.Kinds as placed-kinds
 use Rattle.candidate.proofs.placing.+placed.Lts-placed as placed-lts
 use Rattle.candidate.proofs.placing.either.Reads as either-reads
 use Rattle.candidate.proofs.placing.is_flagged.Reads as is-flagged-reads
-use Rattle.candidate.proofs.placing.of_value.Reads as of-value-reads
+use Rattle.candidate.proofs.tables.told.Reads as told-reads
 use Rattle.candidate.proofs.placing.pairs_fit.Reads as pairs-fit-reads
 use Rattle.candidate.proofs.placing.+placed.{statement}
 use Rattle.candidate.proofs.placing.+placed.Tie.{close}
 
-abbrev μ-placed : Measures 5 placed-kinds.ps ℕ
-μ-placed κs a = length (a .1 .1 .1 .0 .now) - a .1 .1 .1 .1 .1 .1 .1 .0
+abbrev μ-placed : Measures 2 placed-kinds.ps ℕ
+μ-placed κs a = length (a .1 .1 .0 .now) - a .0 .from
 
-abbrev placed-at : ℕ → In 5 placed-kinds.ps
-placed-at t = and 5 placed-kinds.ps (is 5 placed-kinds.ps μ-placed t) placed.Pre
+abbrev placed-at : ℕ → In 2 placed-kinds.ps
+placed-at t = and 2 placed-kinds.ps (is 2 placed-kinds.ps μ-placed t) placed.Pre
 
-abbrev placed-below : ℕ → In 5 placed-kinds.ps
-placed-below t = and 5 placed-kinds.ps (falls 5 placed-kinds.ps _<_ μ-placed t) placed.Pre
+abbrev placed-below : ℕ → In 2 placed-kinds.ps
+placed-below t = and 2 placed-kinds.ps (falls 2 placed-kinds.ps _<_ μ-placed t) placed.Pre
 
 abbrev placed-Inv-loop : placed-lts.InvT-loop
-placed-Inv-loop chosen head need prefix levels gone s i used x level j₀ j =
-    (i ≤ j) ×
-    (state (entryOf need) (entryOf levels) (flagged gone) head prefix used chosen s i ≡
-    state (entryOf need) (entryOf levels) (flagged gone) head prefix used chosen s j)
+placed-Inv-loop head prefix tables s used x levels gone chosen level j₀ j =
+    (j₀ ≤ j) ×
+    (state (entryOf (tables .need)) (entryOf levels) (flagged gone) head prefix used chosen s j₀ ≡
+    state (entryOf (tables .need)) (entryOf levels) (flagged gone) head prefix used chosen s j)
 
 abbrev placed-μ-loop : placed-lts.MeasureT-loop
-placed-μ-loop chosen head need prefix levels gone s i used x level j₀ j = length prefix - j
+placed-μ-loop head prefix tables s used x levels gone chosen level j₀ j = length prefix - j
 
 placed-returns : (t : ℕ) → placed-lts.Need-returns (
-  of-value-reads.Asked,
-  of-value-reads.Learnt,
+  told-reads.Asked,
+  told-reads.Learnt,
   pairs-fit-reads.Asked,
   pairs-fit-reads.Learnt,
   is-flagged-reads.Asked,
@@ -52,12 +53,12 @@ placed-returns : (t : ℕ) → placed-lts.Need-returns (
   placed.Post,
 ) (placed-at t) placed.Post placed-Inv-loop placed-μ-loop
 placed-returns t c =
-    let a = c .before .before .before .before .before .before .args in
-    sym (placed-done (entryOf (a .need .now)) (entryOf (a .levels .now)) (flagged (a .gone .now)) (a .head .now) (a .prefix .now) (a .used) (a .chosen) (a .s) (a .i) (c .if1 .taken))
+    let a = c .before .before .before .args in
+    sym (placed-done (entryOf (a .tables .need)) (entryOf (a .tables .levels)) (flagged (a .tables .gone)) (a .head .now) (a .prefix .now) (a .state .used) (a .state .chosen) (a .state .placed) (a .state .from) (c .if1 .taken))
 
 placed-shared-slice-read-x : (t : ℕ) → placed-lts.Need-shared-slice-read-x (
-  of-value-reads.Asked,
-  of-value-reads.Learnt,
+  told-reads.Asked,
+  told-reads.Learnt,
   pairs-fit-reads.Asked,
   pairs-fit-reads.Learnt,
   is-flagged-reads.Asked,
@@ -69,9 +70,9 @@ placed-shared-slice-read-x : (t : ℕ) → placed-lts.Need-shared-slice-read-x (
 ) (placed-at t) placed.Post placed-Inv-loop placed-μ-loop
 placed-shared-slice-read-x t c = search needs
 
-placed-of-value-requires : (t : ℕ) → placed-lts.Need-of-value-requires (
-  of-value-reads.Asked,
-  of-value-reads.Learnt,
+placed-told-requires : (t : ℕ) → placed-lts.Need-told-requires (
+  told-reads.Asked,
+  told-reads.Learnt,
   pairs-fit-reads.Asked,
   pairs-fit-reads.Learnt,
   is-flagged-reads.Asked,
@@ -81,11 +82,11 @@ placed-of-value-requires : (t : ℕ) → placed-lts.Need-of-value-requires (
   placed-below t,
   placed.Post,
 ) (placed-at t) placed.Post placed-Inv-loop placed-μ-loop
-placed-of-value-requires t c κs = search needs
+placed-told-requires t c κs = search needs
 
 placed-loop-holds : (t : ℕ) → placed-lts.Need-loop-holds (
-  of-value-reads.Asked,
-  of-value-reads.Learnt,
+  told-reads.Asked,
+  told-reads.Learnt,
   pairs-fit-reads.Asked,
   pairs-fit-reads.Learnt,
   is-flagged-reads.Asked,
@@ -98,8 +99,8 @@ placed-loop-holds : (t : ℕ) → placed-lts.Need-loop-holds (
 placed-loop-holds t c = (omega arith, refl)
 
 placed-shared-slice-read-a : (t : ℕ) → placed-lts.Need-shared-slice-read-a (
-  of-value-reads.Asked,
-  of-value-reads.Learnt,
+  told-reads.Asked,
+  told-reads.Learnt,
   pairs-fit-reads.Asked,
   pairs-fit-reads.Learnt,
   is-flagged-reads.Asked,
@@ -112,8 +113,8 @@ placed-shared-slice-read-a : (t : ℕ) → placed-lts.Need-shared-slice-read-a (
 placed-shared-slice-read-a t c = search needs
 
 placed-add-j : (t : ℕ) → placed-lts.Need-add-j (
-  of-value-reads.Asked,
-  of-value-reads.Learnt,
+  told-reads.Asked,
+  told-reads.Learnt,
   pairs-fit-reads.Asked,
   pairs-fit-reads.Learnt,
   is-flagged-reads.Asked,
@@ -125,9 +126,9 @@ placed-add-j : (t : ℕ) → placed-lts.Need-add-j (
 ) (placed-at t) placed.Post placed-Inv-loop placed-μ-loop
 placed-add-j t c = search needs
 
-placed-of-value-requires-2 : (t : ℕ) → placed-lts.Need-of-value-requires-2 (
-  of-value-reads.Asked,
-  of-value-reads.Learnt,
+placed-told-requires-2 : (t : ℕ) → placed-lts.Need-told-requires-2 (
+  told-reads.Asked,
+  told-reads.Learnt,
   pairs-fit-reads.Asked,
   pairs-fit-reads.Learnt,
   is-flagged-reads.Asked,
@@ -137,11 +138,11 @@ placed-of-value-requires-2 : (t : ℕ) → placed-lts.Need-of-value-requires-2 (
   placed-below t,
   placed.Post,
 ) (placed-at t) placed.Post placed-Inv-loop placed-μ-loop
-placed-of-value-requires-2 t c κs = search needs
+placed-told-requires-2 t c κs = search needs
 
 placed-loop-less : (t : ℕ) → placed-lts.Need-loop-less (
-  of-value-reads.Asked,
-  of-value-reads.Learnt,
+  told-reads.Asked,
+  told-reads.Learnt,
   pairs-fit-reads.Asked,
   pairs-fit-reads.Learnt,
   is-flagged-reads.Asked,
@@ -154,8 +155,8 @@ placed-loop-less : (t : ℕ) → placed-lts.Need-loop-less (
 placed-loop-less t c = search needs
 
 placed-loop-again : (t : ℕ) → placed-lts.Need-loop-again (
-  of-value-reads.Asked,
-  of-value-reads.Learnt,
+  told-reads.Asked,
+  told-reads.Learnt,
   pairs-fit-reads.Asked,
   pairs-fit-reads.Learnt,
   is-flagged-reads.Asked,
@@ -166,17 +167,17 @@ placed-loop-again : (t : ℕ) → placed-lts.Need-loop-again (
   placed.Post,
 ) (placed-at t) placed.Post placed-Inv-loop placed-μ-loop
 placed-loop-again t c =
-    let a = c .before .before .before .before .before .before .before .before .before .before .before .before .before .args in
+    let a = c .before .before .before .before .before .before .before .before .before .before .before .before .before .before .args in
     let l = c .before .before .before .before .loop in
-    let eight : length (a .chosen) ≡ 8 = (let o = c .before .before .before .before .before .before .before .before .before .before .before .before .before .good in search needs) in
-    let room : a .s < length (a .chosen) = omega (arith, c .before .before .before .before .before .before .before .before .before .before .before .before .before .pre .1, c .before .before .before .before .before .before .before .if1 .left) in
-    let other : entryOf (a .levels .now) (getD (a .prefix .now) (l .j) 0) ≡ entryOf (a .need .now) (getD (a .head .now) (a .s) 0) → ⊥ =
-    λ q. c .if2 .taken (c .before .of-value2 .ensures ∙ q ∙ sym (c .before .before .before .before .before .of-value .ensures)) in
-    (omega (arith, l .inv .0), l .inv .1 ∙ placed-level (entryOf (a .need .now)) (entryOf (a .levels .now)) (flagged (a .gone .now)) (a .head .now) (a .prefix .now) (a .used) (a .chosen) (a .s) (l .j) (c .before .before .before .before .before .before .before .if1 .left) (c .before .before .before .loop-test .taken) room other)
+    let eight : length (a .state .chosen) ≡ 8 = (let o = c .before .before .before .before .before .before .before .before .before .before .before .before .before .before .good in search needs) in
+    let room : a .state .placed < length (a .state .chosen) = omega (arith, c .before .before .before .before .before .before .before .before .before .before .before .before .before .before .pre .1, c .before .before .before .before .before .before .before .before .before .before .before .if1 .left) in
+    let other : entryOf (a .tables .levels) (getD (a .prefix .now) (l .j) 0) ≡ entryOf (a .tables .need) (getD (a .head .now) (a .state .placed) 0) → ⊥ =
+    λ q. c .if2 .taken (c .before .told2 .ensures ∙ q ∙ sym (c .before .before .before .before .before .told .ensures)) in
+    (omega (arith, l .inv .0), l .inv .1 ∙ placed-level (entryOf (a .tables .need)) (entryOf (a .tables .levels)) (flagged (a .tables .gone)) (a .head .now) (a .prefix .now) (a .state .used) (a .state .chosen) (a .state .placed) (l .j) (c .before .before .before .before .before .before .before .before .before .before .before .if1 .left) (c .before .before .before .loop-test .taken) room other)
 
 placed-pairs-fit-requires : (t : ℕ) → placed-lts.Need-pairs-fit-requires (
-  of-value-reads.Asked,
-  of-value-reads.Learnt,
+  told-reads.Asked,
+  told-reads.Learnt,
   pairs-fit-reads.Asked,
   pairs-fit-reads.Learnt,
   is-flagged-reads.Asked,
@@ -189,8 +190,8 @@ placed-pairs-fit-requires : (t : ℕ) → placed-lts.Need-pairs-fit-requires (
 placed-pairs-fit-requires t c κs = search needs
 
 placed-loop-less-2 : (t : ℕ) → placed-lts.Need-loop-less-2 (
-  of-value-reads.Asked,
-  of-value-reads.Learnt,
+  told-reads.Asked,
+  told-reads.Learnt,
   pairs-fit-reads.Asked,
   pairs-fit-reads.Learnt,
   is-flagged-reads.Asked,
@@ -203,8 +204,8 @@ placed-loop-less-2 : (t : ℕ) → placed-lts.Need-loop-less-2 (
 placed-loop-less-2 t c = search needs
 
 placed-loop-again-2 : (t : ℕ) → placed-lts.Need-loop-again-2 (
-  of-value-reads.Asked,
-  of-value-reads.Learnt,
+  told-reads.Asked,
+  told-reads.Learnt,
   pairs-fit-reads.Asked,
   pairs-fit-reads.Learnt,
   is-flagged-reads.Asked,
@@ -215,20 +216,20 @@ placed-loop-again-2 : (t : ℕ) → placed-lts.Need-loop-again-2 (
   placed.Post,
 ) (placed-at t) placed.Post placed-Inv-loop placed-μ-loop
 placed-loop-again-2 t c =
-    let a = c .before .before .before .before .before .before .before .before .before .before .before .before .before .before .before .args in
+    let a = c .before .before .before .before .before .before .before .before .before .before .before .before .before .before .before .before .args in
     let l = c .before .before .before .before .before .before .loop in
-    let eight : length (a .chosen) ≡ 8 = (let o = c .before .before .before .before .before .before .before .before .before .before .before .before .before .before .before .good in search needs) in
-    let room : a .s < length (a .chosen) = omega (arith, c .before .before .before .before .before .before .before .before .before .before .before .before .before .before .before .pre .1, c .before .before .before .before .before .before .before .before .before .if1 .left) in
-    let level : entryOf (a .levels .now) (getD (a .prefix .now) (l .j) 0) ≡ entryOf (a .need .now) (getD (a .head .now) (a .s) 0) =
-    sym (c .before .before .before .of-value2 .ensures) ∙ c .before .before .if2 .left ∙ c .before .before .before .before .before .before .before .of-value .ensures in (
+    let eight : length (a .state .chosen) ≡ 8 = (let o = c .before .before .before .before .before .before .before .before .before .before .before .before .before .before .before .before .good in search needs) in
+    let room : a .state .placed < length (a .state .chosen) = omega (arith, c .before .before .before .before .before .before .before .before .before .before .before .before .before .before .before .before .pre .1, c .before .before .before .before .before .before .before .before .before .before .before .before .before .if1 .left) in
+    let level : entryOf (a .tables .levels) (getD (a .prefix .now) (l .j) 0) ≡ entryOf (a .tables .need) (getD (a .head .now) (a .state .placed) 0) =
+    sym (c .before .before .before .told2 .ensures) ∙ c .before .before .if2 .left ∙ c .before .before .before .before .before .before .before .told .ensures in (
       omega (arith, l .inv .0),
-      l .inv .1 ∙ placed-pairs (entryOf (a .need .now)) (entryOf (a .levels .now)) (flagged (a .gone .now)) (a .head .now) (a .prefix .now) (a .used) (a .chosen) (a .s) (l .j) (c .before .before .before .before .before .before .before .before .before .if1 .left) (c .before .before .before .before .before .loop-test .taken) room level
+      l .inv .1 ∙ placed-pairs (entryOf (a .tables .need)) (entryOf (a .tables .levels)) (flagged (a .tables .gone)) (a .head .now) (a .prefix .now) (a .state .used) (a .state .chosen) (a .state .placed) (l .j) (c .before .before .before .before .before .before .before .before .before .before .before .before .before .if1 .left) (c .before .before .before .before .before .loop-test .taken) room level
           (sym (c .before .pairs-fit .ensures) ∙ not-true _ (c .if3 .taken)),
     )
 
 placed-array-write-next : (t : ℕ) → placed-lts.Need-array-write-next (
-  of-value-reads.Asked,
-  of-value-reads.Learnt,
+  told-reads.Asked,
+  told-reads.Learnt,
   pairs-fit-reads.Asked,
   pairs-fit-reads.Learnt,
   is-flagged-reads.Asked,
@@ -241,8 +242,8 @@ placed-array-write-next : (t : ℕ) → placed-lts.Need-array-write-next (
 placed-array-write-next t c = search needs
 
 placed-is-flagged-requires : (t : ℕ) → placed-lts.Need-is-flagged-requires (
-  of-value-reads.Asked,
-  of-value-reads.Learnt,
+  told-reads.Asked,
+  told-reads.Learnt,
   pairs-fit-reads.Asked,
   pairs-fit-reads.Learnt,
   is-flagged-reads.Asked,
@@ -255,8 +256,8 @@ placed-is-flagged-requires : (t : ℕ) → placed-lts.Need-is-flagged-requires (
 placed-is-flagged-requires t c κs = search needs
 
 placed-either-requires : (t : ℕ) → placed-lts.Need-either-requires (
-  of-value-reads.Asked,
-  of-value-reads.Learnt,
+  told-reads.Asked,
+  told-reads.Learnt,
   pairs-fit-reads.Asked,
   pairs-fit-reads.Learnt,
   is-flagged-reads.Asked,
@@ -268,9 +269,9 @@ placed-either-requires : (t : ℕ) → placed-lts.Need-either-requires (
 ) (placed-at t) placed.Post placed-Inv-loop placed-μ-loop
 placed-either-requires t c κs = search needs
 
-placed-add-placed : (t : ℕ) → placed-lts.Need-add-placed (
-  of-value-reads.Asked,
-  of-value-reads.Learnt,
+placed-add-count : (t : ℕ) → placed-lts.Need-add-count (
+  told-reads.Asked,
+  told-reads.Learnt,
   pairs-fit-reads.Asked,
   pairs-fit-reads.Learnt,
   is-flagged-reads.Asked,
@@ -280,11 +281,11 @@ placed-add-placed : (t : ℕ) → placed-lts.Need-add-placed (
   placed-below t,
   placed.Post,
 ) (placed-at t) placed.Post placed-Inv-loop placed-μ-loop
-placed-add-placed t c = search needs
+placed-add-count t c = search needs
 
 placed-placed-requires : (t : ℕ) → placed-lts.Need-placed-requires (
-  of-value-reads.Asked,
-  of-value-reads.Learnt,
+  told-reads.Asked,
+  told-reads.Learnt,
   pairs-fit-reads.Asked,
   pairs-fit-reads.Learnt,
   is-flagged-reads.Asked,
@@ -294,11 +295,11 @@ placed-placed-requires : (t : ℕ) → placed-lts.Need-placed-requires (
   placed-below t,
   placed.Post,
 ) (placed-at t) placed.Post placed-Inv-loop placed-μ-loop
-placed-placed-requires t c κs = (omega (arith, c .before .before .before .before .before .before .before .before .before .before .before .before .before .before .before .before .before .pre .0, c .before .before .before .before .before .before .before .before .loop .inv .0, c .before .before .before .before .before .before .before .loop-test .taken), c .before .before .before .before .before .before .before .before .before .before .before .before .before .before .before .before .before .pre .1)
+placed-placed-requires t c κs = (omega (arith, c .before .before .before .before .before .before .before .before .before .before .before .before .before .before .before .before .before .before .pre .0, c .before .before .before .before .before .before .before .before .loop .inv .0, c .before .before .before .before .before .before .before .loop-test .taken), c .before .before .before .before .before .before .before .before .before .before .before .before .before .before .before .before .before .before .pre .1)
 
 placed-returns-2 : (t : ℕ) → placed-lts.Need-returns-2 (
-  of-value-reads.Asked,
-  of-value-reads.Learnt,
+  told-reads.Asked,
+  told-reads.Learnt,
   pairs-fit-reads.Asked,
   pairs-fit-reads.Learnt,
   is-flagged-reads.Asked,
@@ -309,23 +310,23 @@ placed-returns-2 : (t : ℕ) → placed-lts.Need-returns-2 (
   placed.Post,
 ) (placed-at t) placed.Post placed-Inv-loop placed-μ-loop
 placed-returns-2 t c =
-    let a = c .before .before .before .before .before .before .before .before .before .before .before .before .before .before .before .before .before .before .before .args in
+    let a = c .before .before .before .before .before .before .before .before .before .before .before .before .before .before .before .before .before .before .before .before .args in
     let l = c .before .before .before .before .before .before .before .before .before .before .loop in
     let v : ℕ = getD (a .prefix .now) (l .j) 0 in
-    let eight : length (a .chosen) ≡ 8 = (let o = c .before .before .before .before .before .before .before .before .before .before .before .before .before .before .before .before .before .before .before .good in search needs) in
-    let room : a .s < length (a .chosen) = omega (arith, c .before .before .before .before .before .before .before .before .before .before .before .before .before .before .before .before .before .before .before .pre .1, c .before .before .before .before .before .before .before .before .before .before .before .before .before .if1 .left) in
-    let level : entryOf (a .levels .now) v ≡ entryOf (a .need .now) (getD (a .head .now) (a .s) 0) =
-    sym (c .before .before .before .before .before .before .before .of-value2 .ensures) ∙ c .before .before .before .before .before .before .if2 .left ∙ c .before .before .before .before .before .before .before .before .before .before .before .of-value .ensures in
-    let more : c .before .before .either .result ≡ a .used || flagged (a .gone .now) v =
-    c .before .before .either .ensures ∙ ap (λ (b : Bool). a .used || b) (c .before .before .before .is-flagged .ensures) in
-    let tried : state (entryOf (a .need .now)) (entryOf (a .levels .now)) (flagged (a .gone .now)) (a .head .now) (a .prefix .now) (a .used || flagged (a .gone .now) v) (set (a .chosen) (a .s) v) (a .s + 1) (l .j + 1) ≡ true =
-    ap (λ (u : Bool). state (entryOf (a .need .now)) (entryOf (a .levels .now)) (flagged (a .gone .now)) (a .head .now) (a .prefix .now) u (set (a .chosen) (a .s) v) (a .s + 1) (l .j + 1)) (sym more) ∙
+    let eight : length (a .state .chosen) ≡ 8 = (let o = c .before .before .before .before .before .before .before .before .before .before .before .before .before .before .before .before .before .before .before .before .good in search needs) in
+    let room : a .state .placed < length (a .state .chosen) = omega (arith, c .before .before .before .before .before .before .before .before .before .before .before .before .before .before .before .before .before .before .before .before .pre .1, c .before .before .before .before .before .before .before .before .before .before .before .before .before .before .before .before .before .if1 .left) in
+    let level : entryOf (a .tables .levels) v ≡ entryOf (a .tables .need) (getD (a .head .now) (a .state .placed) 0) =
+    sym (c .before .before .before .before .before .before .before .told2 .ensures) ∙ c .before .before .before .before .before .before .if2 .left ∙ c .before .before .before .before .before .before .before .before .before .before .before .told .ensures in
+    let more : c .before .before .either .result ≡ a .state .used || flagged (a .tables .gone) v =
+    c .before .before .either .ensures ∙ ap (λ (b : Bool). a .state .used || b) (c .before .before .before .is-flagged .ensures) in
+    let tried : state (entryOf (a .tables .need)) (entryOf (a .tables .levels)) (flagged (a .tables .gone)) (a .head .now) (a .prefix .now) (a .state .used || flagged (a .tables .gone) v) (set (a .state .chosen) (a .state .placed) v) (a .state .placed + 1) (l .j + 1) ≡ true =
+    ap (λ (u : Bool). state (entryOf (a .tables .need)) (entryOf (a .tables .levels)) (flagged (a .tables .gone)) (a .head .now) (a .prefix .now) u (set (a .state .chosen) (a .state .placed) v) (a .state .placed + 1) (l .j + 1)) (sym more) ∙
     sym (c .before .placed .ensures) ∙ c .if4 .taken in
-    sym (l .inv .1 ∙ placed-here (entryOf (a .need .now)) (entryOf (a .levels .now)) (flagged (a .gone .now)) (a .head .now) (a .prefix .now) (a .used) (a .chosen) (a .s) (l .j) (c .before .before .before .before .before .before .before .before .before .before .before .before .before .if1 .left) (c .before .before .before .before .before .before .before .before .before .loop-test .taken) room level (sym (c .before .before .before .before .before .pairs-fit .ensures) ∙ not-false _ (c .before .before .before .before .if3 .left)) tried)
+    sym (l .inv .1 ∙ placed-here (entryOf (a .tables .need)) (entryOf (a .tables .levels)) (flagged (a .tables .gone)) (a .head .now) (a .prefix .now) (a .state .used) (a .state .chosen) (a .state .placed) (l .j) (c .before .before .before .before .before .before .before .before .before .before .before .before .before .before .before .before .before .if1 .left) (c .before .before .before .before .before .before .before .before .before .loop-test .taken) room level (sym (c .before .before .before .before .before .pairs-fit .ensures) ∙ not-false _ (c .before .before .before .before .if3 .left)) tried)
 
 placed-loop-less-3 : (t : ℕ) → placed-lts.Need-loop-less-3 (
-  of-value-reads.Asked,
-  of-value-reads.Learnt,
+  told-reads.Asked,
+  told-reads.Learnt,
   pairs-fit-reads.Asked,
   pairs-fit-reads.Learnt,
   is-flagged-reads.Asked,
@@ -338,8 +339,8 @@ placed-loop-less-3 : (t : ℕ) → placed-lts.Need-loop-less-3 (
 placed-loop-less-3 t c = search needs
 
 placed-loop-again-3 : (t : ℕ) → placed-lts.Need-loop-again-3 (
-  of-value-reads.Asked,
-  of-value-reads.Learnt,
+  told-reads.Asked,
+  told-reads.Learnt,
   pairs-fit-reads.Asked,
   pairs-fit-reads.Learnt,
   is-flagged-reads.Asked,
@@ -350,23 +351,23 @@ placed-loop-again-3 : (t : ℕ) → placed-lts.Need-loop-again-3 (
   placed.Post,
 ) (placed-at t) placed.Post placed-Inv-loop placed-μ-loop
 placed-loop-again-3 t c =
-    let a = c .before .before .before .before .before .before .before .before .before .before .before .before .before .before .before .before .before .before .before .args in
+    let a = c .before .before .before .before .before .before .before .before .before .before .before .before .before .before .before .before .before .before .before .before .args in
     let l = c .before .before .before .before .before .before .before .before .before .before .loop in
     let v : ℕ = getD (a .prefix .now) (l .j) 0 in
-    let eight : length (a .chosen) ≡ 8 = (let o = c .before .before .before .before .before .before .before .before .before .before .before .before .before .before .before .before .before .before .before .good in search needs) in
-    let room : a .s < length (a .chosen) = omega (arith, c .before .before .before .before .before .before .before .before .before .before .before .before .before .before .before .before .before .before .before .pre .1, c .before .before .before .before .before .before .before .before .before .before .before .before .before .if1 .left) in
-    let level : entryOf (a .levels .now) v ≡ entryOf (a .need .now) (getD (a .head .now) (a .s) 0) =
-    sym (c .before .before .before .before .before .before .before .of-value2 .ensures) ∙ c .before .before .before .before .before .before .if2 .left ∙ c .before .before .before .before .before .before .before .before .before .before .before .of-value .ensures in
-    let more : c .before .before .either .result ≡ a .used || flagged (a .gone .now) v =
-    c .before .before .either .ensures ∙ ap (λ (b : Bool). a .used || b) (c .before .before .before .is-flagged .ensures) in
-    let tried : state (entryOf (a .need .now)) (entryOf (a .levels .now)) (flagged (a .gone .now)) (a .head .now) (a .prefix .now) (a .used || flagged (a .gone .now) v) (set (a .chosen) (a .s) v) (a .s + 1) (l .j + 1) ≡ false =
-    ap (λ (u : Bool). state (entryOf (a .need .now)) (entryOf (a .levels .now)) (flagged (a .gone .now)) (a .head .now) (a .prefix .now) u (set (a .chosen) (a .s) v) (a .s + 1) (l .j + 1)) (sym more) ∙
+    let eight : length (a .state .chosen) ≡ 8 = (let o = c .before .before .before .before .before .before .before .before .before .before .before .before .before .before .before .before .before .before .before .before .good in search needs) in
+    let room : a .state .placed < length (a .state .chosen) = omega (arith, c .before .before .before .before .before .before .before .before .before .before .before .before .before .before .before .before .before .before .before .before .pre .1, c .before .before .before .before .before .before .before .before .before .before .before .before .before .before .before .before .before .if1 .left) in
+    let level : entryOf (a .tables .levels) v ≡ entryOf (a .tables .need) (getD (a .head .now) (a .state .placed) 0) =
+    sym (c .before .before .before .before .before .before .before .told2 .ensures) ∙ c .before .before .before .before .before .before .if2 .left ∙ c .before .before .before .before .before .before .before .before .before .before .before .told .ensures in
+    let more : c .before .before .either .result ≡ a .state .used || flagged (a .tables .gone) v =
+    c .before .before .either .ensures ∙ ap (λ (b : Bool). a .state .used || b) (c .before .before .before .is-flagged .ensures) in
+    let tried : state (entryOf (a .tables .need)) (entryOf (a .tables .levels)) (flagged (a .tables .gone)) (a .head .now) (a .prefix .now) (a .state .used || flagged (a .tables .gone) v) (set (a .state .chosen) (a .state .placed) v) (a .state .placed + 1) (l .j + 1) ≡ false =
+    ap (λ (u : Bool). state (entryOf (a .tables .need)) (entryOf (a .tables .levels)) (flagged (a .tables .gone)) (a .head .now) (a .prefix .now) u (set (a .state .chosen) (a .state .placed) v) (a .state .placed + 1) (l .j + 1)) (sym more) ∙
     sym (c .before .placed .ensures) ∙ c .if4 .left in
-    (omega (arith, l .inv .0), l .inv .1 ∙ placed-later (entryOf (a .need .now)) (entryOf (a .levels .now)) (flagged (a .gone .now)) (a .head .now) (a .prefix .now) (a .used) (a .chosen) (a .s) (l .j) (c .before .before .before .before .before .before .before .before .before .before .before .before .before .if1 .left) (c .before .before .before .before .before .before .before .before .before .loop-test .taken) room level (sym (c .before .before .before .before .before .pairs-fit .ensures) ∙ not-false _ (c .before .before .before .before .if3 .left)) tried)
+    (omega (arith, l .inv .0), l .inv .1 ∙ placed-later (entryOf (a .tables .need)) (entryOf (a .tables .levels)) (flagged (a .tables .gone)) (a .head .now) (a .prefix .now) (a .state .used) (a .state .chosen) (a .state .placed) (l .j) (c .before .before .before .before .before .before .before .before .before .before .before .before .before .before .before .before .before .if1 .left) (c .before .before .before .before .before .before .before .before .before .loop-test .taken) room level (sym (c .before .before .before .before .before .pairs-fit .ensures) ∙ not-false _ (c .before .before .before .before .if3 .left)) tried)
 
 placed-returns-3 : (t : ℕ) → placed-lts.Need-returns-3 (
-  of-value-reads.Asked,
-  of-value-reads.Learnt,
+  told-reads.Asked,
+  told-reads.Learnt,
   pairs-fit-reads.Asked,
   pairs-fit-reads.Learnt,
   is-flagged-reads.Asked,
@@ -377,14 +378,14 @@ placed-returns-3 : (t : ℕ) → placed-lts.Need-returns-3 (
   placed.Post,
 ) (placed-at t) placed.Post placed-Inv-loop placed-μ-loop
 placed-returns-3 t c =
-    let a = c .before .before .before .before .before .before .before .before .before .before .args in
+    let a = c .before .before .before .before .before .before .before .before .before .before .before .args in
     let l = c .before .loop in
-    sym (l .inv .1 ∙ placed-none (entryOf (a .need .now)) (entryOf (a .levels .now)) (flagged (a .gone .now)) (a .head .now) (a .prefix .now) (a .used) (a .chosen) (a .s) (l .j) (c .before .before .before .before .if1 .left) (c .loop-test .left))
+    sym (l .inv .1 ∙ placed-none (entryOf (a .tables .need)) (entryOf (a .tables .levels)) (flagged (a .tables .gone)) (a .head .now) (a .prefix .now) (a .state .used) (a .state .chosen) (a .state .placed) (l .j) (c .before .before .before .before .before .before .before .before .if1 .left) (c .loop-test .left))
 
 pub +placed-spec : {M : Type 1} → statement M
 +placed-spec = close μ-placed λ t. placed-lts.spec (
-  of-value-reads.Asked,
-  of-value-reads.Learnt,
+  told-reads.Asked,
+  told-reads.Learnt,
   pairs-fit-reads.Asked,
   pairs-fit-reads.Learnt,
   is-flagged-reads.Asked,
@@ -400,11 +401,11 @@ pub +placed-spec : {M : Type 1} → statement M
     placed-μ-loop
     (placed-returns t)
     (placed-shared-slice-read-x t)
-    (placed-of-value-requires t)
+    (placed-told-requires t)
     (placed-loop-holds t)
     (placed-shared-slice-read-a t)
     (placed-add-j t)
-    (placed-of-value-requires-2 t)
+    (placed-told-requires-2 t)
     (placed-loop-less t)
     (placed-loop-again t)
     (placed-pairs-fit-requires t)
@@ -413,7 +414,7 @@ pub +placed-spec : {M : Type 1} → statement M
     (placed-array-write-next t)
     (placed-is-flagged-requires t)
     (placed-either-requires t)
-    (placed-add-placed t)
+    (placed-add-count t)
     (placed-placed-requires t)
     (placed-returns-2 t)
     (placed-loop-less-3 t)

@@ -1,4 +1,5 @@
--- `candidate::search::contained_by` meets its contract: a copy of one pattern decides, or the whole set does.
+-- `candidate::search::contained_by` meets its contract: a copy of one pattern decides, or the whole
+-- set does.
 -- Assumes nothing.
 use mathlib.Core.Path.{_≡_, sym, ap, _∙_}
 use mathlib.Core.Bool.{not}

@@ -1,4 +1,5 @@
--- `candidate::search::hits` meets its contract: the lists say of the entries what the definition says.
+-- `candidate::search::hits` meets its contract: the lists say of the entries what the definition
+-- says.
 -- Assumes nothing.
 use Prim.Native.Nat.{_-_}
 use mathlib.Core.Path.{_≡_, sym, _∙_}
@@ -14,7 +15,7 @@ use Rattle.candidate.proofs.search.hits.Tie as tie
 returns : tie.Need-returns
 returns c =
     let a = c .before .args in
-    λ R g r e. sym (hit-short (take (a .k) (a .t5)) R g (take (a .len) (a .t1)) (a .t) e (omega (arith, length-take (a .len) (a .t1))))
+    λ R g r e. sym (hit-short (take (a .k) (a .t4)) R g (take (a .len) (a .t1)) (a .t) e (omega (arith, length-take (a .len) (a .t1))))
 
 sub-head : tie.Need-sub-head
 sub-head c = search needs
@@ -28,35 +29,26 @@ slice-aggregate-placed c =
     let eight : length (a .t1) ≡ 8 = search needs in
     sym (length-take-le (a .len - a .t) (a .t1) (omega arith))
 
-slice-aggregate-placed-2 : tie.Need-slice-aggregate-placed-2
-slice-aggregate-placed-2 c = search needs
-
 array-share-prefix-prefix : tie.Need-array-share-prefix-prefix
 array-share-prefix-prefix c = search needs
 
-slice-aggregate-placed-3 : tie.Need-slice-aggregate-placed-3
-slice-aggregate-placed-3 c =
-    let a = c .before .before .before .before .args in
-    let six : length (a .t5) ≡ 6 = search needs in
-    sym (length-take-le (a .k) (a .t5) (omega arith))
-
-slice-aggregate-placed-4 : tie.Need-slice-aggregate-placed-4
-slice-aggregate-placed-4 c = search needs
-
-slice-aggregate-placed-5 : tie.Need-slice-aggregate-placed-5
-slice-aggregate-placed-5 c = search needs
+slice-aggregate-placed-2 : tie.Need-slice-aggregate-placed-2
+slice-aggregate-placed-2 c =
+    let a = c .before .before .before .args in
+    let six : length (a .t4) ≡ 6 = search needs in
+    sym (length-take-le (a .k) (a .t4) (omega arith))
 
 placed-requires : tie.Need-placed-requires
 placed-requires c κs =
-    let a = c .before .before .before .before .before .before .args in
+    let a = c .before .before .before .args in
     let eight : length (a .t1) ≡ 8 = search needs in
     omega (arith, length-take-le (a .len - a .t) (a .t1) (omega arith))
 
 returns-2 : tie.Need-returns-2
 returns-2 c =
-    let a = c .before .before .before .before .before .before .before .args in
-    let eight : length (a .t1) ≡ 8 = (let o = c .before .before .before .before .before .before .before .good in search needs) in
-    λ R g r e. c .placed .ensures ∙ sym (hit-row (take (a .k) (a .t5)) R g (a .t1) (a .len) (a .t) (a .t7) (a .t8) (a .t4) (omega arith) r e (omega arith))
+    let a = c .before .before .before .before .args in
+    let eight : length (a .t1) ≡ 8 = (let o = c .before .before .before .before .good in search needs) in
+    λ R g r e. c .placed .ensures ∙ sym (hit-row (take (a .k) (a .t4)) R g (a .t1) (a .len) (a .t) (a .tables .levels) (a .tables .gone) (a .tables .need) (omega arith) r e (omega arith))
 
 pub hits-spec : {M : Type 1} → statement M
 hits-spec =
@@ -66,10 +58,7 @@ hits-spec =
     sub-head
     array-share-prefix-row
     slice-aggregate-placed
-    slice-aggregate-placed-2
     array-share-prefix-prefix
-    slice-aggregate-placed-3
-    slice-aggregate-placed-4
-    slice-aggregate-placed-5
+    slice-aggregate-placed-2
     placed-requires
     returns-2)

@@ -1,4 +1,5 @@
--- `candidate::search::irreversible` meets its contract: the totals before the one at hand have no violation, and the candidates decide the claim.
+-- `candidate::search::irreversible` meets its contract: the totals before the one at hand have no
+-- violation, and the candidates decide the claim.
 -- Assumes nothing.
 use Prim.Native.Nat.{ℕ, suc, _-_, _+_, _≤_}
 use mathlib.Core.Path.{_≡_, sym, ap, _∙_}
@@ -19,49 +20,49 @@ use Rattle.candidate.proofs.search.irreversible.Statement.{statement}
 use Rattle.candidate.proofs.search.irreversible.Tie as tie
 
 abbrev Inv-loop : tie.InvT-loop
-Inv-loop set lengths count prefix k position-count gaps gap-count gone m t₀ t = (m ≤ 8) × (t ≤ m) × ((R : List ℕ) → FlaggedFor set lengths count (take k prefix) R gone → any (lost (gapsOf gaps (k + 1) gap-count) (patternsOf set lengths count) (take k prefix) R) (each (vectors (suc k)) (row 0 m)) ≡ from-total (lost (gapsOf gaps (k + 1) gap-count) (patternsOf set lengths count) (take k prefix) R) k m t)
+Inv-loop set lengths count gaps k deleted m t₀ t =
+    (m ≤ 8) × (t ≤ m) ×
+    ((R : List ℕ) → FlaggedFor set lengths count (take k (deleted .prefix)) R (deleted .gone) →
+    any (lost (gapsOf gaps (k + 1) (deleted .«gap_count»)) (patternsOf set lengths count) (take k (deleted .prefix)) R) (each (vectors (suc k)) (row 0 m)) ≡
+    from-total (lost (gapsOf gaps (k + 1) (deleted .«gap_count»)) (patternsOf set lengths count) (take k (deleted .prefix)) R) k m t)
 
 abbrev μ-loop : tie.MeasureT-loop
-μ-loop set lengths count prefix k position-count gaps gap-count gone m t₀ t = m - t
+μ-loop set lengths count gaps k deleted m t₀ t = m - t
 
 deleted-values-requires : tie.Need-deleted-values-requires Inv-loop μ-loop
 deleted-values-requires c κs =
-    let a = c .args in
-    let six : length (a .prefix) ≡ 6 = search needs in
-    let wide : length (take (a .k) (a .prefix)) ≡ a .k = length-take-le (a .k) (a .prefix) (omega (arith, c .pre .0)) in
-    (c .pre .0, c .pre .1, c .pre .2 .perm, ap (λ (n : ℕ). all (within n) (take (a .position-count) (a .positions))) (sym wide) ∙ c .pre .2 .inside)
-
-longest-length-requires : tie.Need-longest-length-requires Inv-loop μ-loop
-longest-length-requires c κs = search needs
+    let a = c .before .before .args in
+    let six : length (a .deletion .prefix) ≡ 6 = search needs in
+    let wide : length (take (a .deletion .length) (a .deletion .prefix)) ≡ a .deletion .length = length-take-le (a .deletion .length) (a .deletion .prefix) (omega (arith, c .before .before .pre .0)) in
+    (c .before .before .pre .0, c .before .before .pre .1, c .before .before .pre .4 .perm, ap (λ (n : ℕ). all (within n) (take (a .deletion .«position_count») (a .deletion .positions))) (sym wide) ∙ c .before .before .pre .4 .inside)
 
 loop-holds : tie.Need-loop-holds Inv-loop μ-loop
 loop-holds c =
-    let a = c .before .before .args in
-    (c .longest-length .ensures .1, omega arith, λ R F. totals-start (lost (gapsOf (a .gaps) (a .k + 1) (a .gap-count)) (patternsOf (a .set) (a .lengths) (a .count)) (take (a .k) (a .prefix)) R) (a .k) (c .longest-length .result))
+    let a = c .before .before .before .args in
+    (c .before .before .before .pre .3, omega arith, λ R F. totals-start (lost (gapsOf (a .gaps) (a .deletion .length + 1) (a .deletion .«gap_count»)) (patternsOf (a .set) (a .lengths) (a .count)) (take (a .deletion .length) (a .deletion .prefix)) R) (a .deletion .length) (a .deletion .longest))
 
 add-loop : tie.Need-add-loop Inv-loop μ-loop
 add-loop c = search needs
 
 total-violated-requires : tie.Need-total-violated-requires Inv-loop μ-loop
-total-violated-requires c κs = (c .before .before .before .before .pre .2 .few, c .before .before .before .before .pre .0, omega (arith, c .before .loop .inv .0))
+total-violated-requires c κs = (c .before .before .before .before .before .pre .4 .few, c .before .before .before .before .before .pre .0, omega (arith, c .before .loop .inv .0))
 
 returns : tie.Need-returns Inv-loop μ-loop
 returns c =
-    let a = c .before .before .before .before .before .before .args in
-    let R = take (a .position-count) (a .positions) in
+    let a = c .before .before .before .before .before .before .before .args in
+    let R = take (a .deletion .«position_count») (a .deletion .positions) in
     let P = patternsOf (a .set) (a .lengths) (a .count) in
-    let A = gapsOf (a .gaps) (a .k + 1) (a .gap-count) in
-    let G = c .before .before .before .before .before .before .pre .2 in
-    let six : length (a .prefix) ≡ 6 = (let o = c .before .before .before .before .before .before .good in search needs) in
-    let wide : length (take (a .k) (a .prefix)) ≡ a .k = length-take-le (a .k) (a .prefix) (omega (arith, c .before .before .before .before .before .before .pre .0)) in
-    let F : FlaggedFor (a .set) (a .lengths) (a .count) (take (a .k) (a .prefix)) R (c .before .before .before .before .before .deleted-values .result) = (G, c .before .before .before .before .before .deleted-values .ensures) in
+    let A = gapsOf (a .gaps) (a .deletion .length + 1) (a .deletion .«gap_count») in
+    let G = c .before .before .before .before .before .before .before .pre .4 in
+    let six : length (a .deletion .prefix) ≡ 6 = (let o = c .before .before .before .before .before .before .before .good in search needs) in
+    let wide : length (take (a .deletion .length) (a .deletion .prefix)) ≡ a .deletion .length = length-take-le (a .deletion .length) (a .deletion .prefix) (omega (arith, c .before .before .before .before .before .before .before .pre .0)) in
+    let F : FlaggedFor (a .set) (a .lengths) (a .count) (take (a .deletion .length) (a .deletion .prefix)) R (c .before .before .before .before .deleted-values .result) = (G, c .before .before .before .before .deleted-values .ensures) in
     let l = c .before .before .before .loop in
-    let m = c .before .before .before .before .longest-length in
     let here = c .before .total-violated .ensures R F (sym wide) in
-    let found : from-total (lost A P (take (a .k) (a .prefix)) R) (a .k) (m .result) (l .t) ≡ true =
-    totals-here (lost A P (take (a .k) (a .prefix)) R) (a .k) (m .result) (l .t) (omega arith) (sym here ∙ c .if1 .taken) in
-    entry-answer (a .set) (a .lengths) (a .count) (take (a .k) (a .prefix)) A R true G
-    (sym (entry-defined P (take (a .k) (a .prefix)) A R (a .k) (m .result) (sym wide) (m .ensures .0) ∙ l .inv .2 R F ∙ found))
+    let found : from-total (lost A P (take (a .deletion .length) (a .deletion .prefix)) R) (a .deletion .length) (a .deletion .longest) (l .t) ≡ true =
+    totals-here (lost A P (take (a .deletion .length) (a .deletion .prefix)) R) (a .deletion .length) (a .deletion .longest) (l .t) (omega arith) (sym here ∙ c .if1 .taken) in
+    entry-answer (a .set) (a .lengths) (a .count) (take (a .deletion .length) (a .deletion .prefix)) A R true G
+    (sym (entry-defined P (take (a .deletion .length) (a .deletion .prefix)) A R (a .deletion .length) (a .deletion .longest) (sym wide) (c .before .before .before .before .before .before .before .pre .2) ∙ l .inv .2 R F ∙ found))
 
 add-t : tie.Need-add-t Inv-loop μ-loop
 add-t c = search needs
@@ -71,34 +72,32 @@ loop-less c = search needs
 
 loop-again : tie.Need-loop-again Inv-loop μ-loop
 loop-again c =
-    let a = c .before .before .before .before .before .before .args in
+    let a = c .before .before .before .before .before .before .before .args in
     let P = patternsOf (a .set) (a .lengths) (a .count) in
-    let A = gapsOf (a .gaps) (a .k + 1) (a .gap-count) in
+    let A = gapsOf (a .gaps) (a .deletion .length + 1) (a .deletion .«gap_count») in
     let l = c .before .before .before .loop in
-    let m = c .before .before .before .before .longest-length in
-    let six : length (a .prefix) ≡ 6 = (let o = c .before .before .before .before .before .before .good in search needs) in
-    let wide : length (take (a .k) (a .prefix)) ≡ a .k = length-take-le (a .k) (a .prefix) (omega (arith, c .before .before .before .before .before .before .pre .0)) in (
+    let six : length (a .deletion .prefix) ≡ 6 = (let o = c .before .before .before .before .before .before .before .good in search needs) in
+    let wide : length (take (a .deletion .length) (a .deletion .prefix)) ≡ a .deletion .length = length-take-le (a .deletion .length) (a .deletion .prefix) (omega (arith, c .before .before .before .before .before .before .before .pre .0)) in (
       l .inv .0,
       omega arith,
       λ R F. l .inv .2 R F ∙
-          totals-later (lost A P (take (a .k) (a .prefix)) R) (a .k) (m .result) (l .t) (omega arith) (sym (c .before .total-violated .ensures R F (sym wide)) ∙ c .if1 .left),
+          totals-later (lost A P (take (a .deletion .length) (a .deletion .prefix)) R) (a .deletion .length) (a .deletion .longest) (l .t) (omega arith) (sym (c .before .total-violated .ensures R F (sym wide)) ∙ c .if1 .left),
     )
 
 returns-2 : tie.Need-returns-2 Inv-loop μ-loop
 returns-2 c =
-    let a = c .before .before .before .before .args in
-    let R = take (a .position-count) (a .positions) in
+    let a = c .before .before .before .before .before .args in
+    let R = take (a .deletion .«position_count») (a .deletion .positions) in
     let P = patternsOf (a .set) (a .lengths) (a .count) in
-    let A = gapsOf (a .gaps) (a .k + 1) (a .gap-count) in
-    let G = c .before .before .before .before .pre .2 in
-    let six : length (a .prefix) ≡ 6 = (let o = c .before .before .before .before .good in search needs) in
-    let wide : length (take (a .k) (a .prefix)) ≡ a .k = length-take-le (a .k) (a .prefix) (omega (arith, c .before .before .before .before .pre .0)) in
-    let F : FlaggedFor (a .set) (a .lengths) (a .count) (take (a .k) (a .prefix)) R (c .before .before .before .deleted-values .result) = (G, c .before .before .before .deleted-values .ensures) in
+    let A = gapsOf (a .gaps) (a .deletion .length + 1) (a .deletion .«gap_count») in
+    let G = c .before .before .before .before .before .pre .4 in
+    let six : length (a .deletion .prefix) ≡ 6 = (let o = c .before .before .before .before .before .good in search needs) in
+    let wide : length (take (a .deletion .length) (a .deletion .prefix)) ≡ a .deletion .length = length-take-le (a .deletion .length) (a .deletion .prefix) (omega (arith, c .before .before .before .before .before .pre .0)) in
+    let F : FlaggedFor (a .set) (a .lengths) (a .count) (take (a .deletion .length) (a .deletion .prefix)) R (c .before .before .deleted-values .result) = (G, c .before .before .deleted-values .ensures) in
     let l = c .before .loop in
-    let m = c .before .before .longest-length in
-    entry-answer (a .set) (a .lengths) (a .count) (take (a .k) (a .prefix)) A R false G
-    (sym (entry-defined P (take (a .k) (a .prefix)) A R (a .k) (m .result) (sym wide) (m .ensures .0) ∙ l .inv .2 R F ∙
-    totals-end (lost A P (take (a .k) (a .prefix)) R) (a .k) (m .result) (l .t) (omega arith)))
+    entry-answer (a .set) (a .lengths) (a .count) (take (a .deletion .length) (a .deletion .prefix)) A R false G
+    (sym (entry-defined P (take (a .deletion .length) (a .deletion .prefix)) A R (a .deletion .length) (a .deletion .longest) (sym wide) (c .before .before .before .before .before .pre .2) ∙ l .inv .2 R F ∙
+    totals-end (lost A P (take (a .deletion .length) (a .deletion .prefix)) R) (a .deletion .length) (a .deletion .longest) (l .t) (omega arith)))
 
 pub irreversible-spec : {M : Type 1} → statement M
 irreversible-spec =
@@ -107,7 +106,6 @@ irreversible-spec =
     Inv-loop
     μ-loop
     deleted-values-requires
-    longest-length-requires
     loop-holds
     add-loop
     total-violated-requires

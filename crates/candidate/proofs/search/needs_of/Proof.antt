@@ -1,4 +1,5 @@
--- `candidate::search::needs_of` meets its contract: the rows up to the index say what their patterns need.
+-- `candidate::search::needs_of` meets its contract: the rows up to the index say what their
+-- patterns need.
 -- Assumes nothing.
 use Prim.Native.Nat.{_-_, _≤_}
 use mathlib.Core.Path.{_≡_, refl, _∙_}

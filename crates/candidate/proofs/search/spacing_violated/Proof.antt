@@ -1,4 +1,5 @@
--- `candidate::search::spacing_violated` meets its contract: the patterns before the index do not violate.
+-- `candidate::search::spacing_violated` meets its contract: the patterns before the index do not
+-- violate.
 -- Assumes nothing.
 use Prim.Native.Nat.{ℕ, _-_, _≤_}
 use mathlib.Core.Path.{_≡_, sym, ap, _∙_}
@@ -9,24 +10,25 @@ use borrow.Author.Tests.{not-true, not-false}
 use native.Mathlib.Omega.{arith}
 use lib.ListN.{length, getD, take, length-take}
 use lib.Seq.{length-take-le}
-use Rattle.candidate.proofs.CandidateWalk.{Passed, passed-start, passed-end, passed-short, passed-missed, passed-contained, violation, take-again, word-made}
+use Rattle.candidate.proofs.CandidateWalk.{Passed, passed-start, passed-end, passed-short, passed-missed, passed-contained, violation, word-made}
+use Rattle.candidate.proofs.BasisWalk.{take-again}
 use Rattle.candidate.specs.Ready.{patternAt}
 use Rattle.candidate.proofs.search.spacing_violated.Statement.{statement}
 use Rattle.candidate.proofs.search.spacing_violated.Tie as tie
 
 abbrev Inv-loop : tie.InvT-loop
-Inv-loop count prefix k gone t set lengths needs levels i₀ i = Passed set lengths count needs (take k prefix) gone levels t i
+Inv-loop count set lengths needs prefix k gone t levels i₀ i = Passed set lengths count needs (take k prefix) gone levels t i
 
 abbrev μ-loop : tie.MeasureT-loop
-μ-loop count prefix k gone t set lengths needs levels i₀ i = count - i
+μ-loop count set lengths needs prefix k gone t levels i₀ i = count - i
 
 levels-of-requires : tie.Need-levels-of-requires Inv-loop μ-loop
 levels-of-requires c κs = search needs
 
 loop-holds : tie.Need-loop-holds Inv-loop μ-loop
 loop-holds c =
-    let a = c .before .args in
-    passed-start (a .t1) (a .t2) (a .count) (a .t4) (take (a .k) (a .prefix)) (a .gone) (c .levels-of .result) (a .t)
+    let a = c .before .before .before .before .before .args in
+    passed-start (a .t1) (a .t2) (a .count) (a .t4) (take (a .at .deleted .length) (a .at .deleted .prefix)) (a .at .deleted .gone) (c .levels-of .result) (a .at .total)
 
 mul-row : tie.Need-mul-row Inv-loop μ-loop
 mul-row c = search needs
@@ -57,24 +59,24 @@ loop-less c = search needs
 
 loop-again : tie.Need-loop-again Inv-loop μ-loop
 loop-again c =
-    let a = c .before .before .before .before .before .before .before .args in
+    let a = c .before .before .before .before .before .before .before .before .before .before .before .args in
     let l = c .before .before .before .before .before .loop in
     let d = c .before .before .digits in
     let eight : length (patternAt (a .t1) (a .t2) (l .i)) ≤ 8 = omega (arith, d .ensures .0, d .ensures .1) in
     let rows : length (a .t1) ≡ 24 = search needs in
     let long : length (a .t2) ≡ 24 = search needs in
-    passed-short (a .t1) (a .t2) (a .count) (a .t4) (take (a .k) (a .prefix)) (a .gone) (c .before .before .before .before .before .before .levels-of .result) (a .t) (l .i)
+    passed-short (a .t1) (a .t2) (a .count) (a .t4) (take (a .at .deleted .length) (a .at .deleted .prefix)) (a .at .deleted .gone) (c .before .before .before .before .before .before .levels-of .result) (a .at .total) (l .i)
     (omega arith) (omega arith) (omega arith) eight (l .inv) (omega (arith, d .ensures .0, c .if1 .taken))
 
 hits-requires : tie.Need-hits-requires Inv-loop μ-loop
-hits-requires c κs = (c .before .before .digits .ensures .1, c .before .before .before .before .before .before .before .pre .1)
+hits-requires c κs = (c .before .before .digits .ensures .1, c .before .before .before .before .before .before .before .before .before .before .before .pre .1)
 
 loop-less-2 : tie.Need-loop-less-2 Inv-loop μ-loop
 loop-less-2 c = search needs
 
 loop-again-2 : tie.Need-loop-again-2 Inv-loop μ-loop
 loop-again-2 c =
-    let a = c .before .before .before .before .before .before .before .before .before .args in
+    let a = c .before .before .before .before .before .before .before .before .before .before .before .before .before .args in
     let l = c .before .before .before .before .before .before .before .loop in
     let d = c .before .before .before .before .digits in
     let eight : length (patternAt (a .t1) (a .t2) (l .i)) ≤ 8 = omega (arith, d .ensures .0, d .ensures .1) in
@@ -83,65 +85,65 @@ loop-again-2 c =
     let cut : take (d .result) (getD (a .t1) (l .i) []) ≡ patternAt (a .t1) (a .t2) (l .i) =
     ap (λ (m : ℕ). take m (getD (a .t1) (l .i) [])) (d .ensures .0) ∙ take-again (getD (a .t2) (l .i) 0) (getD (a .t1) (l .i) []) in
     let found = rw cut at (c .before .hits .ensures) in
-    passed-missed (a .t1) (a .t2) (a .count) (a .t4) (take (a .k) (a .prefix)) (a .gone) (c .before .before .before .before .before .before .before .before .levels-of .result) (a .t) (l .i)
+    passed-missed (a .t1) (a .t2) (a .count) (a .t4) (take (a .at .deleted .length) (a .at .deleted .prefix)) (a .at .deleted .gone) (c .before .before .before .before .before .before .before .before .levels-of .result) (a .at .total) (l .i)
     (omega arith) (omega arith) (omega arith) eight (l .inv) (c .before .hits .result) found (not-true _ (c .if2 .taken))
 
 candidate-word-requires : tie.Need-candidate-word-requires Inv-loop μ-loop
-candidate-word-requires c κs = (c .before .before .before .before .before .before .before .before .before .pre .1, omega arith, c .before .before .before .before .digits .ensures .1)
+candidate-word-requires c κs = (c .before .before .before .before .before .before .before .before .before .before .before .before .before .pre .1, omega arith, c .before .before .before .before .digits .ensures .1)
 
 contained-by-requires : tie.Need-contained-by-requires Inv-loop μ-loop
-contained-by-requires c κs = (omega (arith, c .before .candidate-word .ensures .0), omega arith, c .before .before .before .before .before .before .before .before .before .before .before .pre .0)
+contained-by-requires c κs = (omega (arith, c .before .candidate-word .ensures .0), omega arith, c .before .before .before .before .before .before .before .before .before .before .before .before .before .before .before .pre .0)
 
 loop-less-3 : tie.Need-loop-less-3 Inv-loop μ-loop
 loop-less-3 c = search needs
 
 loop-again-3 : tie.Need-loop-again-3 Inv-loop μ-loop
 loop-again-3 c =
-    let a = c .before .before .before .before .before .before .before .before .before .before .before .before .before .args in
+    let a = c .before .before .before .before .before .before .before .before .before .before .before .before .before .before .before .before .before .args in
     let l = c .before .before .before .before .before .before .before .before .before .before .before .loop in
     let d = c .before .before .before .before .before .before .before .before .digits in
     let eight : length (patternAt (a .t1) (a .t2) (l .i)) ≤ 8 = omega (arith, d .ensures .0, d .ensures .1) in
-    let rows : length (a .t1) ≡ 24 = (let o = c .before .before .before .before .before .before .before .before .before .before .before .before .before .good in search needs) in
-    let long : length (a .t2) ≡ 24 = (let o = c .before .before .before .before .before .before .before .before .before .before .before .before .before .good in search needs) in
-    let six : length (a .prefix) ≡ 6 = (let o = c .before .before .before .before .before .before .before .before .before .before .before .before .before .good in search needs) in
+    let rows : length (a .t1) ≡ 24 = (let o = c .before .before .before .before .before .before .before .before .before .before .before .before .before .before .before .before .before .good in search needs) in
+    let long : length (a .t2) ≡ 24 = (let o = c .before .before .before .before .before .before .before .before .before .before .before .before .before .before .before .before .before .good in search needs) in
+    let six : length (a .at .deleted .prefix) ≡ 6 = (let o = c .before .before .before .before .before .before .before .before .before .before .before .before .before .before .before .before .before .good in search needs) in
     let cut : take (d .result) (getD (a .t1) (l .i) []) ≡ patternAt (a .t1) (a .t2) (l .i) =
     ap (λ (m : ℕ). take m (getD (a .t1) (l .i) [])) (d .ensures .0) ∙ take-again (getD (a .t2) (l .i) 0) (getD (a .t1) (l .i) []) in
     let found = rw cut at (c .before .before .before .before .before .hits .ensures) in
-    let wide : length (take (a .k) (a .prefix)) ≡ a .k = length-take-le (a .k) (a .prefix) (omega (arith, c .before .before .before .before .before .before .before .before .before .before .before .before .before .pre .1)) in
+    let wide : length (take (a .at .deleted .length) (a .at .deleted .prefix)) ≡ a .at .deleted .length = length-take-le (a .at .deleted .length) (a .at .deleted .prefix) (omega (arith, c .before .before .before .before .before .before .before .before .before .before .before .before .before .before .before .before .before .pre .1)) in
     let w = c .before .before .before .candidate-word in
-    let made = word-made (a .t1) (a .t2) (a .count) (a .t4) (a .prefix) (a .gone) (c .before .before .before .before .before .before .before .before .before .before .before .before .levels-of .result) (a .k) (a .t) (l .i) (d .result) wide
+    let made = word-made (a .t1) (a .t2) (a .count) (a .t4) (a .at .deleted .prefix) (a .at .deleted .gone) (c .before .before .before .before .before .before .before .before .before .before .before .before .levels-of .result) (a .at .deleted .length) (a .at .total) (l .i) (d .result) wide
     (omega arith) (d .ensures .0) (d .ensures .1) (omega arith) (take (w .result .length) (w .result .entries)) (w .ensures .1) in
-    passed-contained (a .t1) (a .t2) (a .count) (a .t4) (take (a .k) (a .prefix)) (a .gone) (c .before .before .before .before .before .before .before .before .before .before .before .before .levels-of .result) (a .t) (l .i)
-    (omega arith) (omega arith) (omega arith) eight (l .inv) (c .before .before .before .before .before .hits .result) found (not-false _ (c .before .before .before .before .if2 .left))
+    passed-contained (a .t1) (a .t2) (a .count) (a .t4) (take (a .at .deleted .length) (a .at .deleted .prefix)) (a .at .deleted .gone) (c .before .before .before .before .before .before .before .before .before .before .before .before .levels-of .result) (a .at .total) (l .i)
+    (omega (arith, c .before .before .before .before .before .before .before .before .before .before .before .before .before .before .before .before .before .pre .0)) (omega (arith, c .before .before .before .before .before .before .before .before .before .before .before .before .before .before .before .before .before .pre .0)) (omega arith) eight (l .inv) (c .before .before .before .before .before .hits .result) found (not-false _ (c .before .before .before .before .if2 .left))
     (take (w .result .length) (w .result .entries)) made (not-true _ (sym (c .before .contained-by .ensures) ∙ c .if3 .taken))
 
 returns : tie.Need-returns Inv-loop μ-loop
 returns c =
-    let a = c .before .before .before .before .before .before .before .before .before .before .before .before .before .args in
+    let a = c .before .before .before .before .before .before .before .before .before .before .before .before .before .before .before .before .before .args in
     let l = c .before .before .before .before .before .before .before .before .before .before .before .loop in
     let d = c .before .before .before .before .before .before .before .before .digits in
     let eight : length (patternAt (a .t1) (a .t2) (l .i)) ≤ 8 = omega (arith, d .ensures .0, d .ensures .1) in
-    let rows : length (a .t1) ≡ 24 = (let o = c .before .before .before .before .before .before .before .before .before .before .before .before .before .good in search needs) in
-    let long : length (a .t2) ≡ 24 = (let o = c .before .before .before .before .before .before .before .before .before .before .before .before .before .good in search needs) in
-    let six : length (a .prefix) ≡ 6 = (let o = c .before .before .before .before .before .before .before .before .before .before .before .before .before .good in search needs) in
+    let rows : length (a .t1) ≡ 24 = (let o = c .before .before .before .before .before .before .before .before .before .before .before .before .before .before .before .before .before .good in search needs) in
+    let long : length (a .t2) ≡ 24 = (let o = c .before .before .before .before .before .before .before .before .before .before .before .before .before .before .before .before .before .good in search needs) in
+    let six : length (a .at .deleted .prefix) ≡ 6 = (let o = c .before .before .before .before .before .before .before .before .before .before .before .before .before .before .before .before .before .good in search needs) in
     let cut : take (d .result) (getD (a .t1) (l .i) []) ≡ patternAt (a .t1) (a .t2) (l .i) =
     ap (λ (m : ℕ). take m (getD (a .t1) (l .i) [])) (d .ensures .0) ∙ take-again (getD (a .t2) (l .i) 0) (getD (a .t1) (l .i) []) in
     let found = rw cut at (c .before .before .before .before .before .hits .ensures) in
-    let wide : length (take (a .k) (a .prefix)) ≡ a .k = length-take-le (a .k) (a .prefix) (omega (arith, c .before .before .before .before .before .before .before .before .before .before .before .before .before .pre .1)) in
+    let wide : length (take (a .at .deleted .length) (a .at .deleted .prefix)) ≡ a .at .deleted .length = length-take-le (a .at .deleted .length) (a .at .deleted .prefix) (omega (arith, c .before .before .before .before .before .before .before .before .before .before .before .before .before .before .before .before .before .pre .1)) in
     let w = c .before .before .before .candidate-word in
-    let made = word-made (a .t1) (a .t2) (a .count) (a .t4) (a .prefix) (a .gone) (c .before .before .before .before .before .before .before .before .before .before .before .before .levels-of .result) (a .k) (a .t) (l .i) (d .result) wide
+    let made = word-made (a .t1) (a .t2) (a .count) (a .t4) (a .at .deleted .prefix) (a .at .deleted .gone) (c .before .before .before .before .before .before .before .before .before .before .before .before .levels-of .result) (a .at .deleted .length) (a .at .total) (l .i) (d .result) wide
     (omega arith) (d .ensures .0) (d .ensures .1) (omega arith) (take (w .result .length) (w .result .entries)) (w .ensures .1) in
-    λ R F size e N. violation (a .t1) (a .t2) (a .count) (a .t4) (take (a .k) (a .prefix)) (a .gone) (c .before .before .before .before .before .before .before .before .before .before .before .before .levels-of .result) (a .t) (l .i)
+    λ R F size e N. violation (a .t1) (a .t2) (a .count) (a .t4) (take (a .at .deleted .length) (a .at .deleted .prefix)) (a .at .deleted .gone) (c .before .before .before .before .before .before .before .before .before .before .before .before .levels-of .result) (a .at .total) (l .i)
     (omega arith) (omega arith) (omega arith) eight (l .inv) (c .before .before .before .before .before .hits .result) found (not-false _ (c .before .before .before .before .if2 .left))
     (take (w .result .length) (w .result .entries)) made (not-false _ (sym (c .before .contained-by .ensures) ∙ c .if3 .left)) R _
-    (record { given = F .0; flags = F .1; size = size; whole = e; said = λ v b. c .before .before .before .before .before .before .before .before .before .before .before .before .levels-of .ensures v (omega (arith, length-take (a .k) (a .prefix))); needed = N })
+    (record { given = F .0; flags = F .1; size = size; whole = e; said = λ v b. c .before .before .before .before .before .before .before .before .before .before .before .before .levels-of .ensures v (omega (arith, length-take (a .at .deleted .length) (a .at .deleted .prefix))); needed = N })
 
 returns-2 : tie.Need-returns-2 Inv-loop μ-loop
 returns-2 c =
-    let a = c .before .before .before .args in
+    let a = c .before .before .before .before .before .before .before .args in
     let l = c .before .loop in
-    λ R F size e N. passed-end (a .t1) (a .t2) (a .count) (a .t4) (take (a .k) (a .prefix)) (a .gone) (c .before .before .levels-of .result) (a .t) (l .i) (omega arith) (l .inv) R _
-    (record { given = F .0; flags = F .1; size = size; whole = e; said = λ v b. c .before .before .levels-of .ensures v (omega (arith, length-take (a .k) (a .prefix))); needed = N })
+    λ R F size e N. passed-end (a .t1) (a .t2) (a .count) (a .t4) (take (a .at .deleted .length) (a .at .deleted .prefix)) (a .at .deleted .gone) (c .before .before .levels-of .result) (a .at .total) (l .i) (omega arith) (l .inv) R _
+    (record { given = F .0; flags = F .1; size = size; whole = e; said = λ v b. c .before .before .levels-of .ensures v (omega (arith, length-take (a .at .deleted .length) (a .at .deleted .prefix))); needed = N })
 
 pub spacing-violated-spec : {M : Type 1} → statement M
 spacing-violated-spec =

@@ -1,4 +1,5 @@
--- `candidate::tables::at_most` meets its contract: what is counted, and what is still to be counted, are the whole.
+-- `candidate::tables::at_most` meets its contract: what is counted, and what is still to be
+-- counted, are the whole.
 -- Assumes nothing.
 use Prim.Native.Nat.{_+_, _-_, _≤_}
 use mathlib.Core.Path.{_≡_}

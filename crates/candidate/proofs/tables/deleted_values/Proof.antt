@@ -1,4 +1,5 @@
--- `candidate::tables::deleted_values` meets its contract: what is flagged, and what stands at the positions still to come, is the whole.
+-- `candidate::tables::deleted_values` meets its contract: what is flagged, and what stands at the
+-- positions still to come, is the whole.
 -- Assumes nothing.
 use Prim.Native.Nat.{ℕ, _-_, _≤_, _<_}
 use mathlib.Core.Path.{_≡_, sym, _∙_}

@@ -1,4 +1,5 @@
--- `candidate::tables::kept` meets its contract: the entries, and the values still to come, are the whole.
+-- `candidate::tables::kept` meets its contract: the entries, and the values still to come, are the
+-- whole.
 -- Assumes nothing.
 use Prim.Native.Nat.{ℕ, _+_, _-_, _≤_, min}
 use mathlib.Core.Path.{_≡_, sym, ap, _∙_}

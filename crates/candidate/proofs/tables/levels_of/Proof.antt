@@ -1,4 +1,5 @@
--- `candidate::tables::levels_of` meets its contract: the table says the levels up to v, and the sum is the level of v.
+-- `candidate::tables::levels_of` meets its contract: the table says the levels up to v, and the sum
+-- is the level of v.
 -- Assumes nothing.
 use Prim.Native.Nat.{_+_, _-_, _≤_}
 use mathlib.Core.Path.{_≡_, sym}

@@ -1,4 +1,5 @@
--- `candidate::tables::lifted` meets its contract: what is added, and what is still to be added, is the count of the lower levels.
+-- `candidate::tables::lifted` meets its contract: what is added, and what is still to be added, is
+-- the count of the lower levels.
 -- Assumes nothing.
 use Prim.Native.Nat.{suc, _+_, _-_, _≤_}
 use mathlib.Core.Path.{_≡_}

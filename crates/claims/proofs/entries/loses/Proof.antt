@@ -23,7 +23,7 @@ cast-positions c =
     let a = c .before .before .before .args in
     let q = c .before .before .before .pre in
     let six : length (a .e .prefix) ≡ PREFIX = (let g = c .before .before .before .good in search needs) in
-    let low = position-bound (a .e) (q .1) six (a .r) (q .2) in search needs
+    let low = position-bound (a .e) (q .3) six (a .r) (q .4) in search needs
 
 array-write-positions : tie.Need-array-write-positions
 array-write-positions c = search needs
@@ -35,7 +35,7 @@ irreversible-requires c κs =
     let six : length (a .e .prefix) ≡ PREFIX = (let g = c .before .before .before .good in search needs) in
     let hs : length (a .set) ≡ PATTERNS = (let g = c .before .before .before .good in search needs) in
     let hl : length (a .lengths) ≡ PATTERNS = (let g = c .before .before .before .good in search needs) in
-    (entry-short (a .e) (q .1), omega arith, given (a .e) (q .1) six (a .r) (q .2) (a .set) (a .lengths) (a .count) hs hl (q .0))
+    (entry-short (a .e) (q .3), omega arith, q .1, q .2, given (a .e) (q .3) six (a .r) (q .4) (a .set) (a .lengths) (a .count) hs hl (q .0))
 
 returns : tie.Need-returns
 returns c =
@@ -43,7 +43,7 @@ returns c =
     let q = c .before .before .before .before .pre in
     let six : length (a .e .prefix) ≡ PREFIX = (let g = c .before .before .before .before .good in search needs) in
     let eight : length (c .before .gap-rows .result) ≡ GAPS = search needs in
-    answers (a .e) (q .1) six (a .r) (q .2) (patternsOf (a .set) (a .lengths) (a .count)) (c .before .gap-rows .result) (c .irreversible .result) eight
+    answers (a .e) (q .3) six (a .r) (q .4) (patternsOf (a .set) (a .lengths) (a .count)) (c .before .gap-rows .result) (c .irreversible .result) eight
     (c .before .gap-rows .ensures) (c .irreversible .ensures)
 
 pub loses-spec : {M : Type 1} → statement M

@@ -16,16 +16,19 @@ use Rattle.judge.proofs.deletions.irreversible_fault.Statement.{stateme
 use Rattle.judge.proofs.deletions.irreversible_fault.Tie as tie
 
 abbrev Inv-loop : tie.InvT-loop
-Inv-loop set lengths count s n i₀ i = (n ≤ ENTRIES) × (i ≤ n) × (firstAt Irreversible (differingEntry (patternsOf set lengths count)) 0 (schemeIn s) ≡ firstAt Irreversible (differingEntry (patternsOf set lengths count)) i (from (entryAt s) n i))
+Inv-loop set lengths count s m n i₀ i = (n ≤ ENTRIES) × (i ≤ n) × (firstAt Irreversible (differingEntry (patternsOf set lengths count)) 0 (schemeIn s) ≡ firstAt Irreversible (differingEntry (patternsOf set lengths count)) i (from (entryAt s) n i))
 
 abbrev μ-loop : tie.MeasureT-loop
-μ-loop set lengths count s n i₀ i = n - i
+μ-loop set lengths count s m n i₀ i = n - i
+
+longest-length-requires : tie.Need-longest-length-requires Inv-loop μ-loop
+longest-length-requires c κs = search needs
 
 loop-holds : tie.Need-loop-holds Inv-loop μ-loop
 loop-holds c =
-    let a = c .args in
+    let a = c .before .args in
     let P = patternsOf (a .set) (a .lengths) (a .count) in
-    (c .pre .1 .few, omega arith, first-start Irreversible (differingEntry P) (entryAt (a .t4)) (a .t4 .count))
+    (c .before .pre .1 .few, omega arith, first-start Irreversible (differingEntry P) (entryAt (a .t4)) (a .t4 .count))
 
 mul-e : tie.Need-mul-e Inv-loop μ-loop
 mul-e c = search needs
@@ -36,12 +39,13 @@ element-copy-out-e c = search needs
 is-irreversible-requires : tie.Need-is-irreversible-requires Inv-loop μ-loop
 is-irreversible-requires c κs =
     let l = c .before .before .loop in
-    let q = c .before .before .before .pre in
-    (q .0, q .1 .each (l .i) (omega arith))
+    let q = c .before .before .before .before .pre in
+    let m = c .before .before .before .longest-length in
+    (q .0, m .ensures .0, m .ensures .1, q .1 .each (l .i) (omega arith))
 
 returns : tie.Need-returns Inv-loop μ-loop
 returns c =
-    let a = c .before .before .before .before .before .args in
+    let a = c .before .before .before .before .before .before .args in
     let l = c .before .before .before .before .loop in
     let P = patternsOf (a .set) (a .lengths) (a .count) in
     sym (ap faultOf (l .inv .2 ∙ first-here Irreversible (differingEntry P) (entryAt (a .t4)) (a .t4 .count) (l .i) (omega arith) (sym (c .before .is-irreversible .ensures) ∙ c .if1 .taken)))
@@ -54,14 +58,14 @@ loop-less c = search needs
 
 loop-again : tie.Need-loop-again Inv-loop μ-loop
 loop-again c =
-    let a = c .before .before .before .before .before .args in
+    let a = c .before .before .before .before .before .before .args in
     let l = c .before .before .before .before .loop in
     let P = patternsOf (a .set) (a .lengths) (a .count) in
     (l .inv .0, omega arith, l .inv .2 ∙ first-later Irreversible (differingEntry P) (entryAt (a .t4)) (a .t4 .count) (l .i) (omega arith) (sym (c .before .is-irreversible .ensures) ∙ c .if1 .left))
 
 returns-2 : tie.Need-returns-2 Inv-loop μ-loop
 returns-2 c =
-    let a = c .before .before .args in
+    let a = c .before .before .before .args in
     let l = c .before .loop in
     let P = patternsOf (a .set) (a .lengths) (a .count) in
     sym (ap faultOf (l .inv .2 ∙ first-end Irreversible (differingEntry P) (entryAt (a .t4)) (a .t4 .count) (l .i) (omega arith)))
@@ -72,6 +76,7 @@ irreversible-fault-spec =
     (tie.spec
     Inv-loop
     μ-loop
+    longest-length-requires
     loop-holds
     mul-e
     element-copy-out-e

@@ -1,0 +1,16 @@
+-- The basis of a set, as a set in memory. Definitions only.
+use Prim.Native.Nat.{ℕ, _≤_, _<_}
+use mathlib.Core.Path.{_≡_}
+use mathlib.Core.List.{List}
+use lib.ListN.{getD}
+use Rattle.word.specs.Ceilings.{DIGITS, PATTERNS}
+use Rattle.word.specs.Containment.{patternsOf}
+use Rattle.cell.specs.Basis.{basis}
+use Rattle.scheme.specs.SchemeMemory.{noPattern, patternsIn}
+use Rattle.scheme.specs.declared.memory.Patterns.{Patterns}
+
+-- it holds the basis of the patterns, and is within the ceilings
+pub record IsBasis (set : List (List ℕ)) (lengths : List ℕ) (count : ℕ) (r : Patterns) : Type 0 where
+  pub holds : patternsIn r ≡ basis (patternsOf set lengths count)
+  pub few : r .count ≤ PATTERNS
+  pub short : (i : ℕ) → i < r .count → (getD (r .items) i noPattern) .length ≤ DIGITS
