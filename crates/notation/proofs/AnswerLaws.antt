@@ -19,7 +19,7 @@ use Rattle.scheme.specs.declared.memory.Fault.{Fault}
 use Rattle.scheme.specs.declared.memory.Fault.the-variants.{Clean, At}
 use Rattle.text_grammar.specs.Spelling.{Token, spaceless}
 use Rattle.text_grammar.specs.Tokens.{tokens}
-use Rattle.text_writer.specs.Page.{overlay}
+use Rattle.text_page.specs.Page.{overlay}
 use Rattle.notation.specs.Written.{writtenOr, Writing}
 use Rattle.notation.specs.Answers.{answerFrom, answerTo, foundFrom, foundIn, ReadsList, WritesList}
 use Rattle.notation.specs.declared.written.Written.{Written}

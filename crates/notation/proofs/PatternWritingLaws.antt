@@ -17,7 +17,7 @@ use Rattle.text_grammar.specs.SpellingLaws.{patterns-written-spells, patterns-r
 use Rattle.text_patterns.specs.PatternMemory.{loadedPatterns}
 use Rattle.text_patterns.specs.PatternLoading.{loaded-same}
 use Rattle.text_grammar.specs.Grammar.{readPatterns}
-use Rattle.text_writer.specs.Page.{overlay}
+use Rattle.text_page.specs.Page.{overlay}
 use Rattle.notation.specs.Written.{writtenOr}
 use Rattle.notation.specs.Answers.{answerFrom}
 use Rattle.notation.specs.PatternAnswers.{refusedPatterns, testedPatterns, patternsAnswer, WritesPatterns}

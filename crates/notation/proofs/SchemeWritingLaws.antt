@@ -18,7 +18,7 @@ use Rattle.text_grammar.specs.SpellingLaws.{scheme-written-spells, scheme-read-
 use Rattle.text_schemes.specs.SchemeLoaded.{loadedScheme}
 use Rattle.text_schemes.specs.SchemeLoading.{loaded-scheme-same}
 use Rattle.text_grammar.specs.Grammar.{readEntries}
-use Rattle.text_writer.specs.Page.{overlay}
+use Rattle.text_page.specs.Page.{overlay}
 use Rattle.notation.specs.Written.{writtenOr}
 use Rattle.notation.specs.Answers.{answerFrom}
 use Rattle.notation.specs.SchemeAnswers.{refusedScheme, testedScheme, schemeAnswer, WritesScheme}

@@ -1,13 +1,14 @@
 -- Laws of the texts that the writer's parts write: items with commas between them, items in braces, the first numbers of an array.
 use Prim.Native.Nat.{ℕ, zero, suc, _+_, _-_, _/_, _%_, _≤_, _<_}
 use native.Mathlib.Numerals.{add-one}
-use borrow.Author.Tests.{lt-ltb, le-ltb}
 use native.Mathlib.Omega.{arith}
 use mathlib.Core.Path.{_≡_, refl, sym, ap, _∙_}
 use mathlib.Core.List.{List, [], _∷_, _++_, map, map-map, append-assoc, append-nil}
+use mathlib.Core.Logic.{_⊎_, inl, inr}
 use lib.ListN.{length, getD, take, drop, replicate}
 use lib.Seq.{drop-cons, take-append-le}
 use Rattle.word.specs.Lists.{each, row}
+use Rattle.word.specs.ListLaws.{below-or-not}
 use Rattle.scheme.specs.SchemeMemory.{padded, patternIn, patternsIn, gapIn, entryIn, schemeIn, noPattern, noGap, noEntry}
 use Rattle.scheme.specs.SchemeList.{EntryList, deletes}
 use Rattle.scheme.specs.declared.memory.Patterns.{Patterns}
@@ -15,6 +16,9 @@ use Rattle.scheme.specs.declared.memory.Entry.{Entry}
 use Rattle.scheme.specs.declared.memory.Scheme.{Scheme}
 use Rattle.text_grammar.specs.Spelling.{Token, bytesOf, byte, digits, epsilon, empty, left, right, comma, separated, braced, permPiece, numeral, vectorPieces, rulePieces, entryPieces}
 use Rattle.text_grammar.specs.Spelling.{writtenPatterns, writtenScheme}
+use Rattle.text_grammar.specs.GrammarLaws.{numeral-one, numeral-two, numeral-three}
+use Rattle.text_page.specs.Decimal.{decimal}
+use Rattle.text_page.specs.DecimalLaws.{decimal-one, decimal-more}
 use Rattle.text_writer.specs.Writable.{text, next, further, number, patternAt, vectorAt, gapPieces, entryAt}
 
 module _ {A B : Type 0} where
@@ -126,19 +130,23 @@ pub text-vector : (n : ℕ) (l : List ℕ) → 0 < n → n ≤ length l →
 text-vector n l h k =
     rw (padded-row n l k, map-map (λ (m : ℕ). digits (numeral m) ∷ []) (λ (j : ℕ). getD l j 0) (row 0 n)) (text-between (number l) left right n h)
 
--- a number of up to three digits
+-- a number of up to three digits: its bytes are those of the number in base ten
+pub numeral-decimal : (n : ℕ) → n ≤ 999 → bytesOf (digits (numeral n)) ≡ decimal n
+numeral-decimal n h = go (below-or-not n 10) (below-or-not n 100)
+  where
+    more : {l : List ℕ} (m : ℕ) → 10 ≤ m → decimal (m / 10) ≡ l → decimal m ≡ l ++ ((48 + m % 10) ∷ [])
+    more m k e = decimal-more m k ∙ ap (λ (l : List ℕ). l ++ ((48 + m % 10) ∷ [])) e
 
-pub numeral-one : (n : ℕ) → n < 10 → bytesOf (digits (numeral n)) ≡ (48 + n) ∷ []
-numeral-one n h = rw (lt-ltb n 10 h) refl
+    bytes : {u : List ℕ} → numeral n ≡ u → bytesOf (digits (numeral n)) ≡ map (λ d. 48 + d) u
+    bytes e = ap (λ (u : List ℕ). bytesOf (digits u)) e
 
-pub numeral-two : (n : ℕ) → 10 ≤ n → n < 100 → bytesOf (digits (numeral n)) ≡ ((48 + n / 10) ∷ []) ++ ((48 + n % 10) ∷ [])
-numeral-two n h k = rw (le-ltb n 10 h, lt-ltb n 100 k) refl
-
-pub numeral-three : (n : ℕ) → 100 ≤ n →
-    bytesOf (digits (numeral n)) ≡ ((48 + n / 100) ∷ []) ++ (((48 + n / 10 % 10) ∷ []) ++ ((48 + n % 10) ∷ []))
-numeral-three n h =
-    let k : 10 ≤ n = omega arith in
-    rw (le-ltb n 10 k, le-ltb n 100 h) refl
+    go : (n < 10) ⊎ (10 ≤ n) → (n < 100) ⊎ (100 ≤ n) → bytesOf (digits (numeral n)) ≡ decimal n
+    go (inl p) q = bytes (numeral-one n p) ∙ sym (decimal-one n p)
+    go (inr p) (inl q) = bytes (numeral-two n p q) ∙ sym (more n p (decimal-one (n / 10) (omega arith)))
+    go (inr p) (inr q) =
+        let hundred : n / 10 / 10 ≡ n / 100 = omega arith in
+        let first = decimal-one (n / 10 / 10) (omega arith) ∙ ap (λ (m : ℕ). (48 + m) ∷ []) hundred in
+        bytes (numeral-three n q) ∙ sym (more n p (more (n / 10) (omega arith) first))
 
 -- a set of patterns, by the patterns in memory
 

@@ -3,7 +3,7 @@
 use Prim.Native.Nat.{_+_, _-_}
 use borrow.Author.Needs.{needs}
 use Rattle.text_writer.specs.Writable.{further, entryAt}
-use Rattle.text_writer.specs.PageLaws.{ToCome, start-as, step, again, finish, same-size, room-next}
+use Rattle.text_page.specs.PageLaws.{ToCome, start-as, step, again, finish, same-size, room-next}
 use Rattle.text_writer.specs.WrittenLaws.{further-step, further-end, further-up-to}
 use Rattle.text_writer.proofs.writing.put_further_entries.Statement.{statement}
 use Rattle.text_writer.proofs.writing.put_further_entries.Tie as tie

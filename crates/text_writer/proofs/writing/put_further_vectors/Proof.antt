@@ -3,7 +3,7 @@
 use Prim.Native.Nat.{_-_}
 use borrow.Author.Needs.{needs}
 use Rattle.text_writer.specs.Writable.{further, vectorAt}
-use Rattle.text_writer.specs.PageLaws.{ToCome, start, step, again, finish, same-size, room-next}
+use Rattle.text_page.specs.PageLaws.{ToCome, start, step, again, finish, same-size, room-next}
 use Rattle.text_writer.specs.WrittenLaws.{further-step, further-end}
 use Rattle.text_writer.proofs.writing.put_further_vectors.Statement.{statement}
 use Rattle.text_writer.proofs.writing.put_further_vectors.Tie as tie

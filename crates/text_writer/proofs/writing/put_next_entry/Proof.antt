@@ -1,7 +1,7 @@
 -- `text_writer::writing::put_next_entry` meets its contract: two parts one after the other.
 -- Assumes nothing.
 use borrow.Author.Needs.{needs}
-use Rattle.text_writer.specs.PageLaws.{writes-join}
+use Rattle.text_page.specs.PageLaws.{writes-join}
 use Rattle.text_writer.proofs.writing.put_next_entry.Statement.{statement}
 use Rattle.text_writer.proofs.writing.put_next_entry.Tie as tie
 

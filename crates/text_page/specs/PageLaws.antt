@@ -6,8 +6,7 @@ use mathlib.Core.Path.{_≡_, refl, sym, ap, _∙_}
 use mathlib.Core.List.{List, [], _∷_, _++_}
 use lib.ListN.{length, take, drop, set, length-append}
 use lib.Seq.{set-out}
-use Rattle.text_writer.specs.Page.{overlay, Writes}
-use Rattle.text_writer.specs.Writable.{Room}
+use Rattle.text_page.specs.Page.{overlay, Writes, Room}
 
 pub overlay-none : (at : ℕ) (t : List ℕ) → overlay at [] t ≡ t
 overlay-none at [] = refl
