@@ -9,29 +9,26 @@ use mathlib.Core.List.{List, [], map, List·Memᴰ}
 use mathlib.Core.Logic.{_⊎_, inl, inr}
 use mathlib.Core.Option.{Option, none, some}
 use lib.ListN.{length, getD, take}
-use lib.Seq.{take-all, length-take-le}
-use borrow.Author.Tests.{lt-ltb}
+use lib.Seq.{take-all}
 use Rattle.word.specs.Lists.{row}
 use Rattle.word.specs.Word.{avoiders}
 use Rattle.word.specs.ListLaws.{true-not-false, below-or-not, map-same, row-out}
 use Rattle.word.specs.Ceilings.{LENGTH, PATTERN_TEXT, SCHEME_TEXT, CELLS}
 use Rattle.word.specs.Finding.{firstFault}
-use Rattle.word.specs.declared.refusal.Refusal.the-variants.{Oversize}
 use Rattle.scheme.specs.SchemeList.{EntryList}
 use Rattle.scheme.specs.SchemeMemory.{patternsIn, schemeIn, faultOf, orElse, faulty}
 use Rattle.scheme.specs.declared.memory.Patterns.{Patterns}
 use Rattle.scheme.specs.declared.memory.Scheme.{Scheme}
 use Rattle.scheme.specs.declared.memory.Fault.{Fault}
 use Rattle.scheme.specs.declared.memory.Fault.the-variants.{Clean, At}
-use Rattle.text_grammar.specs.Tokens.{tokens}
 use Rattle.text_grammar.specs.Grammar.{readPatterns, readEntries}
 use Rattle.text_page.specs.Page.{Writes}
 use Rattle.text_page.specs.PageLaws.{writes-as}
-use Rattle.notation.specs.Answers.{answerFrom}
 use Rattle.notation.specs.PatternAnswers.{refusedPatterns, testedPatterns, patternsAnswer, ReadsPatterns}
 use Rattle.notation.specs.SchemeAnswers.{refusedScheme, testedScheme, schemeAnswer, ReadsScheme}
 use Rattle.notation.specs.declared.patterns.PatternsRead.{PatternsRead}
 use Rattle.notation.specs.declared.schemes.SchemeRead.{SchemeRead}
+use Rattle.notation.proofs.AnswerLaws.{answer-cut}
 use Rattle.notation.proofs.PatternAnswerLaws as pattern-answers
 use Rattle.notation.proofs.SchemeAnswerLaws as scheme-answers
 use Rattle.verdict.specs.Verdict.{claimTests, comparedCells, answered}
@@ -55,26 +52,12 @@ use Rattle.table_lines.specs.declared.input.Number.{Number}
 use Rattle.table_text.specs.Printed.{PAGE, bfileText}
 use Rattle.table_print.specs.TableText.{printedOr, lengthText, misspeltLine, numberText, linesText, tableText, avoidersText, Prints, AcceptedLists}
 
--- a longer text is refused whatever it is, so its first bytes are enough
+-- the first bytes of a text are enough
 pub patterns-cut : (s : List ℕ) → patternsAnswer (take setRoom s) ≡ patternsAnswer s
-patterns-cut s = go (below-or-not PATTERN_TEXT (length s))
-  where
-    go : (PATTERN_TEXT < length s) ⊎ (length s ≤ PATTERN_TEXT) → patternsAnswer (take setRoom s) ≡ patternsAnswer s
-    go (inl h) =
-        let k : PATTERN_TEXT < length (take setRoom s) = omega (arith, length-take-le setRoom s (omega arith)) in
-        ap (λ (b : Bool). cond b (refusedPatterns Oversize 0) (answerFrom refusedPatterns testedPatterns (readPatterns (tokens (take setRoom s))))) (lt-ltb PATTERN_TEXT (length (take setRoom s)) k) ∙
-        sym (ap (λ (b : Bool). cond b (refusedPatterns Oversize 0) (answerFrom refusedPatterns testedPatterns (readPatterns (tokens s)))) (lt-ltb PATTERN_TEXT (length s) h))
-    go (inr h) = ap patternsAnswer (take-all setRoom s (omega arith))
+patterns-cut s = answer-cut refusedPatterns testedPatterns PATTERN_TEXT readPatterns s
 
 pub scheme-cut : (s : List ℕ) → schemeAnswer (take schemeRoom s) ≡ schemeAnswer s
-scheme-cut s = go (below-or-not SCHEME_TEXT (length s))
-  where
-    go : (SCHEME_TEXT < length s) ⊎ (length s ≤ SCHEME_TEXT) → schemeAnswer (take schemeRoom s) ≡ schemeAnswer s
-    go (inl h) =
-        let k : SCHEME_TEXT < length (take schemeRoom s) = omega (arith, length-take-le schemeRoom s (omega arith)) in
-        ap (λ (b : Bool). cond b (refusedScheme Oversize 0) (answerFrom refusedScheme testedScheme (readEntries (tokens (take schemeRoom s))))) (lt-ltb SCHEME_TEXT (length (take schemeRoom s)) k) ∙
-        sym (ap (λ (b : Bool). cond b (refusedScheme Oversize 0) (answerFrom refusedScheme testedScheme (readEntries (tokens s)))) (lt-ltb SCHEME_TEXT (length s) h))
-    go (inr h) = ap schemeAnswer (take-all schemeRoom s (omega arith))
+scheme-cut s = answer-cut refusedScheme testedScheme SCHEME_TEXT readEntries s
 
 -- the text by what was read of the set and of the scheme, and the number
 abbrev readText : PatternsRead → SchemeRead → Number → List ℕ

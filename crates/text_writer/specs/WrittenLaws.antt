@@ -17,6 +17,8 @@ use Rattle.scheme.specs.declared.memory.Scheme.{Scheme}
 use Rattle.text_grammar.specs.Spelling.{Token, bytesOf, byte, digits, epsilon, empty, left, right, comma, separated, braced, permPiece, numeral, vectorPieces, rulePieces, entryPieces}
 use Rattle.text_grammar.specs.Spelling.{writtenPatterns, writtenScheme}
 use Rattle.text_grammar.specs.GrammarLaws.{numeral-one, numeral-two, numeral-three}
+use Rattle.text_page.specs.Page.{Writes, Room}
+use Rattle.text_page.specs.PageLaws.{ToCome, step, again, finish, room-next, writes-join}
 use Rattle.text_page.specs.Decimal.{decimal}
 use Rattle.text_page.specs.DecimalLaws.{decimal-one, decimal-more}
 use Rattle.text_writer.specs.Writable.{text, next, further, number, patternAt, vectorAt, gapPieces, entryAt}
@@ -80,19 +82,32 @@ text-one t = append-nil (bytesOf t)
 
 -- items with a comma before each
 
-pub further-step : (f : ℕ → List Token) (i n : ℕ) → i < n → further f i (n - i) ≡ next f i ++ further f (i + 1) (n - (i + 1))
+further-step : (f : ℕ → List Token) (i n : ℕ) → i < n → further f i (n - i) ≡ next f i ++ further f (i + 1) (n - (i + 1))
 unfolding further
 further-step f i n h = go (n - i) (n - (i + 1)) (omega arith)
   where
     go : (a b : ℕ) → a ≡ suc b → further f i a ≡ next f i ++ further f (i + 1) b
     go a b e = rw (e, add-one i) refl
 
-pub further-end : (f : ℕ → List Token) (i n : ℕ) → n ≤ i → further f i (n - i) ≡ []
+further-end : (f : ℕ → List Token) (i n : ℕ) → n ≤ i → further f i (n - i) ≡ []
 unfolding further
 further-end f i n h = go (n - i) (omega arith)
   where
     go : (a : ℕ) → a ≡ 0 → further f i a ≡ []
     go a e = rw e refl
+
+-- a page on which these items are still to come: room for the next one, its comma and its text
+-- written, none left
+module _ (f : ℕ → List Token) {total : List ℕ} {at : ℕ} {before : List ℕ} (i n : ℕ) {place : ℕ} {t : List ℕ} (c : ToCome total at before (further f i (n - i)) place t) where
+  pub further-room : i < n → Room total at → Room (next f i) place
+  further-room h r = room-next (next f i) (further f (i + 1) (n - (i + 1))) r c (further-step f i n h)
+
+  pub further-on : i < n → {from after : ℕ} {u v : List ℕ} → Writes (0x2C ∷ []) place t u from → Writes (text (f i)) from u v after →
+      ToCome total at before (further f (i + 1) (n - (i + 1))) after v
+  further-on h a b = step (again c (further-step f i n h)) (writes-join a b)
+
+  pub further-done : n ≤ i → Writes total at before t place
+  further-done h = finish (again c (further-end f i n h))
 
 -- the items from 1 up to a last place
 pub further-up-to : (f : ℕ → List Token) (n : ℕ) → further f 1 n ≡ further f 1 (n + 1 - 1)

@@ -58,15 +58,6 @@ fn put_pattern(page: &mut [u8], at: usize, p: Pattern) -> usize
     put_permutation(page, at, &run, n)
 }
 
-// Writes a comma and a pattern.
-fn put_next_pattern(page: &mut [u8], at: usize, p: Pattern) -> usize
-    requires { ⌜ PatternFits p × Room (0x2C ∷ text (permPiece (patternIn p) ∷ [])) at ⌝ }
-    ensures { λ r. ⌜ Writes (0x2C ∷ text (permPiece (patternIn p) ∷ [])) at (now (page .entry)) (now (page .exit)) r ⌝ }
-{
-    let next = put(page, at, b',');
-    put_pattern(page, next, p)
-}
-
 // Writes the patterns after the first, a comma before each.
 fn put_further_patterns(page: &mut [u8], at: usize, s: Patterns) -> usize
     requires { ⌜ PatternsFit s × (1 ≤ s .count) × Room (further (patternAt (s .items)) 1 (s .count - 1)) at ⌝ }
@@ -77,7 +68,8 @@ fn put_further_patterns(page: &mut [u8], at: usize, s: Patterns) -> usize
     let mut next = at;
     let mut i: usize = 1;
     while i <= last_pattern {
-        next = put_next_pattern(page, next, items[i]);
+        let from = put(page, next, b',');
+        next = put_pattern(page, from, items[i]);
         i += 1;
     }
     next
@@ -121,15 +113,6 @@ fn put_part(page: &mut [u8], at: usize, x: u8) -> usize
     put_number(page, at, wide(x))
 }
 
-// Writes a comma and a component.
-fn put_next_part(page: &mut [u8], at: usize, x: u8) -> usize
-    requires { ⌜ Room (0x2C ∷ text (digits (numeral x) ∷ [])) at ⌝ }
-    ensures { λ r. ⌜ Writes (0x2C ∷ text (digits (numeral x) ∷ [])) at (now (page .entry)) (now (page .exit)) r ⌝ }
-{
-    let next = put(page, at, b',');
-    put_part(page, next, x)
-}
-
 // Writes the components after the first, a comma before each.
 fn put_further_parts(page: &mut [u8], at: usize, g: Gap) -> usize
     requires { ⌜ GapFits g × Room (further (number (g .parts)) 1 (g .width - 1)) at ⌝ }
@@ -140,7 +123,8 @@ fn put_further_parts(page: &mut [u8], at: usize, g: Gap) -> usize
     let mut next = at;
     let mut i: usize = 1;
     while i < n {
-        next = put_next_part(page, next, parts[i]);
+        let from = put(page, next, b',');
+        next = put_part(page, from, parts[i]);
         i += 1;
     }
     next
@@ -158,15 +142,6 @@ fn put_vector(page: &mut [u8], at: usize, g: Gap) -> usize
     put_bytes(page, last, &RIGHT)
 }
 
-// Writes a comma and a gap vector.
-fn put_next_vector(page: &mut [u8], at: usize, g: Gap) -> usize
-    requires { ⌜ GapFits g × Room (0x2C ∷ text (vectorPieces (gapIn g))) at ⌝ }
-    ensures { λ r. ⌜ Writes (0x2C ∷ text (vectorPieces (gapIn g))) at (now (page .entry)) (now (page .exit)) r ⌝ }
-{
-    let next = put(page, at, b',');
-    put_vector(page, next, g)
-}
-
 // Writes the gap vectors after the first, a comma before each.
 fn put_further_vectors(page: &mut [u8], at: usize, e: Entry) -> usize
     requires { ⌜ EntryFits e × Room (further (vectorAt (e .gaps)) 1 (e .«gap_count» - 1)) at ⌝ }
@@ -177,7 +152,8 @@ fn put_further_vectors(page: &mut [u8], at: usize, e: Entry) -> usize
     let mut next = at;
     let mut i: usize = 1;
     while i < n {
-        next = put_next_vector(page, next, gaps[i]);
+        let from = put(page, next, b',');
+        next = put_vector(page, from, gaps[i]);
         i += 1;
     }
     next
@@ -236,15 +212,6 @@ fn put_entry(page: &mut [u8], at: usize, e: Entry) -> usize
     put(page, last, b')')
 }
 
-// Writes a comma and an entry.
-fn put_next_entry(page: &mut [u8], at: usize, e: Entry) -> usize
-    requires { ⌜ EntryFits e × Room (0x2C ∷ text (entryPieces (entryIn e))) at ⌝ }
-    ensures { λ r. ⌜ Writes (0x2C ∷ text (entryPieces (entryIn e))) at (now (page .entry)) (now (page .exit)) r ⌝ }
-{
-    let next = put(page, at, b',');
-    put_entry(page, next, e)
-}
-
 // Writes the entries after the first, a comma before each.
 fn put_further_entries(page: &mut [u8], at: usize, s: Scheme) -> usize
     requires { ⌜ SchemeFits s × (1 ≤ s .count) × Room (further (entryAt (s .entries)) 1 (s .count - 1)) at ⌝ }
@@ -255,7 +222,8 @@ fn put_further_entries(page: &mut [u8], at: usize, s: Scheme) -> usize
     let mut next = at;
     let mut i: usize = 1;
     while i <= last_entry {
-        next = put_next_entry(page, next, entries[i]);
+        let from = put(page, next, b',');
+        next = put_entry(page, from, entries[i]);
         i += 1;
     }
     next
