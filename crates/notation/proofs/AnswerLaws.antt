@@ -1,14 +1,17 @@
 -- What the answers of reading and writing say of the text, for lists of any kind.
 -- Assumes nothing.
-use Prim.Native.Nat.{ℕ, _≤_, _<_}
+use Prim.Native.Nat.{ℕ, _+_, _≤_, _<_}
 use native.Mathlib.Omega.{arith}
 use mathlib.Core.Path.{_≡_, refl, sym, ap, _∙_, subst}
 use mathlib.Core.Bool.{Bool, true, false, cond}
 use mathlib.Core.List.{List, []}
 use mathlib.Core.Option.{Option, none, some}
-use lib.ListN.{length}
+use mathlib.Core.Logic.{_⊎_, inl, inr}
+use lib.ListN.{length, take}
+use lib.Seq.{take-all, length-take-le}
 use lib.Dec.{ltb}
 use borrow.Author.Tests.{ltb-true, lt-ltb, le-ltb}
+use Rattle.word.specs.ListLaws.{below-or-not}
 use Rattle.word.specs.Finding.{Finding, clean, fault, firstFault}
 use Rattle.word.specs.Told.{toldBy}
 use Rattle.word.specs.declared.refusal.Refusal.{Refusal}
@@ -19,7 +22,7 @@ use Rattle.scheme.specs.declared.memory.Fault.{Fault}
 use Rattle.scheme.specs.declared.memory.Fault.the-variants.{Clean, At}
 use Rattle.text_grammar.specs.Spelling.{Token, spaceless}
 use Rattle.text_grammar.specs.Tokens.{tokens}
-use Rattle.text_writer.specs.Page.{overlay}
+use Rattle.text_page.specs.Page.{overlay}
 use Rattle.notation.specs.Written.{writtenOr, Writing}
 use Rattle.notation.specs.Answers.{answerFrom, answerTo, foundFrom, foundIn, ReadsList, WritesList}
 use Rattle.notation.specs.declared.written.Written.{Written}
@@ -38,6 +41,17 @@ module _ {L R : Type 0} (refused : Refusal → ℕ → R) (tested : L → R) (mo
 
   pub answer-text : length s ≤ most → answerFrom refused tested (read (tokens s)) ≡ answerTo refused tested most read s
   answer-text h = rw (le-ltb most (length s) h) refl
+
+-- a longer text is refused whatever it is, so its first bytes are enough
+module _ {L R : Type 0} (refused : Refusal → ℕ → R) (tested : L → R) (most : ℕ) (read : List Token → Option L) where
+  pub answer-cut : (s : List ℕ) → answerTo refused tested most read (take (most + 1) s) ≡ answerTo refused tested most read s
+  answer-cut s = go (below-or-not most (length s))
+    where
+      go : (most < length s) ⊎ (length s ≤ most) → answerTo refused tested most read (take (most + 1) s) ≡ answerTo refused tested most read s
+      go (inl h) =
+          let k : most < length (take (most + 1) s) = omega (arith, length-take-le (most + 1) s (omega arith)) in
+          sym (answer-long refused tested most read (take (most + 1) s) k) ∙ answer-long refused tested most read s h
+      go (inr h) = ap (answerTo refused tested most read) (take-all (most + 1) s (omega arith))
 
 module _ {L R : Type 0} (most : ℕ) (Spells : List ℕ → L → Type 0) (tests : L → List Finding) (written : L → List ℕ) (faultIn : R → Fault) (listIn : R → L)
     (tested : L → R) (read : List Token → Option L) (refused : Refusal → ℕ → R) (s : List ℕ)

@@ -7,6 +7,7 @@ use mathlib.Core.List.{List, []}
 use mathlib.Core.Option.{Option, none, some}
 use lib.ListN.{length}
 use lib.Dec.{ltb}
+use Rattle.word.specs.Ceilings.{PATTERN_TEXT}
 use Rattle.word.specs.Finding.{Finding, clean, fault, firstFault}
 use Rattle.word.specs.declared.refusal.Refusal.{Refusal}
 use Rattle.word.specs.declared.refusal.Refusal.the-variants.{Misspelt, Oversize, NoPermutation}
@@ -51,10 +52,10 @@ read-fault f m r i e = rw e refl
 
 -- the answer by the length of the text, by its spelling, by the tests
 module _ (s : List ℕ) where
-  pub answer-long : 1024 < length s → refusedPatterns Oversize 0 ≡ patternsAnswer s
-  answer-long h = any.answer-long refusedPatterns testedPatterns 1024 readPatterns s h
+  pub answer-long : PATTERN_TEXT < length s → refusedPatterns Oversize 0 ≡ patternsAnswer s
+  answer-long h = any.answer-long refusedPatterns testedPatterns PATTERN_TEXT readPatterns s h
 
-  module _ (t : PatternText) (h : length s ≤ 1024) (e : t ≡ patternText (walk.readPatterns (tokens s))) where
+  module _ (t : PatternText) (h : length s ≤ PATTERN_TEXT) (e : t ≡ patternText (walk.readPatterns (tokens s))) where
     text-is : t ≡ patternText (readPatterns (tokens s))
     text-is = e ∙ ap patternText (walk-reads s)
 
@@ -63,7 +64,7 @@ module _ (s : List ℕ) where
     misspelt-from (some P) q k = absurd (true≢false (sym (ap (λ (x : PatternText). x .spelt) q) ∙ k))
 
     pub answer-misspelt : t .spelt ≡ false → refusedPatterns Misspelt 0 ≡ patternsAnswer s
-    answer-misspelt k = misspelt-from (readPatterns (tokens s)) text-is k ∙ any.answer-text refusedPatterns testedPatterns 1024 readPatterns s h
+    answer-misspelt k = misspelt-from (readPatterns (tokens s)) text-is k ∙ any.answer-text refusedPatterns testedPatterns PATTERN_TEXT readPatterns s h
 
     tested-from : (o : Option (List (List ℕ))) → t ≡ patternText o → t .spelt ≡ true →
         readOr (faultOf (firstFault (patternTests (patternsIn (t .patterns))))) (t .patterns) ≡ answerFrom refusedPatterns testedPatterns o
@@ -71,7 +72,7 @@ module _ (s : List ℕ) where
     tested-from (some P) q k = rw (ap (λ (x : PatternText). x .patterns) q, loaded-faults P) refl
 
     pub answer-tested : t .spelt ≡ true → readOr (faultOf (firstFault (patternTests (patternsIn (t .patterns))))) (t .patterns) ≡ patternsAnswer s
-    answer-tested k = tested-from (readPatterns (tokens s)) text-is k ∙ any.answer-text refusedPatterns testedPatterns 1024 readPatterns s h
+    answer-tested k = tested-from (readPatterns (tokens s)) text-is k ∙ any.answer-text refusedPatterns testedPatterns PATTERN_TEXT readPatterns s h
 
 -- the finding and the list in an answer
 or-fault : (x : Finding) (m : Patterns) → readOr (faultOf x) m .fault ≡ faultOf x
@@ -85,7 +86,7 @@ or-list P e = rw e (loaded-same P e)
 pub answered : (s : List ℕ) (r : PatternsRead) → r ≡ patternsAnswer s → (r ≡ patternsAnswer s) × ReadsPatterns s r
 answered s r e = (
   e,
-  rw e (any.answer-reads 1024 SpellsPatterns patternTests writtenPatterns (λ (x : PatternsRead). x .fault) (λ (x : PatternsRead). patternsIn (x .patterns)) testedPatterns readPatterns refusedPatterns s
+  rw e (any.answer-reads PATTERN_TEXT SpellsPatterns patternTests writtenPatterns (λ (x : PatternsRead). x .fault) (λ (x : PatternsRead). patternsIn (x .patterns)) testedPatterns readPatterns refusedPatterns s
       (patterns-sound s) (patterns-complete s) (patterns-unique s) (patterns-written-read s) (λ r i. refl)
       (λ (P : List (List ℕ)). or-fault (firstFault (patternTests P)) (loadedPatterns P)) or-list patterns-not-one),
 )

@@ -5,6 +5,7 @@ use mathlib.Core.Path.{_≡_, refl, sym, ap, _∙_}
 use mathlib.Core.Bool.{true}
 use mathlib.Core.List.{List}
 use lib.ListN.{length}
+use Rattle.word.specs.Ceilings.{PATTERN_TEXT}
 use Rattle.word.specs.Finding.{clean, firstFault}
 use Rattle.word.specs.declared.refusal.Refusal.the-variants.{ShortPage}
 use Rattle.scheme.specs.WellFormed.{patternTests}
@@ -16,7 +17,7 @@ use Rattle.text_grammar.specs.SpellingLaws.{patterns-written-spells, patterns-r
 use Rattle.text_patterns.specs.PatternMemory.{loadedPatterns}
 use Rattle.text_patterns.specs.PatternLoading.{loaded-same}
 use Rattle.text_grammar.specs.Grammar.{readPatterns}
-use Rattle.text_writer.specs.Page.{overlay}
+use Rattle.text_page.specs.Page.{overlay}
 use Rattle.notation.specs.Written.{writtenOr}
 use Rattle.notation.specs.Answers.{answerFrom}
 use Rattle.notation.specs.PatternAnswers.{refusedPatterns, testedPatterns, patternsAnswer, WritesPatterns}
@@ -28,7 +29,7 @@ use Rattle.notation.proofs.AnswerLaws as any
 -- the text of a list that passes its tests is read as that list
 text-back : (P : List (List ℕ)) → firstFault (patternTests P) ≡ clean → patternsAnswer (writtenPatterns P) ≡ record { fault = Clean; patterns = loadedPatterns P }
 text-back P h =
-    sym (any.answer-text refusedPatterns testedPatterns 1024 readPatterns (writtenPatterns P) (patterns-short P h))
+    sym (any.answer-text refusedPatterns testedPatterns PATTERN_TEXT readPatterns (writtenPatterns P) (patterns-short P h))
     ∙ ap (answerFrom refusedPatterns testedPatterns) (patterns-read-written P (patterns-writable P h)) ∙ rw h refl
 
 pub patterns-refused : (P : List (List ℕ)) (before : List ℕ) (r : Written) (f : Fault) → f ≡ faultOf (firstFault (patternTests P)) → faulty f ≡ true → r ≡ writtenOr f 0 →

@@ -7,6 +7,7 @@ use mathlib.Core.List.{List, [], map}
 use mathlib.Core.Option.{Option, none, some}
 use lib.ListN.{length}
 use lib.Dec.{ltb}
+use Rattle.word.specs.Ceilings.{SCHEME_TEXT}
 use Rattle.word.specs.Finding.{Finding, clean, fault, firstFault}
 use Rattle.word.specs.declared.refusal.Refusal.{Refusal}
 use Rattle.word.specs.declared.refusal.Refusal.the-variants.{Misspelt, Oversize, NoPermutation, Rootless, Width, NoPosition, Childless, NoTarget}
@@ -56,16 +57,16 @@ read-fault f m r i e = rw e refl
 
 -- the answer by the length of the text, by its spelling, by the tests
 module _ (s : List ℕ) where
-  pub answer-long : 32768 < length s → refusedScheme Oversize 0 ≡ schemeAnswer s
-  answer-long h = any.answer-long refusedScheme testedScheme 32768 readEntries s h
+  pub answer-long : SCHEME_TEXT < length s → refusedScheme Oversize 0 ≡ schemeAnswer s
+  answer-long h = any.answer-long refusedScheme testedScheme SCHEME_TEXT readEntries s h
 
-  module _ (t : SchemeText) (h : length s ≤ 32768) (e : t ≡ schemeText (readEntries (tokens s))) where
+  module _ (t : SchemeText) (h : length s ≤ SCHEME_TEXT) (e : t ≡ schemeText (readEntries (tokens s))) where
     misspelt-from : (o : Option (List EntryList)) → t ≡ schemeText o → t .spelt ≡ false → refusedScheme Misspelt 0 ≡ answerFrom refusedScheme testedScheme o
     misspelt-from none q k = refl
     misspelt-from (some E) q k = absurd (true≢false (sym (ap (λ (x : SchemeText). x .spelt) q) ∙ k))
 
     pub answer-misspelt : t .spelt ≡ false → refusedScheme Misspelt 0 ≡ schemeAnswer s
-    answer-misspelt k = misspelt-from (readEntries (tokens s)) e k ∙ any.answer-text refusedScheme testedScheme 32768 readEntries s h
+    answer-misspelt k = misspelt-from (readEntries (tokens s)) e k ∙ any.answer-text refusedScheme testedScheme SCHEME_TEXT readEntries s h
 
     tested-from : (o : Option (List EntryList)) → t ≡ schemeText o → t .spelt ≡ true →
         readSchemeOr (faultOf (firstFault (schemeTests (schemeIn (t .scheme))))) (t .scheme) ≡ answerFrom refusedScheme testedScheme o
@@ -73,7 +74,7 @@ module _ (s : List ℕ) where
     tested-from (some E) q k = rw (ap (λ (x : SchemeText). x .scheme) q, loaded-scheme-faults E) refl
 
     pub answer-tested : t .spelt ≡ true → readSchemeOr (faultOf (firstFault (schemeTests (schemeIn (t .scheme))))) (t .scheme) ≡ schemeAnswer s
-    answer-tested k = tested-from (readEntries (tokens s)) e k ∙ any.answer-text refusedScheme testedScheme 32768 readEntries s h
+    answer-tested k = tested-from (readEntries (tokens s)) e k ∙ any.answer-text refusedScheme testedScheme SCHEME_TEXT readEntries s h
 
 -- the finding and the list in an answer
 or-fault : (x : Finding) (m : Scheme) → readSchemeOr (faultOf x) m .fault ≡ faultOf x
@@ -87,7 +88,7 @@ or-list E e = rw e (loaded-scheme-same E e)
 pub answered : (s : List ℕ) (r : SchemeRead) → r ≡ schemeAnswer s → (r ≡ schemeAnswer s) × ReadsScheme s r
 answered s r e = (
   e,
-  rw e (any.answer-reads 32768 SpellsScheme schemeTests writtenScheme (λ (x : SchemeRead). x .fault) (λ (x : SchemeRead). schemeIn (x .scheme)) testedScheme readEntries refusedScheme s
+  rw e (any.answer-reads SCHEME_TEXT SpellsScheme schemeTests writtenScheme (λ (x : SchemeRead). x .fault) (λ (x : SchemeRead). schemeIn (x .scheme)) testedScheme readEntries refusedScheme s
       (scheme-sound s) (scheme-complete s) (scheme-unique s) (scheme-written-read s) (λ r i. refl)
       (λ (E : List EntryList). or-fault (firstFault (schemeTests E)) (loadedScheme E)) or-list scheme-not-one),
 )

@@ -5,6 +5,7 @@ use mathlib.Core.Path.{_≡_, refl, sym, ap, _∙_}
 use mathlib.Core.Bool.{true}
 use mathlib.Core.List.{List}
 use lib.ListN.{length}
+use Rattle.word.specs.Ceilings.{SCHEME_TEXT}
 use Rattle.word.specs.Finding.{clean, firstFault}
 use Rattle.word.specs.declared.refusal.Refusal.the-variants.{ShortPage}
 use Rattle.scheme.specs.WellFormed.{schemeTests}
@@ -17,7 +18,7 @@ use Rattle.text_grammar.specs.SpellingLaws.{scheme-written-spells, scheme-read-
 use Rattle.text_schemes.specs.SchemeLoaded.{loadedScheme}
 use Rattle.text_schemes.specs.SchemeLoading.{loaded-scheme-same}
 use Rattle.text_grammar.specs.Grammar.{readEntries}
-use Rattle.text_writer.specs.Page.{overlay}
+use Rattle.text_page.specs.Page.{overlay}
 use Rattle.notation.specs.Written.{writtenOr}
 use Rattle.notation.specs.Answers.{answerFrom}
 use Rattle.notation.specs.SchemeAnswers.{refusedScheme, testedScheme, schemeAnswer, WritesScheme}
@@ -29,7 +30,7 @@ use Rattle.notation.proofs.AnswerLaws as any
 -- the text of a list that passes its tests is read as that list
 text-back : (E : List EntryList) → firstFault (schemeTests E) ≡ clean → schemeAnswer (writtenScheme E) ≡ record { fault = Clean; scheme = loadedScheme E }
 text-back E h =
-    sym (any.answer-text refusedScheme testedScheme 32768 readEntries (writtenScheme E) (scheme-short E h))
+    sym (any.answer-text refusedScheme testedScheme SCHEME_TEXT readEntries (writtenScheme E) (scheme-short E h))
     ∙ ap (answerFrom refusedScheme testedScheme) (scheme-read-written E (scheme-writable E h)) ∙ rw h refl
 
 pub scheme-refused : (E : List EntryList) (before : List ℕ) (r : Written) (f : Fault) → f ≡ faultOf (firstFault (schemeTests E)) → faulty f ≡ true → r ≡ writtenOr f 0 →

@@ -17,8 +17,8 @@ use Rattle.word.specs.declared.refusal.Refusal.the-variants.{ShortPage}
 use Rattle.scheme.specs.SchemeMemory.{faultOf, faulty}
 use Rattle.scheme.specs.declared.memory.Fault.{Fault}
 use Rattle.scheme.specs.declared.memory.Fault.the-variants.{Clean, At}
-use Rattle.text_writer.specs.Page.{overlay}
-use Rattle.text_writer.specs.PageLaws.{overlay-whole}
+use Rattle.text_page.specs.Page.{overlay}
+use Rattle.text_page.specs.PageLaws.{overlay-whole}
 use Rattle.notation.specs.Written.{writtenOr, toldWritten, writing, Writing}
 use Rattle.notation.specs.declared.written.Written.{Written}
 use Rattle.notation.specs.declared.written.Written.the-variants.{Bytes, Refused}

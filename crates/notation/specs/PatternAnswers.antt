@@ -1,6 +1,7 @@
 -- What reading and writing a set of patterns answer, and what the answer says of the text.
 use Prim.Native.Nat.{ℕ}
 use mathlib.Core.List.{List, []}
+use Rattle.word.specs.Ceilings.{PATTERN_TEXT}
 use Rattle.word.specs.Finding.{firstFault}
 use Rattle.word.specs.declared.refusal.Refusal.{Refusal}
 use Rattle.scheme.specs.WellFormed.{patternTests}
@@ -30,11 +31,11 @@ testedPatterns P = readOr (faultOf (firstFault (patternTests P))) (loadedPattern
 
 -- "Pattern text 1,024 bytes" (01)
 abbrev pub patternsAnswer : List ℕ → PatternsRead
-patternsAnswer s = answerTo refusedPatterns testedPatterns 1024 readPatterns s
+patternsAnswer s = answerTo refusedPatterns testedPatterns PATTERN_TEXT readPatterns s
 
 -- the answer r to the text s, in terms of what the text spells
 abbrev pub ReadsPatterns : List ℕ → PatternsRead → Type 0
-ReadsPatterns s r = ReadsList 1024 readPatterns SpellsPatterns patternTests writtenPatterns (λ x. x .fault) (λ x. patternsIn (x .patterns)) testedPatterns s r
+ReadsPatterns s r = ReadsList PATTERN_TEXT readPatterns SpellsPatterns patternTests writtenPatterns (λ x. x .fault) (λ x. patternsIn (x .patterns)) testedPatterns s r
 
 -- the answer to writing the list P, in terms of what the page spells afterwards
 abbrev pub WritesPatterns : List (List ℕ) → List ℕ → List ℕ → Written → Type 0

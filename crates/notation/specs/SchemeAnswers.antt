@@ -1,6 +1,7 @@
 -- What reading and writing a scheme answer, and what the answer says of the text.
 use Prim.Native.Nat.{ℕ}
 use mathlib.Core.List.{List, []}
+use Rattle.word.specs.Ceilings.{SCHEME_TEXT}
 use Rattle.word.specs.Finding.{firstFault}
 use Rattle.word.specs.declared.refusal.Refusal.{Refusal}
 use Rattle.scheme.specs.WellFormed.{schemeTests}
@@ -31,11 +32,11 @@ testedScheme E = readSchemeOr (faultOf (firstFault (schemeTests E))) (loadedSche
 
 -- "scheme text 32,768" (01)
 abbrev pub schemeAnswer : List ℕ → SchemeRead
-schemeAnswer s = answerTo refusedScheme testedScheme 32768 readEntries s
+schemeAnswer s = answerTo refusedScheme testedScheme SCHEME_TEXT readEntries s
 
 -- the answer r to the text s, in terms of what the text spells
 abbrev pub ReadsScheme : List ℕ → SchemeRead → Type 0
-ReadsScheme s r = ReadsList 32768 readEntries SpellsScheme schemeTests writtenScheme (λ x. x .fault) (λ x. schemeIn (x .scheme)) testedScheme s r
+ReadsScheme s r = ReadsList SCHEME_TEXT readEntries SpellsScheme schemeTests writtenScheme (λ x. x .fault) (λ x. schemeIn (x .scheme)) testedScheme s r
 
 -- the answer to writing the list E, in terms of what the page spells afterwards
 abbrev pub WritesScheme : List EntryList → List ℕ → List ℕ → Written → Type 0

@@ -8,13 +8,11 @@ use text_patterns::pattern_reader::load_patterns;
 use text_patterns::pattern_reader::no_patterns;
 use text_writer::writing::put_patterns;
 use wellformed::pattern_tests::patterns_fault;
+use word::limits::PATTERN_TEXT;
 use word::refusal::Refusal;
 ghost use mathlib.Core.Path.{_≡_};
 ghost use Rattle.scheme.specs.SchemeMemory.{patternsIn};
 ghost use Rattle.notation.specs.PatternAnswers.{readOr, refusedPatterns, patternsAnswer, ReadsPatterns, WritesPatterns};
-
-// "Pattern text 1,024 bytes" (01)
-pub const PATTERN_TEXT: usize = 1024;
 
 // What reading a set of patterns answers: the set where there is no fault, or a refusal with its index beside a set of none.
 pub struct PatternsRead {

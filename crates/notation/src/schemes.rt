@@ -8,13 +8,11 @@ use text_schemes::scheme_reader::load_scheme;
 use text_schemes::scheme_reader::no_entries;
 use text_writer::writing::put_scheme;
 use wellformed::scheme_tests::scheme_fault;
+use word::limits::SCHEME_TEXT;
 use word::refusal::Refusal;
 ghost use mathlib.Core.Path.{_≡_};
 ghost use Rattle.scheme.specs.SchemeMemory.{schemeIn};
 ghost use Rattle.notation.specs.SchemeAnswers.{readSchemeOr, refusedScheme, schemeAnswer, ReadsScheme, WritesScheme};
-
-// "scheme text 32,768" (01)
-pub const SCHEME_TEXT: usize = 32768;
 
 // What reading a scheme answers: the scheme where there is no fault, or a refusal with its index beside a scheme of no entries.
 pub struct SchemeRead {

@@ -8,8 +8,8 @@ use table_lines::reading::Reading;
 use table_lines::reading::State;
 use table_lines::reading::has_more;
 use table_lines::reading::taken;
-use table_print::printing::PAGE;
 use table_print::printing::print;
+use table_text::printing::PAGE;
 ghost use Rattle.table_lines.specs.Reads.{ReadsSome, ReadsAll};
 
 fn main() {

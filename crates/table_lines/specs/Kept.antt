@@ -1,23 +1,24 @@
 -- What is kept of an input, as a function of all of it, and the three lines as the memory holds
 -- them. Definitions only.
-use Prim.Native.Nat.{ℕ, zero, suc}
+use Prim.Native.Nat.{ℕ, zero, suc, _+_}
 use mathlib.Core.Bool.{Bool, true, false, not, _&&_, cond}
 use mathlib.Core.List.{List, [], _∷_}
 use mathlib.Core.Option.{Option, none, some}
 use lib.ListN.{length, take}
 use lib.Dec.{eqb}
+use Rattle.word.specs.Ceilings.{PATTERN_TEXT, SCHEME_TEXT}
 use Rattle.table_lines.specs.declared.input.Lines.{Lines}
 use Rattle.table_lines.specs.declared.input.Number.{Number}
 use Rattle.table_lines.specs.declared.input.Number.the-variants.{Is, Misspelt}
 use Rattle.table_lines.specs.Lines.{isEnd, line, behind, Three}
 
--- one byte more than each line may have: "Pattern text 1,024 bytes, scheme text 32,768" and "one
--- or two digits" (01); input::SET, SCHEME and LAST
+-- one byte more than each line may have, the third "one or two digits" (01); input::SET, SCHEME
+-- and LAST
 abbrev pub setRoom : ℕ
-setRoom = 1025
+setRoom = PATTERN_TEXT + 1
 
 abbrev pub schemeRoom : ℕ
-schemeRoom = 32769
+schemeRoom = SCHEME_TEXT + 1
 
 abbrev pub lastRoom : ℕ
 lastRoom = 3

@@ -1,5 +1,7 @@
 // What is kept of an input of three lines, as far as a line may be long; the number in the third
 // line.
+use word::limits::PATTERN_TEXT;
+use word::limits::SCHEME_TEXT;
 ghost use mathlib.Core.Path.{_≡_};
 ghost use mathlib.Core.List.{[], _∷_};
 ghost use lib.ListN.{take};
@@ -7,11 +9,11 @@ ghost use Rattle.table_lines.specs.Lines.{numberIn};
 ghost use Rattle.table_lines.specs.Kept.{keptOf, isComplete, asNumber};
 ghost use Rattle.table_lines.specs.KeptWalk.{keptOn};
 
-// One byte more than a set's text may have: "Pattern text 1,024 bytes, scheme text 32,768" (01).
-pub const SET: usize = 1025;
+// One byte more than a set's text may have.
+pub const SET: usize = PATTERN_TEXT + 1;
 
 // One byte more than a scheme's text may have.
-pub const SCHEME: usize = 32769;
+pub const SCHEME: usize = SCHEME_TEXT + 1;
 
 // One byte more than the number in the third line may have: "one or two digits" (01).
 pub const LAST: usize = 3;

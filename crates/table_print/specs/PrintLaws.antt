@@ -9,28 +9,26 @@ use mathlib.Core.List.{List, [], map, List·Memᴰ}
 use mathlib.Core.Logic.{_⊎_, inl, inr}
 use mathlib.Core.Option.{Option, none, some}
 use lib.ListN.{length, getD, take}
-use lib.Seq.{take-all, length-take-le}
-use borrow.Author.Tests.{lt-ltb}
+use lib.Seq.{take-all}
 use Rattle.word.specs.Lists.{row}
 use Rattle.word.specs.Word.{avoiders}
 use Rattle.word.specs.ListLaws.{true-not-false, below-or-not, map-same, row-out}
+use Rattle.word.specs.Ceilings.{LENGTH, PATTERN_TEXT, SCHEME_TEXT, CELLS}
 use Rattle.word.specs.Finding.{firstFault}
-use Rattle.word.specs.declared.refusal.Refusal.the-variants.{Oversize}
 use Rattle.scheme.specs.SchemeList.{EntryList}
 use Rattle.scheme.specs.SchemeMemory.{patternsIn, schemeIn, faultOf, orElse, faulty}
 use Rattle.scheme.specs.declared.memory.Patterns.{Patterns}
 use Rattle.scheme.specs.declared.memory.Scheme.{Scheme}
 use Rattle.scheme.specs.declared.memory.Fault.{Fault}
 use Rattle.scheme.specs.declared.memory.Fault.the-variants.{Clean, At}
-use Rattle.text_grammar.specs.Tokens.{tokens}
 use Rattle.text_grammar.specs.Grammar.{readPatterns, readEntries}
-use Rattle.text_writer.specs.Page.{Writes}
-use Rattle.text_writer.specs.PageLaws.{writes-as}
-use Rattle.notation.specs.Answers.{answerFrom}
+use Rattle.text_page.specs.Page.{Writes}
+use Rattle.text_page.specs.PageLaws.{writes-as}
 use Rattle.notation.specs.PatternAnswers.{refusedPatterns, testedPatterns, patternsAnswer, ReadsPatterns}
 use Rattle.notation.specs.SchemeAnswers.{refusedScheme, testedScheme, schemeAnswer, ReadsScheme}
 use Rattle.notation.specs.declared.patterns.PatternsRead.{PatternsRead}
 use Rattle.notation.specs.declared.schemes.SchemeRead.{SchemeRead}
+use Rattle.notation.proofs.AnswerLaws.{answer-cut}
 use Rattle.notation.proofs.PatternAnswerLaws as pattern-answers
 use Rattle.notation.proofs.SchemeAnswerLaws as scheme-answers
 use Rattle.verdict.specs.Verdict.{claimTests, comparedCells, answered}
@@ -46,34 +44,20 @@ use Rattle.judge.specs.declared.texts.TextsJudged.{TextsJudged}
 use Rattle.counting.specs.Counting.{faultIn}
 use Rattle.counting.specs.CountLaws.{clean-accepts, table-serves}
 use Rattle.table_lines.specs.Lines.{Three, threeLines, numberIn}
-use Rattle.table_lines.specs.Kept.{setRoom, schemeRoom, keptOf, isComplete, heldLines, threeIn, asNumber}
+use Rattle.table_lines.specs.Kept.{setRoom, schemeRoom, lastRoom, keptOf, isComplete, heldLines, threeIn, asNumber}
 use Rattle.table_lines.specs.LastNumberLaws.{number-front}
 use Rattle.table_lines.specs.CallerLaws.{fronts, frontsIf, kept-three}
 use Rattle.table_lines.specs.declared.input.Lines.{Lines}
 use Rattle.table_lines.specs.declared.input.Number.{Number}
-use Rattle.table_text.specs.Printed.{bfileText}
-use Rattle.table_print.specs.TableText.{printedOr, tableCells, lengthText, misspeltLine, numberText, linesText, tableText, avoidersText, Prints, AcceptedLists}
+use Rattle.table_text.specs.Printed.{PAGE, bfileText}
+use Rattle.table_print.specs.TableText.{printedOr, lengthText, misspeltLine, numberText, linesText, tableText, avoidersText, Prints, AcceptedLists}
 
--- a longer text is refused whatever it is, so its first bytes are enough
+-- the first bytes of a text are enough
 pub patterns-cut : (s : List ℕ) → patternsAnswer (take setRoom s) ≡ patternsAnswer s
-patterns-cut s = go (below-or-not 1024 (length s))
-  where
-    go : (1024 < length s) ⊎ (length s ≤ 1024) → patternsAnswer (take setRoom s) ≡ patternsAnswer s
-    go (inl h) =
-        let k : 1024 < length (take setRoom s) = omega (arith, length-take-le setRoom s (omega arith)) in
-        ap (λ (b : Bool). cond b (refusedPatterns Oversize 0) (answerFrom refusedPatterns testedPatterns (readPatterns (tokens (take setRoom s))))) (lt-ltb 1024 (length (take setRoom s)) k) ∙
-        sym (ap (λ (b : Bool). cond b (refusedPatterns Oversize 0) (answerFrom refusedPatterns testedPatterns (readPatterns (tokens s)))) (lt-ltb 1024 (length s) h))
-    go (inr h) = ap patternsAnswer (take-all setRoom s (omega arith))
+patterns-cut s = answer-cut refusedPatterns testedPatterns PATTERN_TEXT readPatterns s
 
 pub scheme-cut : (s : List ℕ) → schemeAnswer (take schemeRoom s) ≡ schemeAnswer s
-scheme-cut s = go (below-or-not 32768 (length s))
-  where
-    go : (32768 < length s) ⊎ (length s ≤ 32768) → schemeAnswer (take schemeRoom s) ≡ schemeAnswer s
-    go (inl h) =
-        let k : 32768 < length (take schemeRoom s) = omega (arith, length-take-le schemeRoom s (omega arith)) in
-        ap (λ (b : Bool). cond b (refusedScheme Oversize 0) (answerFrom refusedScheme testedScheme (readEntries (tokens (take schemeRoom s))))) (lt-ltb 32768 (length (take schemeRoom s)) k) ∙
-        sym (ap (λ (b : Bool). cond b (refusedScheme Oversize 0) (answerFrom refusedScheme testedScheme (readEntries (tokens s)))) (lt-ltb 32768 (length s) h))
-    go (inr h) = ap schemeAnswer (take-all schemeRoom s (omega arith))
+scheme-cut s = answer-cut refusedScheme testedScheme SCHEME_TEXT readEntries s
 
 -- the text by what was read of the set and of the scheme, and the number
 abbrev readText : PatternsRead → SchemeRead → Number → List ℕ
@@ -82,7 +66,7 @@ readText p q n = printedOr (faultIn (verdictRead p q)) (numberText (patternsIn (
 -- so the first bytes of the three lines are enough
 pub fronts-text : (t : Three) → linesText (fronts t) ≡ linesText t
 fronts-text t =
-    ap₂ (λ (p : PatternsRead) (q : SchemeRead). readText p q (asNumber (numberIn (take 3 (t .last))))) (patterns-cut (t .set)) (scheme-cut (t .scheme)) ∙
+    ap₂ (λ (p : PatternsRead) (q : SchemeRead). readText p q (asNumber (numberIn (take lastRoom (t .last))))) (patterns-cut (t .set)) (scheme-cut (t .scheme)) ∙
     ap (λ (n : Option ℕ). readText (patternsAnswer (t .set)) (schemeAnswer (t .scheme)) (asNumber n)) (number-front (t .last))
 
 fronts-table : (o : Option Three) → tableText (frontsIf o) ≡ tableText o
@@ -94,7 +78,7 @@ pub kept-text : (input : List ℕ) → tableText (threeIn (keptOf input)) ≡ ta
 kept-text input = ap tableText (kept-three input) ∙ fronts-table (threeLines input)
 
 -- the counts in memory are those that are printed
-pub counts-taken : (P : List (List ℕ)) (E : List EntryList) (n : ℕ) (counts : List ℕ) → n ≤ 20 → Counts P E n counts →
+pub counts-taken : (P : List (List ℕ)) (E : List EntryList) (n : ℕ) (counts : List ℕ) → n ≤ LENGTH → Counts P E n counts →
     take (n + 1) counts ≡ map (countOf P E) (row 0 (suc n))
 counts-taken P E n counts h c =
     ap (λ m. take m counts) (add-one n) ∙ take-row counts 0 (suc n) (omega (arith, c .size)) ∙
@@ -135,15 +119,15 @@ module _ (t : Three) (w : TextsTrue (t .set) (t .scheme)) where
       map-same (countOf (w .patterns) (w .scheme)) (λ j. length (avoiders (w .patterns) j)) (row 0 (suc n))
       (λ (j : ℕ) (m : List·Memᴰ j (row 0 (suc n))). count-avoiders (w .patterns) (w .scheme) (w .formed) (w .claims) j)
 
-  pub counts-text : (n : ℕ) → numberIn (t .last) ≡ some n → n ≤ 20 → needOf n (w .scheme) ≤ tableCells → linesText t ≡ avoidersText (w .patterns) n
+  pub counts-text : (n : ℕ) → numberIn (t .last) ≡ some n → n ≤ LENGTH → needOf n (w .scheme) ≤ CELLS → linesText t ≡ avoidersText (w .patterns) n
   counts-text n e h k =
       ap₂ (λ (f : Fault) (o : Option ℕ). printedOr f (numberText (patternsIn (p .patterns)) (schemeIn (q .scheme)) (asNumber o))) accepted-so e ∙
       ap₂ (λ (P : List (List ℕ)) (E : List EntryList). lengthText P E n) (set-list (t .set) (t .scheme) w p reads) (scheme-list (t .set) (t .scheme) w q reads-scheme) ∙
-      ap (λ (f : Fault). printedOr f (bfileText (map (countOf (w .patterns) (w .scheme)) (row 0 (suc n))))) (table-serves (w .scheme) n tableCells h k) ∙
+      ap (λ (f : Fault). printedOr f (bfileText (map (countOf (w .patterns) (w .scheme)) (row 0 (suc n))))) (table-serves (w .scheme) n CELLS h k) ∙
       ap bfileText (counts-so n)
 
 -- what is written for the lines in memory keeps the promise
-pub prints : (lines : Lines) (before after : List ℕ) (r : ℕ) → Writes (tableText (threeIn lines)) 0 before after r → r ≤ 512 → Prints lines before after r
+pub prints : (lines : Lines) (before after : List ℕ) (r : ℕ) → Writes (tableText (threeIn lines)) 0 before after r → r ≤ PAGE → Prints lines before after r
 prints lines before after r w few =
     record {
       text = w;

@@ -6,6 +6,7 @@ use mathlib.Core.Option.{Option, none, some}
 use lib.ListN.{length}
 use Rattle.word.specs.Lists.{row}
 use Rattle.word.specs.Word.{avoiders}
+use Rattle.word.specs.Ceilings.{LENGTH, CELLS}
 use Rattle.word.specs.Finding.{fault, firstFault}
 use Rattle.word.specs.Told.{toldBy}
 use Rattle.word.specs.declared.refusal.Refusal.the-variants.{Misspelt}
@@ -15,7 +16,7 @@ use Rattle.scheme.specs.declared.memory.Patterns.{Patterns}
 use Rattle.scheme.specs.declared.memory.Scheme.{Scheme}
 use Rattle.scheme.specs.declared.memory.Fault.{Fault}
 use Rattle.scheme.specs.declared.memory.Fault.the-variants.{Clean, At}
-use Rattle.text_writer.specs.Page.{Writes}
+use Rattle.text_page.specs.Page.{Writes}
 use Rattle.notation.specs.PatternAnswers.{patternsAnswer}
 use Rattle.notation.specs.SchemeAnswers.{schemeAnswer}
 use Rattle.verdict.specs.Truth.{WellFormed, AllTrue}
@@ -28,20 +29,16 @@ use Rattle.table_lines.specs.Kept.{keptOf, threeIn, asNumber}
 use Rattle.table_lines.specs.declared.input.Lines.{Lines}
 use Rattle.table_lines.specs.declared.input.Number.{Number}
 use Rattle.table_lines.specs.declared.input.Number.the-variants.{Is, Misspelt as NoNumber}
-use Rattle.table_text.specs.Printed.{bfileText, refusalLine}
+use Rattle.table_text.specs.Printed.{PAGE, bfileText, refusalLine}
 
 -- a text, or the line of a refusal in its place
 abbrev pub printedOr : Fault → List ℕ → List ℕ
 printedOr Clean text = text
 printedOr (At r i) text = refusalLine (toldOr (At r i) [])
 
--- "It holds 4,096 cells" (01); printing::CELLS
-abbrev pub tableCells : ℕ
-tableCells = 4096
-
 -- the b-file of the counts for 0 to n; n above 20 is 2, and a need of more cells than it holds 12
 abbrev pub lengthText : List (List ℕ) → List EntryList → ℕ → List ℕ
-lengthText P E n = printedOr (faultOf (firstFault (tableTests E n tableCells))) (bfileText (map (countOf P E) (row 0 (suc n))))
+lengthText P E n = printedOr (faultOf (firstFault (tableTests E n CELLS))) (bfileText (map (countOf P E) (row 0 (suc n))))
 
 -- the line of the refusal 1, misspelt, whose index is 0
 abbrev pub misspeltLine : List ℕ
@@ -77,10 +74,10 @@ pub record Prints (lines : Lines) (before after : List ℕ) (r : ℕ) : Type 0 w
   -- "If accepted, then .. the count .. is exactly the number of permutations of 1 to n that contain
   -- none of the patterns": so are the printed counts. Texts are accepted exactly if TextsTrue holds
   -- of them (JudgesTexts.exactly).
-  pub counts : (t : Three) → threeIn lines ≡ some t → (w : TextsTrue (t .set) (t .scheme)) (n : ℕ) → numberIn (t .last) ≡ some n → n ≤ 20 →
-      needOf n (w .scheme) ≤ tableCells → Writes (avoidersText (w .patterns) n) 0 before after r
+  pub counts : (t : Three) → threeIn lines ≡ some t → (w : TextsTrue (t .set) (t .scheme)) (n : ℕ) → numberIn (t .last) ≡ some n → n ≤ LENGTH →
+      needOf n (w .scheme) ≤ CELLS → Writes (avoidersText (w .patterns) n) 0 before after r
   -- a page of 512 bytes is always enough
-  pub fits : r ≤ 512
+  pub fits : r ≤ PAGE
 
 -- patterns and a scheme that were accepted
 pub record AcceptedLists (p : Patterns) (s : Scheme) : Type 0 where

@@ -16,22 +16,18 @@ use table_lines::input::complete;
 use table_lines::input::last_number;
 use table_text::printing::put_counts;
 use table_text::printing::put_refusal;
+use word::limits::CELLS;
 use word::refusal::Refusal;
 ghost use mathlib.Core.Path.{_≡_};
 ghost use mathlib.Core.List.{[]};
 ghost use Prim.Native.Nat.{_≤_, min};
 ghost use lib.ListN.{take};
 ghost use Rattle.scheme.specs.SchemeMemory.{patternsIn, schemeIn};
-ghost use Rattle.text_writer.specs.Page.{Writes};
+ghost use Rattle.text_page.specs.Page.{Writes};
 ghost use Rattle.judge.specs.TextJudgement.{JudgesAndReads};
 ghost use Rattle.table_lines.specs.Kept.{heldLines};
+ghost use Rattle.table_text.specs.Printed.{PAGE};
 ghost use Rattle.table_print.specs.TableText.{printedOr, numberText, lengthText, Prints, AcceptedLists};
-
-// "It holds 4,096 cells" (01)
-pub const CELLS: usize = 4096;
-
-// A page of so many bytes is always enough.
-pub const PAGE: usize = 512;
 
 // Writes what is to be printed at the start of the page; the number of bytes.
 pub fn print(lines: Lines, page: &mut [u8]) -> usize
@@ -78,7 +74,7 @@ fn least(a: usize, b: usize) -> usize
 
 // Writes the line of a refusal, or nothing.
 fn put_fault(page: &mut [u8], fault: Fault) -> usize
-    ensures { λ r. ⌜ Writes (printedOr fault []) 0 (now (page .entry)) (now (page .exit)) r × (r ≤ 512) ⌝ }
+    ensures { λ r. ⌜ Writes (printedOr fault []) 0 (now (page .entry)) (now (page .exit)) r × (r ≤ PAGE) ⌝ }
 {
     match fault {
         Fault::Clean => 0,
@@ -89,7 +85,7 @@ fn put_fault(page: &mut [u8], fault: Fault) -> usize
 // Writes what is printed for an accepted scheme and the number in the third line.
 fn put_number(page: &mut [u8], judged: TextsJudged, number: Number) -> usize
     requires { ⌜ AcceptedLists (judged .patterns) (judged .scheme) ⌝ }
-    ensures { λ r. ⌜ Writes (numberText (patternsIn (judged .patterns)) (schemeIn (judged .scheme)) number) 0 (now (page .entry)) (now (page .exit)) r × (r ≤ 512) ⌝ }
+    ensures { λ r. ⌜ Writes (numberText (patternsIn (judged .patterns)) (schemeIn (judged .scheme)) number) 0 (now (page .entry)) (now (page .exit)) r × (r ≤ PAGE) ⌝ }
 {
     let patterns = judged.patterns;
     let scheme = judged.scheme;
@@ -102,7 +98,7 @@ fn put_number(page: &mut [u8], judged: TextsJudged, number: Number) -> usize
 // Writes the b-file for 0 to n, or why there is none: all counts are made in one pass.
 fn put_table(page: &mut [u8], patterns: Patterns, scheme: Scheme, n: usize) -> usize
     requires { ⌜ AcceptedLists patterns scheme ⌝ }
-    ensures { λ r. ⌜ Writes (lengthText (patternsIn patterns) (schemeIn scheme) n) 0 (now (page .entry)) (now (page .exit)) r × (r ≤ 512) ⌝ }
+    ensures { λ r. ⌜ Writes (lengthText (patternsIn patterns) (schemeIn scheme) n) 0 (now (page .entry)) (now (page .exit)) r × (r ≤ PAGE) ⌝ }
 {
     let fault = table_fault(scheme, n, CELLS);
     if is_fault(fault) {

@@ -1,6 +1,3 @@
--- The definitions and laws of the crate bfile_text.
+-- The definitions and laws of the crate table_text.
 pub mod Printed
-pub mod Numeral
-pub mod DecimalLaws
-pub mod NumeralLaws
 pub mod PrintedLaws

@@ -1,19 +1,9 @@
 -- The bytes that the table program prints. Definitions only.
-use Prim.Native.Nat.{ℕ, zero, suc, _+_, _/_, _%_}
+use Prim.Native.Nat.{ℕ, suc, _+_}
 use mathlib.Core.List.{List, [], _∷_, _++_}
 use lib.ListN.{getD}
 use Rattle.word.specs.Told.{Told}
-
--- the digits of a number in base 10, in ASCII, and none for 0; f is as large as the number or
--- larger
-unfoldable pub digitsOf : ℕ → ℕ → List ℕ
-digitsOf zero n = []
-digitsOf (suc f) zero = []
-digitsOf (suc f) (suc m) = digitsOf f (suc m / 10) ++ ((0x30 + suc m % 10) ∷ [])
-
--- the digits before the last, and the last
-unfoldable pub decimal : ℕ → List ℕ
-decimal n = digitsOf n (n / 10) ++ ((0x30 + n % 10) ∷ [])
+use Rattle.text_page.specs.Decimal.{NUMERAL, decimal}
 
 -- "each line n, a space, the count"
 abbrev pub countLine : ℕ → ℕ → List ℕ
@@ -26,6 +16,14 @@ countLines n (c ∷ l) = countLine n c ++ countLines (suc n) l
 -- "an OEIS b-file" of the counts for 0, 1, ..
 abbrev pub bfileText : List ℕ → List ℕ
 bfileText counts = countLines 0 counts
+
+-- a line has so many bytes at the most: n of two digits, a space, a number, a line end
+abbrev pub LINE : ℕ
+LINE = 2 + 1 + NUMERAL + 1
+
+-- so a page of these bytes is always enough, for one line a count; printing::PAGE
+abbrev pub PAGE : ℕ
+PAGE = 512
 
 -- `refused` in ASCII
 abbrev pub refused : List ℕ

@@ -6,8 +6,8 @@ use mathlib.Core.Path.{_≡_, refl, sym, ap, _∙_}
 use mathlib.Core.List.{List, [], _++_}
 use lib.ListN.{length, take, drop, getD, drop-of-length-le}
 use lib.Seq.{length-take-le, drop-cons, getD-take, take-at}
-use Rattle.text_writer.specs.Page.{Writes}
-use Rattle.text_writer.specs.PageLaws.{length-after, page-after}
+use Rattle.text_page.specs.Page.{Writes}
+use Rattle.text_page.specs.PageLaws.{length-after, page-after}
 use Rattle.table_text.specs.Printed.{countLine, countLines}
 
 module _ (counts : List ℕ) (n : ℕ) (inside : n < length counts) where

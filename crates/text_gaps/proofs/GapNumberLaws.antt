@@ -23,6 +23,7 @@ use Rattle.text_gaps.specs.PartReading.{found, NumberAt}
 use Rattle.text_gaps.specs.GapReading.{DigitOf, valued, noNumber, Numbered}
 use Rattle.text_patterns.proofs.FilledLaws.{digits-in}
 use Rattle.text_grammar.specs.Kinds.{isDigits}
+use Rattle.text_grammar.specs.KindLaws.{is-digits}
 use Rattle.text_grammar.specs.GrammarLaws.{two-digits, three-digits}
 
 -- digits and numbers
@@ -107,15 +108,6 @@ number-three (x ∷ (y ∷ (z ∷ []))) a b c h d p e f =
 number-three (x ∷ (y ∷ (z ∷ (v ∷ u)))) a b c h d p e f = absurd (omega arith)
 
 -- kinds of tokens
-
-pub is-digits : (k : Kind) → isDigits k ≡ true → k ≡ Digits
-is-digits End h = absurd (false≢true h)
-is-digits Digits h = refl
-is-digits Epsilon h = absurd (false≢true h)
-is-digits Empty h = absurd (false≢true h)
-is-digits Left h = absurd (false≢true h)
-is-digits Right h = absurd (false≢true h)
-is-digits (Byte b) h = absurd (false≢true h)
 
 no-number : (k : Kind) (t : List ℕ) (ts : List Token) → isDigits k ≡ false → readNumber (tokensBy k t ts) ≡ misspelt
 no-number End t ts h = refl

@@ -10,7 +10,7 @@ use mathlib.Core.List.{List, [], _∷_, _++_}
 use lib.ListN.{length, drop, set}
 use lib.Seq.{set-out}
 use lib.Dec.{leb}
-use borrow.Author.Tests.{le-leb, lt-leb, eqb-true, ne-eqb}
+use borrow.Author.Tests.{le-leb, lt-leb, ne-eqb}
 use Rattle.word.specs.ListLaws.{below-or-not}
 use Rattle.scheme.specs.declared.memory.Gap.{Gap}
 use Rattle.text_grammar.specs.declared.cursor.Cursor.{Cursor}
@@ -31,11 +31,11 @@ use Rattle.text_grammar.specs.GrammarLaws.{items-step, number-read, vector-read
 use Rattle.text_grammar.specs.Cursor.{Stepped, tokensBy, Beyond}
 use Rattle.text_gaps.specs.GapMemory.{partOf, gapOf}
 use Rattle.text_gaps.specs.PartReading.{found, kept, loadedGaps, NumberAt, GapAt, GapsAt}
-use Rattle.text_gaps.specs.ItemReading.{turnInBraces, goesOn, isDone, Within, Ready, Advanced}
-use Rattle.text_gaps.specs.GapReading.{turnInVector}
+use Rattle.text_gaps.specs.ItemReading.{turnInBraces, turnInVector, goesOn, isDone, Within, Ready, Advanced}
 use Rattle.text_gaps.specs.GapReading.{storedPart, storedGap, itself, goingGap, goingGaps, PartsAt, VectorsAt}
 use Rattle.text_gaps.proofs.TextItemLaws.{same-byte, vector-turn, braces-turn, at-end, item-wrong, item-stored, kept-same}
 use Rattle.text_grammar.specs.Kinds.{isLeft, isEmpty, isByte}
+use Rattle.text_grammar.specs.KindLaws.{is-left, is-empty, is-byte}
 use Rattle.text_patterns.specs.PatternMemory.{added}
 use Rattle.text_patterns.proofs.FilledLaws.{length-more, filled-more, added-whole}
 use Rattle.text_patterns.specs.PatternReading.{no-empty}
@@ -65,14 +65,6 @@ gap-kept m g = ap (λ (n : ℕ). gapsMade (set (m .items) (m .count) g) n) (add-
 
 pub gap-counted : (m : Gaps) (g : Gap) → length (m .items) ≤ m .count → gapsMade (m .items) (m .count + 1) ≡ storedGap m g
 gap-counted m g h = ap₂ gapsMade (sym (set-out (m .items) (m .count) g h)) (add-one (m .count))
-
--- bytes that may not come
-
-pub vector-other : (k : Kind) (b : ℕ) → k ≡ Byte b → (b ≡ 0x2C → ⊥) → Wrong ≡ turnInVector k
-vector-other k b e h = rw (e, ne-eqb b 0x2C h)
-
-pub braces-other : (k : Kind) (b : ℕ) → k ≡ Byte b → (b ≡ 0x7D → ⊥) → (b ≡ 0x2C → ⊥) → Wrong ≡ turnInBraces k
-braces-other k b e h g = rw (e, ne-eqb b 0x7D h, ne-eqb b 0x2C g)
 
 -- components and vectors
 
@@ -169,33 +161,6 @@ module _ (s : List ℕ) (at : ℕ) (t : Turn) (n : Cursor) (stop : goesOn t ≡ 
 
 -- the mark before the items
 
-is-left : (k : Kind) → isLeft k ≡ true → k ≡ Left
-is-left End h = absurd (false≢true h)
-is-left Digits h = absurd (false≢true h)
-is-left Epsilon h = absurd (false≢true h)
-is-left Empty h = absurd (false≢true h)
-is-left Left h = refl
-is-left Right h = absurd (false≢true h)
-is-left (Byte b) h = absurd (false≢true h)
-
-is-empty : (k : Kind) → isEmpty k ≡ true → k ≡ Empty
-is-empty End h = absurd (false≢true h)
-is-empty Digits h = absurd (false≢true h)
-is-empty Epsilon h = absurd (false≢true h)
-is-empty Empty h = refl
-is-empty Left h = absurd (false≢true h)
-is-empty Right h = absurd (false≢true h)
-is-empty (Byte b) h = absurd (false≢true h)
-
-is-brace : (k : Kind) → isByte 0x7B k ≡ true → k ≡ Byte 0x7B
-is-brace End h = absurd (false≢true h)
-is-brace Digits h = absurd (false≢true h)
-is-brace Epsilon h = absurd (false≢true h)
-is-brace Empty h = absurd (false≢true h)
-is-brace Left h = absurd (false≢true h)
-is-brace Right h = absurd (false≢true h)
-is-brace (Byte b) h = ap Byte (eqb-true b 0x7B h)
-
 other-mark : (b : ℕ) → same left (byte b) ≡ false
 other-mark b = ne-eqb (code left) (code (byte b)) (λ (h : code left ≡ code (byte b)). omega arith)
 
@@ -237,7 +202,7 @@ module _ (s : List ℕ) (at : ℕ) (t : Step) (stepped : Stepped s at t) where
   left-within h = within-text left (tokens (drop (t .next .at) s)) (gives-by Left (is-left (t .kind) h))
 
   pub brace-within : isByte 0x7B (t .kind) ≡ true → t .next .at ≤ length s
-  brace-within h = within-text (byte 0x7B) (tokens (drop (t .next .at) s)) (gives-by (Byte 0x7B) (is-brace (t .kind) h))
+  brace-within h = within-text (byte 0x7B) (tokens (drop (t .next .at) s)) (gives-by (Byte 0x7B) (is-byte 0x7B (t .kind) h))
 
   pub vector-none : isLeft (t .kind) ≡ false → (g : Gap) → GapAt s at (record { spelt = false; gap = g; next = t .next })
   vector-none h g =
@@ -276,10 +241,10 @@ module _ (s : List ℕ) (at : ℕ) (t : Step) (stepped : Stepped s at t) where
 
   pub list-vectors : isByte 0x7B (t .kind) ≡ true → (r : GapsRead) → VectorsAt s (t .next .at) r → GapsAt s at r
   list-vectors h r vectors =
-      let l : at < t .next .at = subst (λ (k : Kind). Beyond k at (t .next .at)) (is-brace (t .kind) h) (stepped .beyond) in
+      let l : at < t .next .at = subst (λ (k : Kind). Beyond k at (t .next .at)) (is-byte 0x7B (t .kind) h) (stepped .beyond) in
       let i : t .next .at ≤ r .next .at = vectors .onward in
       let j : at < r .next .at = omega arith in
       record {
-        gives = ap (λ (ts : List Token). kept loadedGaps (inBraces readVector ts)) (gives-by (Byte 0x7B) (is-brace (t .kind) h)) ∙ vectors .gives;
+        gives = ap (λ (ts : List Token). kept loadedGaps (inBraces readVector ts)) (gives-by (Byte 0x7B) (is-byte 0x7B (t .kind) h)) ∙ vectors .gives;
         moved = record { onward = λ _. j; inside = λ _. vectors .inside };
       }

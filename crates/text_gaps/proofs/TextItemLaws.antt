@@ -19,8 +19,7 @@ use Rattle.text_grammar.specs.Grammar.{Read, misspelt, got, after, code, same, 
 use Rattle.text_grammar.specs.Cursor.{Stepped, tokensBy}
 use Rattle.text_patterns.specs.PatternMemory.{added}
 use Rattle.text_gaps.specs.PartReading.{found, kept, Moved}
-use Rattle.text_gaps.specs.ItemReading.{turnInBraces, goesOn, isDone, going, leftOf, Ready, Advanced}
-use Rattle.text_gaps.specs.GapReading.{turnInVector}
+use Rattle.text_gaps.specs.ItemReading.{turnInBraces, turnInVector, goesOn, isDone, going, leftOf, Ready, Advanced}
 use Rattle.text_grammar.proofs.CursorLaws.{beyond-le}
 use Rattle.text_patterns.proofs.PatternWalkLaws.{at-most-one}
 

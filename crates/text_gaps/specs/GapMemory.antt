@@ -4,6 +4,7 @@ use mathlib.Core.Bool.{cond}
 use mathlib.Core.List.{List, map}
 use lib.ListN.{length}
 use lib.Dec.{leb}
+use Rattle.word.specs.Ceilings.{COMPONENTS}
 use Rattle.scheme.specs.declared.memory.Gap.{Gap}
 use Rattle.text_patterns.specs.PatternMemory.{filled}
 
@@ -12,4 +13,4 @@ abbrev pub partOf : ℕ → ℕ
 partOf n = cond (leb n 255) n 255
 
 abbrev pub gapOf : List ℕ → Gap
-gapOf b = record { parts = filled 7 0 (map partOf b); width = length b }
+gapOf b = record { parts = filled COMPONENTS 0 (map partOf b); width = length b }

@@ -1,39 +1,24 @@
 -- What the readers of numbers and gap vectors promise of their parts: a digit, a number, one item more, the items of a list. Definitions only.
 use Prim.Native.Nat.{ℕ, suc, _≤_}
 use mathlib.Core.Path.{_≡_}
-use mathlib.Core.Bool.{Bool, true, false, cond}
+use mathlib.Core.Bool.{Bool, true, false}
 use mathlib.Core.List.{List}
 use mathlib.Core.Option.{Option, none, some}
 use lib.ListN.{length, drop, getD, set}
-use lib.Dec.{eqb}
 use Rattle.scheme.specs.declared.memory.Gap.{Gap}
 use Rattle.text_grammar.specs.Spelling.{Token, right, byte}
 use Rattle.text_grammar.specs.Tokens.{tokens}
 use Rattle.text_grammar.specs.Grammar.{Read, items, numberOf, readNumber, readVector}
 use Rattle.text_gaps.specs.GapMemory.{partOf, gapOf}
 use Rattle.text_gaps.specs.PartReading.{found, kept, loadedGaps}
-use Rattle.text_grammar.specs.declared.cursor.Kind.{Kind}
-use Rattle.text_grammar.specs.declared.cursor.Kind.the-variants.{End, Digits, Epsilon, Empty, Left, Right, Byte}
 use Rattle.text_gaps.specs.declared.parts.GapRead.{GapRead}
 use Rattle.text_gaps.specs.declared.parts.Gaps.{Gaps}
 use Rattle.text_gaps.specs.declared.parts.GapsRead.{GapsRead}
 use Rattle.text_gaps.specs.declared.gap_reader.Numeral.{Numeral}
 use Rattle.text_gaps.specs.declared.gap_reader.Turn.{Turn}
-use Rattle.text_gaps.specs.declared.gap_reader.Turn.the-variants.{More, Done, Wrong}
 use Rattle.text_gaps.specs.declared.gap_reader.GapPart.{GapPart}
 use Rattle.text_gaps.specs.declared.gap_reader.GapsPart.{GapsPart}
 use Rattle.text_gaps.specs.ItemReading.{going, Ready, Advanced}
-
--- what comes after a component
-
-abbrev pub turnInVector : Kind → Turn
-turnInVector End = Wrong
-turnInVector Digits = Wrong
-turnInVector Epsilon = Wrong
-turnInVector Empty = Wrong
-turnInVector Left = Wrong
-turnInVector Right = Done
-turnInVector (Byte b) = cond (eqb b 0x2C) More Wrong
 
 -- numbers
 

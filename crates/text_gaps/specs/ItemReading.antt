@@ -4,28 +4,27 @@ use mathlib.Core.Path.{_≡_}
 use mathlib.Core.Bool.{Bool, true, false, cond}
 use mathlib.Core.List.{List}
 use lib.ListN.{length, drop}
-use lib.Dec.{eqb}
 use Rattle.text_grammar.specs.Spelling.{Token}
 use Rattle.text_grammar.specs.Tokens.{tokens}
+use Rattle.text_grammar.specs.Kinds.{isRight, isByte}
 use Rattle.text_grammar.specs.Grammar.{Read, misspelt, got, items}
 use Rattle.text_gaps.specs.PartReading.{kept}
 use Rattle.text_grammar.specs.declared.cursor.Kind.{Kind}
-use Rattle.text_grammar.specs.declared.cursor.Kind.the-variants.{End, Digits, Epsilon, Empty, Left, Right, Byte}
 use Rattle.text_gaps.specs.declared.gap_reader.Turn.{Turn}
 use Rattle.text_gaps.specs.declared.gap_reader.Turn.the-variants.{More, Done, Wrong}
 use Rattle.text_patterns.specs.PatternWalk.{oneIf}
 use Rattle.text_patterns.specs.PatternMemory.{added}
 
--- what comes after an item in braces
+-- what comes after an item: the closing mark, or else a comma
+
+abbrev pub turnOf : Bool → Bool → Turn
+turnOf done more = cond done Done (cond more More Wrong)
 
 abbrev pub turnInBraces : Kind → Turn
-turnInBraces End = Wrong
-turnInBraces Digits = Wrong
-turnInBraces Epsilon = Wrong
-turnInBraces Empty = Wrong
-turnInBraces Left = Wrong
-turnInBraces Right = Wrong
-turnInBraces (Byte b) = cond (eqb b 0x7D) Done (cond (eqb b 0x2C) More Wrong)
+turnInBraces k = turnOf (isByte 0x7D k) (isByte 0x2C k)
+
+abbrev pub turnInVector : Kind → Turn
+turnInVector k = turnOf (isRight k) (isByte 0x2C k)
 
 abbrev pub goesOn : Turn → Bool
 goesOn More = true

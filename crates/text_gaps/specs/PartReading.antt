@@ -4,6 +4,7 @@ use mathlib.Core.Path.{_≡_}
 use mathlib.Core.Bool.{Bool, true, false}
 use mathlib.Core.List.{List, [], map}
 use lib.ListN.{length, drop}
+use Rattle.word.specs.Ceilings.{GAPS}
 use Rattle.text_grammar.specs.Spelling.{Token}
 use Rattle.text_grammar.specs.Tokens.{tokens}
 use Rattle.text_grammar.specs.Grammar.{Read, misspelt, got, readNumber, readVector, inBraces}
@@ -30,7 +31,7 @@ pub record Moved (s : List ℕ) (at next : ℕ) (spelt : Bool) : Type 0 where
   pub inside : at ≤ length s → next ≤ length s
 
 unfoldable pub loadedGaps : List (List ℕ) → Gaps
-loadedGaps g = record { items = filled 8 (gapOf []) (map gapOf g); count = length g }
+loadedGaps g = record { items = filled GAPS (gapOf []) (map gapOf g); count = length g }
 
 pub record NumberAt (s : List ℕ) (at : ℕ) (r : NumberRead) : Type 0 where
   pub gives : readNumber (tokens (drop at s)) ≡ found (r .spelt) (r .value) (tokens (drop (r .next .at) s))

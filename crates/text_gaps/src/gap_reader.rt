@@ -10,6 +10,7 @@ use text_grammar::kinds::is_byte;
 use text_grammar::kinds::is_digits;
 use text_grammar::kinds::is_empty;
 use text_grammar::kinds::is_left;
+use text_grammar::kinds::is_right;
 use word::limits::COMPONENTS;
 use word::limits::GAPS;
 ghost use mathlib.Core.Path.{_≡_};
@@ -19,8 +20,8 @@ ghost use lib.ListN.{length, drop};
 ghost use Rattle.text_grammar.specs.Tokens.{run};
 ghost use Rattle.text_gaps.specs.GapMemory.{partOf, gapOf};
 ghost use Rattle.text_gaps.specs.PartReading.{NumberAt, GapAt, GapsAt, loadedGaps};
-ghost use Rattle.text_gaps.specs.ItemReading.{goesOn, isDone, turnInBraces};
-ghost use Rattle.text_gaps.specs.GapReading.{noNumber, Numbered, DigitOf, turnInVector};
+ghost use Rattle.text_gaps.specs.ItemReading.{goesOn, isDone, turnOf};
+ghost use Rattle.text_gaps.specs.GapReading.{noNumber, Numbered, DigitOf};
 ghost use Rattle.text_gaps.specs.GapReading.{storedPart, storedGap, GapReady, GapAdvanced, PartsAt, GapsReady, GapsAdvanced, VectorsAt};
 
 // The number that a run of digits spells.
@@ -202,7 +203,7 @@ fn with_part(s: &[u8], m: GapPart) -> GapPart
     let kind = t.kind;
     let next = t.next;
     GapPart {
-        turn: turn_in_vector(kind),
+        turn: turn_of(is_right(kind), is_byte(kind, b',')),
         gap,
         next,
     }
@@ -324,7 +325,7 @@ fn with_vector(s: &[u8], m: GapsPart) -> GapsPart
     let kind = t.kind;
     let next = t.next;
     GapsPart {
-        turn: turn_in_braces(kind),
+        turn: turn_of(is_byte(kind, b'}'), is_byte(kind, b',')),
         gaps,
         next,
     }
@@ -385,40 +386,15 @@ fn is_done(turn: Turn) -> bool
     }
 }
 
-// What comes after a component: a comma or the closing mark.
-fn turn_in_vector(kind: Kind) -> Turn
-    ensures { λ r. ⌜ r ≡ turnInVector kind ⌝ }
+// What comes after an item: the closing mark, or else a comma.
+fn turn_of(done: bool, more: bool) -> Turn
+    ensures { λ r. ⌜ r ≡ turnOf done more ⌝ }
 {
-    match kind {
-        Kind::Right => Turn::Done,
-        Kind::Byte(b) => { if b == b',' { Turn::More } else { Turn::Wrong } }
-        Kind::End => Turn::Wrong,
-        Kind::Digits => Turn::Wrong,
-        Kind::Epsilon => Turn::Wrong,
-        Kind::Empty => Turn::Wrong,
-        Kind::Left => Turn::Wrong,
+    if done {
+        return Turn::Done;
     }
-}
-
-// What comes after a vector: a comma or the closing brace.
-fn turn_in_braces(kind: Kind) -> Turn
-    ensures { λ r. ⌜ r ≡ turnInBraces kind ⌝ }
-{
-    match kind {
-        Kind::Byte(b) => {
-            if b == b'}' {
-                Turn::Done
-            } else if b == b',' {
-                Turn::More
-            } else {
-                Turn::Wrong
-            }
-        }
-        Kind::End => Turn::Wrong,
-        Kind::Digits => Turn::Wrong,
-        Kind::Epsilon => Turn::Wrong,
-        Kind::Empty => Turn::Wrong,
-        Kind::Left => Turn::Wrong,
-        Kind::Right => Turn::Wrong,
+    if more {
+        return Turn::More;
     }
+    Turn::Wrong
 }

@@ -1,54 +1,37 @@
--- What a token is: one test a kind. Definitions only.
+-- What a token is: a code for its kind, and one test a kind. Definitions only.
 use Prim.Native.Nat.{ℕ}
-use mathlib.Core.Bool.{Bool, true, false}
+use mathlib.Core.Bool.{Bool, false}
 use lib.Dec.{eqb}
 use Rattle.text_grammar.specs.declared.cursor.Kind.{Kind}
 use Rattle.text_grammar.specs.declared.cursor.Kind.the-variants.{End, Digits, Epsilon, Empty, Left, Right, Byte}
 
+-- the code of a kind
+abbrev pub codeOf : Kind → ℕ
+codeOf End = 0
+codeOf Digits = 1
+codeOf Epsilon = 2
+codeOf Empty = 3
+codeOf Left = 4
+codeOf Right = 5
+codeOf (Byte b) = 6
+
 abbrev pub isEnd : Kind → Bool
-isEnd End = true
-isEnd Digits = false
-isEnd Epsilon = false
-isEnd Empty = false
-isEnd Left = false
-isEnd Right = false
-isEnd (Byte b) = false
+isEnd k = eqb (codeOf k) 0
 
 abbrev pub isDigits : Kind → Bool
-isDigits End = false
-isDigits Digits = true
-isDigits Epsilon = false
-isDigits Empty = false
-isDigits Left = false
-isDigits Right = false
-isDigits (Byte b) = false
+isDigits k = eqb (codeOf k) 1
 
 abbrev pub isEpsilon : Kind → Bool
-isEpsilon End = false
-isEpsilon Digits = false
-isEpsilon Epsilon = true
-isEpsilon Empty = false
-isEpsilon Left = false
-isEpsilon Right = false
-isEpsilon (Byte b) = false
+isEpsilon k = eqb (codeOf k) 2
 
 abbrev pub isEmpty : Kind → Bool
-isEmpty End = false
-isEmpty Digits = false
-isEmpty Epsilon = false
-isEmpty Empty = true
-isEmpty Left = false
-isEmpty Right = false
-isEmpty (Byte b) = false
+isEmpty k = eqb (codeOf k) 3
 
 abbrev pub isLeft : Kind → Bool
-isLeft End = false
-isLeft Digits = false
-isLeft Epsilon = false
-isLeft Empty = false
-isLeft Left = true
-isLeft Right = false
-isLeft (Byte b) = false
+isLeft k = eqb (codeOf k) 4
+
+abbrev pub isRight : Kind → Bool
+isRight k = eqb (codeOf k) 5
 
 abbrev pub isByte : ℕ → Kind → Bool
 isByte n End = false

@@ -7,3 +7,4 @@ pub mod GrammarLaws
 pub mod SpellingLaws
 pub mod Cursor
 pub mod Kinds
+pub mod KindLaws

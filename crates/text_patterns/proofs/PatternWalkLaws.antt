@@ -9,7 +9,7 @@ use mathlib.Core.Option.{Option, none, some}
 use lib.ListN.{length, drop, take, length-drop}
 use lib.Seq.{drop-drop}
 use lib.Dec.{eqb}
-use borrow.Author.Tests.{ne-eqb}
+use Rattle.word.specs.Ceilings.{DIGITS}
 use Rattle.scheme.specs.declared.memory.Patterns.{Patterns}
 use Rattle.text_grammar.specs.declared.cursor.Kind.{Kind}
 use Rattle.text_grammar.specs.declared.cursor.Kind.the-variants.{End, Digits, Epsilon, Empty, Left, Right, Byte}
@@ -19,6 +19,8 @@ use Rattle.text_patterns.specs.declared.pattern_reader.Place.the-variant
 use Rattle.text_patterns.specs.declared.pattern_reader.Reading.{Reading}
 use Rattle.text_grammar.specs.Spelling.{Token}
 use Rattle.text_grammar.specs.Tokens.{run, tokens}
+use Rattle.text_grammar.specs.Kinds.{isDigits, isEpsilon}
+use Rattle.text_grammar.specs.KindLaws.{is-digits, is-epsilon}
 use Rattle.text_grammar.specs.Cursor.{Stepped, spanOf, tokensBy, Beyond}
 use Rattle.text_patterns.specs.PatternGrammar.{item, separator, joined, closed, readItems, readPatterns}
 use Rattle.text_patterns.specs.PatternMemory.{filled, patternOf, loadedPatterns, storedIn, patternText}
@@ -26,14 +28,6 @@ use Rattle.text_patterns.specs.PatternWalk.{goesOn, placeAfter, itemAfte
 use Rattle.text_patterns.specs.PatternWalk.{Storable, Ready, Advanced}
 use Rattle.text_patterns.proofs.FilledLaws.{text-loaded}
 use Rattle.text_grammar.proofs.CursorLaws.{tail-is}
-
--- bytes that may not come
-
-pub start-other : (k : Kind) (b : ℕ) → k ≡ Byte b → (b ≡ 0x7B → ⊥) → Wrong ≡ placeAfter Start k
-start-other k b e h = rw (e, ne-eqb b 0x7B h)
-
-pub separator-other : (k : Kind) (b : ℕ) → k ≡ Byte b → (b ≡ 0x2C → ⊥) → (b ≡ 0x7D → ⊥) → Wrong ≡ placeAfter Separator k
-separator-other k b e h g = rw (e, ne-eqb b 0x2C h, ne-eqb b 0x7D g)
 
 -- one token
 
@@ -175,22 +169,22 @@ module _ (s : List ℕ) (m : Reading) (at : ℕ) (before : ReadTo s m at) (goes 
 
 -- a digit run in storage: its length, and that it can be counted
 module _ (s : List ℕ) (t : Step) (m : Patterns) (fit : Storable s t m) where
-  pub run-length : t .kind ≡ Digits → t .next .at - t .from ≡ length (run (drop (t .from) s))
+  pub run-length : isDigits (t .kind) ≡ true → t .next .at - t .from ≡ length (run (drop (t .from) s))
   run-length e =
-      let q : t .next .at ≡ t .from + length (run (drop (t .from) s)) = fit .span ∙ ap (λ (k : Kind). t .from + spanOf k (drop (t .from) s)) e in
+      let q : t .next .at ≡ t .from + length (run (drop (t .from) s)) = fit .span ∙ ap (λ (k : Kind). t .from + spanOf k (drop (t .from) s)) (is-digits (t .kind) e) in
       omega arith
 
 -- items in storage
-pub item-digits : (k : Kind) (u : List ℕ) (m : Patterns) (d : List ℕ) (n : ℕ) → k ≡ Digits → d ≡ filled 8 0 u → n ≡ length u
-    → storedIn m (record { digits = d; length = n }) ≡ itemAfter k u m
-item-digits k u m d n e p q =
-    ap₂ (λ (l : List ℕ) (i : ℕ). storedIn m (record { digits = l; length = i })) p q ∙ sym (ap (λ (j : Kind). itemAfter j u m) e)
+module _ (k : Kind) (u : List ℕ) (m : Patterns) where
+  pub item-digits : (d : List ℕ) (n : ℕ) → isDigits k ≡ true → d ≡ filled DIGITS 0 u → n ≡ length u → storedIn m (record { digits = d; length = n }) ≡ itemAfter k u m
+  item-digits d n e p q =
+      ap₂ (λ (l : List ℕ) (i : ℕ). storedIn m (record { digits = l; length = i })) p q ∙ sym (ap (λ (j : Kind). itemAfter j u m) (is-digits k e))
 
-pub item-epsilon : (k : Kind) (u : List ℕ) (m : Patterns) → k ≡ Epsilon → storedIn m (patternOf []) ≡ itemAfter k u m
-item-epsilon k u m e = sym (ap (λ (j : Kind). itemAfter j u m) e)
+  pub item-epsilon : isDigits k ≡ false → isEpsilon k ≡ true → storedIn m (patternOf []) ≡ itemAfter k u m
+  item-epsilon d e = sym (ap (λ (j : Kind). itemAfter j u m) (is-epsilon k e))
 
-pub item-only : (p : Place) (k : Kind) (u : List ℕ) (m : Patterns) → p ≡ Item → itemAfter k u m ≡ patternsAfter p k u m
-item-only p k u m e = sym (ap (λ (q : Place). patternsAfter q k u m) e)
+  pub item-none : isDigits k ≡ false → isEpsilon k ≡ false → m ≡ itemAfter k u m
+  item-none d e = rw (d, e) refl
 
 -- the first place and the last
 pub start-read : (s : List ℕ) (m : Patterns) → m ≡ loadedPatterns [] → ReadTo s (record { place = Start; patterns = m; bytes = 0 }) 0

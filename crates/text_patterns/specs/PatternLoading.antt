@@ -9,6 +9,7 @@ use mathlib.Core.List.{List, [], _∷_, _++_, map, map-map}
 use lib.ListN.{length, getD, take, replicate, length-map}
 use lib.Dec.{ltb}
 use borrow.Author.Tests.{ltb-false, lt-ltb, le-ltb}
+use Rattle.word.specs.Ceilings.{DIGITS, PATTERNS}
 use Rattle.word.specs.Lists.{row}
 use Rattle.word.specs.ListLaws.{below-or-not, length-row}
 use Rattle.word.specs.Containment.{isPattern}
@@ -114,36 +115,36 @@ abbrev kept : List ℕ → List ℕ
 kept u = patternIn (patternOf u)
 
 length-kept : (u : List ℕ) → length (kept u) ≡ length u
-length-kept u = length-padded (length u) (filled 8 0 u)
+length-kept u = length-padded (length u) (filled DIGITS 0 u)
 
 pub take-filled : (n : ℕ) (u v : List ℕ) → length u ≤ n → take (length u) (filled n 0 u ++ v) ≡ u
 take-filled n [] v h = refl
 take-filled zero (x ∷ u) v h = absurd (omega arith)
 take-filled (suc n) (x ∷ u) v h = ap (λ (l : List ℕ). x ∷ l) (take-filled n u v (omega arith))
 
-kept-same : (u : List ℕ) → length u ≤ 8 → kept u ≡ u
-kept-same u h = take-filled 8 u (replicate (length u) 0) h
+kept-same : (u : List ℕ) → length u ≤ DIGITS → kept u ≡ u
+kept-same u h = take-filled DIGITS u (replicate (length u) 0) h
 
--- the patterns in memory: their number is true, and up to 24 all are there
+-- the patterns in memory: their number is true, and up to PATTERNS all are there
 
 loaded-length : (P : List (List ℕ)) → length (patternsIn (loadedPatterns P)) ≡ length P
 unfolding loadedPatterns
-loaded-length P = places-length patternOf patternIn (patternOf []) noPattern 24 P
+loaded-length P = places-length patternOf patternIn (patternOf []) noPattern PATTERNS P
 
-loaded-kept : (P : List (List ℕ)) → length P ≤ 24 → patternsIn (loadedPatterns P) ≡ map kept P
+loaded-kept : (P : List (List ℕ)) → length P ≤ PATTERNS → patternsIn (loadedPatterns P) ≡ map kept P
 unfolding loadedPatterns
-loaded-kept P h = places-kept patternOf patternIn (patternOf []) noPattern 24 P h
+loaded-kept P h = places-kept patternOf patternIn (patternOf []) noPattern PATTERNS P h
 
 -- the test of the lengths
 
 abbrev long : List ℕ → Bool
-long β = ltb 8 (length β)
+long β = ltb DIGITS (length β)
 
 long-kept : (u : List ℕ) → long (kept u) ≡ long u
-long-kept u = ap (ltb 8) (length-kept u)
+long-kept u = ap (ltb DIGITS) (length-kept u)
 
 short-kept : (u : List ℕ) → long u ≡ false → kept u ≡ u
-short-kept u e = kept-same u (ltb-false 8 (length u) e)
+short-kept u e = kept-same u (ltb-false DIGITS (length u) e)
 
 -- the tests after those of the size
 abbrev patternRest : List (List ℕ) → List Finding
@@ -152,9 +153,9 @@ patternRest P = firstAt NoPermutation (λ β. not (isPattern β)) 0 P ∷ firstT
 -- the first fault of the patterns in memory is that of the list
 pub loaded-faults : (P : List (List ℕ)) → firstFault (patternTests (patternsIn (loadedPatterns P))) ≡ firstFault (patternTests P)
 loaded-faults P =
-    sized-faults long kept long-kept short-kept 24 patternRest P (patternsIn (loadedPatterns P)) (loaded-length P) (loaded-kept P)
+    sized-faults long kept long-kept short-kept PATTERNS patternRest P (patternsIn (loadedPatterns P)) (loaded-length P) (loaded-kept P)
 
 -- a list with no fault is in memory as it is
 pub loaded-same : (P : List (List ℕ)) → firstFault (patternTests P) ≡ clean → patternsIn (loadedPatterns P) ≡ P
 loaded-same P =
-    sized-same long kept long-kept short-kept 24 patternRest P (patternsIn (loadedPatterns P)) (loaded-length P) (loaded-kept P)
+    sized-same long kept long-kept short-kept PATTERNS patternRest P (patternsIn (loadedPatterns P)) (loaded-length P) (loaded-kept P)

@@ -4,6 +4,7 @@ use mathlib.Core.Bool.{true, false}
 use mathlib.Core.List.{List, [], _∷_, map}
 use mathlib.Core.Option.{Option, none, some}
 use lib.ListN.{length, set}
+use Rattle.word.specs.Ceilings.{DIGITS, PATTERNS}
 use Rattle.scheme.specs.declared.memory.Pattern.{Pattern}
 use Rattle.scheme.specs.declared.memory.Patterns.{Patterns}
 use Rattle.text_patterns.specs.declared.pattern_reader.PatternText.{PatternText}
@@ -15,10 +16,10 @@ filled (suc n) z [] = z ∷ filled n z []
 filled (suc n) z (x ∷ l) = x ∷ filled n z l
 
 abbrev pub patternOf : List ℕ → Pattern
-patternOf u = record { digits = filled 8 0 u; length = length u }
+patternOf u = record { digits = filled DIGITS 0 u; length = length u }
 
 unfoldable pub loadedPatterns : List (List ℕ) → Patterns
-loadedPatterns P = record { items = filled 24 (patternOf []) (map patternOf P); count = length P }
+loadedPatterns P = record { items = filled PATTERNS (patternOf []) (map patternOf P); count = length P }
 
 -- one pattern more: it is kept where there is room
 abbrev pub storedIn : Patterns → Pattern → Patterns

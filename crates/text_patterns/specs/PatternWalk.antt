@@ -5,10 +5,8 @@ use mathlib.Core.Bool.{Bool, true, false, cond}
 use mathlib.Core.List.{List, []}
 use mathlib.Core.Option.{Option, none, some}
 use lib.ListN.{length, drop}
-use lib.Dec.{eqb}
 use Rattle.scheme.specs.declared.memory.Patterns.{Patterns}
 use Rattle.text_grammar.specs.declared.cursor.Kind.{Kind}
-use Rattle.text_grammar.specs.declared.cursor.Kind.the-variants.{End, Digits, Epsilon, Empty, Left, Right, Byte}
 use Rattle.text_grammar.specs.declared.cursor.Step.{Step}
 use Rattle.text_patterns.specs.declared.pattern_reader.PatternText.{PatternText}
 use Rattle.text_patterns.specs.declared.pattern_reader.Place.{Place}
@@ -17,6 +15,7 @@ use Rattle.text_patterns.specs.declared.pattern_reader.Reading.{Reading}
 use Rattle.text_grammar.specs.Spelling.{Token}
 use Rattle.text_grammar.specs.Tokens.{tokens}
 use Rattle.text_grammar.specs.Cursor.{spanOf}
+use Rattle.text_grammar.specs.Kinds.{isEnd, isDigits, isEpsilon, isEmpty, isByte}
 use Rattle.text_patterns.specs.PatternGrammar.{item, separator, closed, readItems, readPatterns}
 use Rattle.text_patterns.specs.PatternMemory.{patternOf, storedIn, added, patternText}
 
@@ -31,68 +30,46 @@ goesOn Wrong = false
 
 -- what may come after a token of this kind
 abbrev pub placeAfter : Place → Kind → Place
-placeAfter Start End = Wrong
-placeAfter Start Digits = Wrong
-placeAfter Start Epsilon = Wrong
-placeAfter Start Empty = Behind
-placeAfter Start Left = Wrong
-placeAfter Start Right = Wrong
-placeAfter Start (Byte b) = cond (eqb b 0x7B) Item Wrong
-placeAfter Item End = Wrong
-placeAfter Item Digits = Separator
-placeAfter Item Epsilon = Separator
-placeAfter Item Empty = Wrong
-placeAfter Item Left = Wrong
-placeAfter Item Right = Wrong
-placeAfter Item (Byte b) = Wrong
-placeAfter Separator End = Wrong
-placeAfter Separator Digits = Wrong
-placeAfter Separator Epsilon = Wrong
-placeAfter Separator Empty = Wrong
-placeAfter Separator Left = Wrong
-placeAfter Separator Right = Wrong
-placeAfter Separator (Byte b) = cond (eqb b 0x2C) Item (cond (eqb b 0x7D) Behind Wrong)
-placeAfter Behind End = Spelt
-placeAfter Behind Digits = Wrong
-placeAfter Behind Epsilon = Wrong
-placeAfter Behind Empty = Wrong
-placeAfter Behind Left = Wrong
-placeAfter Behind Right = Wrong
-placeAfter Behind (Byte b) = Wrong
+placeAfter Start k = cond (isEmpty k) Behind (cond (isByte 0x7B k) Item Wrong)
+placeAfter Item k = cond (isDigits k) Separator (cond (isEpsilon k) Separator Wrong)
+placeAfter Separator k = cond (isByte 0x2C k) Item (cond (isByte 0x7D k) Behind Wrong)
+placeAfter Behind k = cond (isEnd k) Spelt (cond false Wrong Wrong)
 placeAfter Spelt k = Wrong
 placeAfter Wrong k = Wrong
 
 -- the patterns with an item of this kind; u is the run of digits at its place
 abbrev pub itemAfter : Kind → List ℕ → Patterns → Patterns
-itemAfter End u m = m
-itemAfter Digits u m = storedIn m (patternOf u)
-itemAfter Epsilon u m = storedIn m (patternOf [])
-itemAfter Empty u m = m
-itemAfter Left u m = m
-itemAfter Right u m = m
-itemAfter (Byte b) u m = m
+itemAfter k u m = cond (isDigits k) (storedIn m (patternOf u)) (cond (isEpsilon k) (storedIn m (patternOf [])) m)
+
+-- an item is due
+abbrev pub isItem : Place → Bool
+isItem Start = false
+isItem Item = true
+isItem Separator = false
+isItem Behind = false
+isItem Spelt = false
+isItem Wrong = false
 
 abbrev pub patternsAfter : Place → Kind → List ℕ → Patterns → Patterns
-patternsAfter Start k u m = m
-patternsAfter Item k u m = itemAfter k u m
-patternsAfter Separator k u m = m
-patternsAfter Behind k u m = m
-patternsAfter Spelt k u m = m
-patternsAfter Wrong k u m = m
+patternsAfter p k u m = cond (isItem p) (itemAfter k u m) m
 
 -- the token t can be counted among the patterns m
 pub record Storable (s : List ℕ) (t : Step) (m : Patterns) : Type 0 where
   pub span : t .next .at ≡ t .from + spanOf (t .kind) (drop (t .from) s)
   pub few : m .count < 18446744073709551615
 
+-- the text is read
+abbrev pub isSpelt : Place → Bool
+isSpelt Start = false
+isSpelt Item = false
+isSpelt Separator = false
+isSpelt Behind = false
+isSpelt Spelt = true
+isSpelt Wrong = false
+
 -- what was read, once nothing may come next
 abbrev pub textAt : Place → Patterns → PatternText
-textAt Start m = patternText none
-textAt Item m = patternText none
-textAt Separator m = patternText none
-textAt Behind m = patternText none
-textAt Spelt m = record { spelt = true; patterns = m }
-textAt Wrong m = patternText none
+textAt p m = cond (isSpelt p) (record { spelt = true; patterns = m }) (patternText none)
 
 abbrev pub textWith : Patterns → Option (List (List ℕ)) → PatternText
 textWith m none = patternText none

@@ -4,17 +4,24 @@ use scheme::memory::Patterns;
 use text_grammar::cursor::Cursor;
 use text_grammar::cursor::Kind;
 use text_grammar::cursor::Step;
+use text_grammar::kinds::is_byte;
+use text_grammar::kinds::is_digits;
+use text_grammar::kinds::is_empty;
+use text_grammar::kinds::is_end;
+use text_grammar::kinds::is_epsilon;
 use word::limits::DIGITS;
 use word::limits::PATTERNS;
 ghost use mathlib.Core.Path.{_≡_};
 ghost use Prim.Native.Nat.{_<_};
+ghost use mathlib.Core.Bool.{cond};
 ghost use mathlib.Core.List.{[]};
 ghost use mathlib.Core.Option.{none};
 ghost use lib.ListN.{length, drop};
+ghost use Rattle.word.specs.Ceilings.{DIGITS};
 ghost use Rattle.text_grammar.specs.Tokens.{run, tokens};
 ghost use Rattle.text_patterns.specs.PatternGrammar.{readPatterns};
 ghost use Rattle.text_patterns.specs.PatternMemory.{filled, loadedPatterns, storedIn, patternText};
-ghost use Rattle.text_patterns.specs.PatternWalk.{Ready, Storable, Advanced, goesOn, placeAfter, itemAfter, patternsAfter, textAt};
+ghost use Rattle.text_patterns.specs.PatternWalk.{Ready, Storable, Advanced, goesOn, isItem, isSpelt, placeAfter, itemAfter, patternsAfter, textAt};
 
 // What a text spells: whether it spells a pattern set, and the set. The count is the true number of patterns, each length the true number
 // of digits; the first 24 patterns are kept, of each the first 8 digits. Where the text spells none, the set is empty.
@@ -76,6 +83,34 @@ fn goes_on(place: Place) -> bool
     }
 }
 
+// Whether an item is due.
+fn is_item(place: Place) -> bool
+    ensures { λ r. ⌜ r ≡ isItem place ⌝ }
+{
+    match place {
+        Place::Start => false,
+        Place::Item => true,
+        Place::Separator => false,
+        Place::Behind => false,
+        Place::Spelt => false,
+        Place::Wrong => false,
+    }
+}
+
+// Whether the text is read.
+fn is_spelt(place: Place) -> bool
+    ensures { λ r. ⌜ r ≡ isSpelt place ⌝ }
+{
+    match place {
+        Place::Start => false,
+        Place::Item => false,
+        Place::Separator => false,
+        Place::Behind => false,
+        Place::Spelt => true,
+        Place::Wrong => false,
+    }
+}
+
 // The reading with one token more, the one with which the text begins.
 fn advance(s: &[u8], m: Reading) -> Reading
     requires { ⌜ Ready m ⌝ }
@@ -94,86 +129,48 @@ fn advance(s: &[u8], m: Reading) -> Reading
     }
 }
 
-// What may come after a token.
+// What may come after a token. First comes ∅ or the opening brace; after the opening brace and after
+// a comma an item; after an item a comma or the closing brace; after ∅ and after the closing brace
+// the text ends.
 fn place_after(place: Place, kind: Kind) -> Place
     ensures { λ r. ⌜ r ≡ placeAfter place kind ⌝ }
 {
     match place {
-        Place::Start => after_start(kind),
-        Place::Item => after_opening(kind),
-        Place::Separator => after_item(kind),
-        Place::Behind => after_closing(kind),
+        Place::Start => either(
+            is_empty(kind),
+            Place::Behind,
+            is_byte(kind, b'{'),
+            Place::Item,
+        ),
+        Place::Item => either(
+            is_digits(kind),
+            Place::Separator,
+            is_epsilon(kind),
+            Place::Separator,
+        ),
+        Place::Separator => either(
+            is_byte(kind, b','),
+            Place::Item,
+            is_byte(kind, b'}'),
+            Place::Behind,
+        ),
+        Place::Behind => either(is_end(kind), Place::Spelt, false, Place::Wrong),
         Place::Spelt => Place::Wrong,
         Place::Wrong => Place::Wrong,
     }
 }
 
-// First comes ∅ or the opening brace.
-fn after_start(kind: Kind) -> Place
-    ensures { λ r. ⌜ r ≡ placeAfter Place.Start kind ⌝ }
+// The place of the test that holds.
+fn either(first: bool, a: Place, second: bool, b: Place) -> Place
+    ensures { λ r. ⌜ r ≡ cond first a (cond second b Place.Wrong) ⌝ }
 {
-    match kind {
-        Kind::Empty => Place::Behind,
-        Kind::Byte(b) => { if b == b'{' { Place::Item } else { Place::Wrong } }
-        Kind::End => Place::Wrong,
-        Kind::Digits => Place::Wrong,
-        Kind::Epsilon => Place::Wrong,
-        Kind::Left => Place::Wrong,
-        Kind::Right => Place::Wrong,
+    if first {
+        return a;
     }
-}
-
-// After the opening brace and after a comma comes an item.
-fn after_opening(kind: Kind) -> Place
-    ensures { λ r. ⌜ r ≡ placeAfter Place.Item kind ⌝ }
-{
-    match kind {
-        Kind::Digits => Place::Separator,
-        Kind::Epsilon => Place::Separator,
-        Kind::End => Place::Wrong,
-        Kind::Empty => Place::Wrong,
-        Kind::Left => Place::Wrong,
-        Kind::Right => Place::Wrong,
-        Kind::Byte(_) => Place::Wrong,
+    if second {
+        return b;
     }
-}
-
-// After an item comes a comma or the closing brace.
-fn after_item(kind: Kind) -> Place
-    ensures { λ r. ⌜ r ≡ placeAfter Place.Separator kind ⌝ }
-{
-    match kind {
-        Kind::Byte(b) => {
-            if b == b',' {
-                Place::Item
-            } else if b == b'}' {
-                Place::Behind
-            } else {
-                Place::Wrong
-            }
-        }
-        Kind::End => Place::Wrong,
-        Kind::Digits => Place::Wrong,
-        Kind::Epsilon => Place::Wrong,
-        Kind::Empty => Place::Wrong,
-        Kind::Left => Place::Wrong,
-        Kind::Right => Place::Wrong,
-    }
-}
-
-// After ∅ and after the closing brace the text ends.
-fn after_closing(kind: Kind) -> Place
-    ensures { λ r. ⌜ r ≡ placeAfter Place.Behind kind ⌝ }
-{
-    match kind {
-        Kind::End => Place::Spelt,
-        Kind::Digits => Place::Wrong,
-        Kind::Epsilon => Place::Wrong,
-        Kind::Empty => Place::Wrong,
-        Kind::Left => Place::Wrong,
-        Kind::Right => Place::Wrong,
-        Kind::Byte(_) => Place::Wrong,
-    }
+    Place::Wrong
 }
 
 // The patterns with the token, where it is an item.
@@ -181,14 +178,10 @@ fn patterns_after(s: &[u8], place: Place, t: Step, patterns: Patterns) -> Patter
     requires { ⌜ Storable (now s) t patterns ⌝ }
     ensures { λ r. ⌜ r ≡ patternsAfter place (t .kind) (run (drop (t .from) (now (s .entry)))) patterns ⌝ }
 {
-    match place {
-        Place::Item => with_item(s, t, patterns),
-        Place::Start => patterns,
-        Place::Separator => patterns,
-        Place::Behind => patterns,
-        Place::Spelt => patterns,
-        Place::Wrong => patterns,
+    if is_item(place) {
+        return with_item(s, t, patterns);
     }
+    patterns
 }
 
 // The patterns with a run of digits, or ε, as one more; unchanged for any other token.
@@ -197,38 +190,34 @@ fn with_item(s: &[u8], t: Step, patterns: Patterns) -> Patterns
     ensures { λ r. ⌜ r ≡ itemAfter (t .kind) (run (drop (t .from) (now (s .entry)))) patterns ⌝ }
 {
     let kind = t.kind;
-    match kind {
-        Kind::Digits => {
-            let from = t.from;
-            let len = t.next.at - from;
-            let digits = digits_at(s, from, len);
-            stored(
-                patterns,
-                Pattern {
-                    digits,
-                    length: len,
-                },
-            )
-        }
-        Kind::Epsilon => stored(
+    if is_digits(kind) {
+        let from = t.from;
+        let len = t.next.at - from;
+        let digits = digits_at(s, from, len);
+        return stored(
+            patterns,
+            Pattern {
+                digits,
+                length: len,
+            },
+        );
+    }
+    if is_epsilon(kind) {
+        return stored(
             patterns,
             Pattern {
                 digits: [0u8; DIGITS],
                 length: 0,
             },
-        ),
-        Kind::End => patterns,
-        Kind::Empty => patterns,
-        Kind::Left => patterns,
-        Kind::Right => patterns,
-        Kind::Byte(_) => patterns,
+        );
     }
+    patterns
 }
 
 // The first eight digits of the run that stands from `from` on, as their values, and zeros after them.
 fn digits_at(s: &[u8], from: usize, len: usize) -> [u8; DIGITS]
     requires { ⌜ len ≡ length (run (drop from (now s))) ⌝ }
-    ensures { λ r. ⌜ r ≡ filled 8 0 (run (drop from (now (s .entry)))) ⌝ }
+    ensures { λ r. ⌜ r ≡ filled DIGITS 0 (run (drop from (now (s .entry)))) ⌝ }
 {
     let mut digits = [0u8; DIGITS];
     let mut i: usize = 0;
@@ -282,17 +271,13 @@ fn text_of(m: Reading) -> PatternText
 {
     let place = m.place;
     let patterns = m.patterns;
-    match place {
-        Place::Spelt => PatternText {
+    if is_spelt(place) {
+        return PatternText {
             spelt: true,
             patterns,
-        },
-        Place::Start => misspelt(),
-        Place::Item => misspelt(),
-        Place::Separator => misspelt(),
-        Place::Behind => misspelt(),
-        Place::Wrong => misspelt(),
+        };
     }
+    misspelt()
 }
 
 // The answer to a text that spells no pattern set.

@@ -10,6 +10,7 @@ use lib.ListN.{length, drop, set, take, length-drop}
 use lib.Seq.{set-out, drop-drop}
 use lib.Dec.{eqb}
 use borrow.Author.Tests.{ne-eqb}
+use Rattle.word.specs.Ceilings.{PREFIX}
 use Rattle.word.specs.Lists.{all}
 use Rattle.word.specs.ListLaws.{and-left, and-right}
 use Rattle.scheme.specs.SchemeList.{Does, expands, deletes, EntryList}
@@ -41,7 +42,8 @@ use Rattle.text_schemes.specs.EntryReading.{MarkAt, ChoiceAt, prefixOf, 
 use Rattle.text_grammar.proofs.CursorLaws.{tail-is}
 use Rattle.text_grammar.specs.Kinds.{isDigits, isEmpty, isByte, isEpsilon, isEnd}
 use Rattle.text_gaps.proofs.TextItemLaws.{same-byte}
-use Rattle.text_gaps.proofs.GapNumberLaws.{is-digits, run-length}
+use Rattle.text_grammar.specs.KindLaws.{is-digits, is-epsilon, is-empty, is-byte}
+use Rattle.text_gaps.proofs.GapNumberLaws.{run-length}
 
 -- a mark against a token
 
@@ -69,13 +71,7 @@ pick-second true ts = refl
 pick-second false ts = refl
 
 open-first : (k : Kind) (t : List ℕ) (ts : List Token) → isEmpty k ≡ true → chosen empty (byte 0x7B) (tokensBy k t ts) ≡ got true ts
-open-first End t ts h = absurd (false≢true h)
-open-first Digits t ts h = absurd (false≢true h)
-open-first Epsilon t ts h = absurd (false≢true h)
-open-first Empty t ts h = refl
-open-first Left t ts h = absurd (false≢true h)
-open-first Right t ts h = absurd (false≢true h)
-open-first (Byte b) t ts h = absurd (false≢true h)
+open-first k t ts h = ap (λ (j : Kind). chosen empty (byte 0x7B) (tokensBy j t ts)) (is-empty k h)
 
 open-other : (k : Kind) (t : List ℕ) (ts : List Token) → isEmpty k ≡ false → chosen empty (byte 0x7B) (tokensBy k t ts) ≡ found (isByte 0x7B k) false ts
 open-other End t ts h = refl
@@ -87,13 +83,7 @@ open-other Right t ts h = refl
 open-other (Byte b) t ts h = rw (no-empty b, same-byte 0x7B b) (pick-second (eqb b 0x7B) ts)
 
 close-first : (k : Kind) (t : List ℕ) (ts : List Token) → isByte 0x7D k ≡ true → chosen (byte 0x7D) comma (tokensBy k t ts) ≡ got true ts
-close-first End t ts h = absurd (false≢true h)
-close-first Digits t ts h = absurd (false≢true h)
-close-first Epsilon t ts h = absurd (false≢true h)
-close-first Empty t ts h = absurd (false≢true h)
-close-first Left t ts h = absurd (false≢true h)
-close-first Right t ts h = absurd (false≢true h)
-close-first (Byte b) t ts h = rw (same-byte 0x7D b, h) refl
+close-first k t ts h = ap (λ (j : Kind). chosen (byte 0x7D) comma (tokensBy j t ts)) (is-byte 0x7D k h)
 
 close-other : (k : Kind) (t : List ℕ) (ts : List Token) → isByte 0x7D k ≡ false → chosen (byte 0x7D) comma (tokensBy k t ts) ≡ found (isByte 0x2C k) false ts
 close-other End t ts h = refl
@@ -115,33 +105,6 @@ past Left a r h e = h
 past Right a r h e = h
 past (Byte b) a r h e = h
 
-byte-past : (n : ℕ) (k : Kind) → isByte n k ≡ true → isEnd k ≡ false
-byte-past n End h = absurd (false≢true h)
-byte-past n Digits h = refl
-byte-past n Epsilon h = refl
-byte-past n Empty h = refl
-byte-past n Left h = refl
-byte-past n Right h = refl
-byte-past n (Byte b) h = refl
-
-empty-past : (k : Kind) → isEmpty k ≡ true → isEnd k ≡ false
-empty-past End h = absurd (false≢true h)
-empty-past Digits h = refl
-empty-past Epsilon h = refl
-empty-past Empty h = refl
-empty-past Left h = refl
-empty-past Right h = refl
-empty-past (Byte b) h = refl
-
-epsilon-past : (k : Kind) → isEpsilon k ≡ true → isEnd k ≡ false
-epsilon-past End h = absurd (false≢true h)
-epsilon-past Digits h = refl
-epsilon-past Epsilon h = refl
-epsilon-past Empty h = refl
-epsilon-past Left h = refl
-epsilon-past Right h = refl
-epsilon-past (Byte b) h = refl
-
 module _ (s : List ℕ) (at : ℕ) (t : Step) (w : Stepped s at t) where
   moved-by : (b : Bool) → (b ≡ true → isEnd (t .kind) ≡ false) → Moved s at (t .next .at) b
   moved-by b h = record { onward = λ e. past (t .kind) at (t .next .at) (w .beyond) (h e); inside = w .inside }
@@ -153,14 +116,14 @@ module _ (s : List ℕ) (at : ℕ) (t : Step) (w : Stepped s at t) where
   marked n b e =
       record {
         gives = ap (expect {A = ℕ} (byte n) (got 0)) (w .gives) ∙ mark-by n (t .kind) (drop (t .from) s) rest ∙ ap (λ (c : Bool). found c 0 rest) (sym e);
-        moved = moved-by b (λ h. byte-past n (t .kind) (sym e ∙ h));
+        moved = moved-by b (λ h. ap isEnd (is-byte n (t .kind) (sym e ∙ h)));
       }
 
   pub opened : (b : Bool) → b ≡ isEmpty (t .kind) → b ≡ true → ChoiceAt empty (byte 0x7B) s at (record { spelt = true; first = true; next = t .next })
   opened b e h =
       record {
         gives = ap (chosen empty (byte 0x7B)) (w .gives) ∙ open-first (t .kind) (drop (t .from) s) rest (sym e ∙ h);
-        moved = moved-by true (λ _. empty-past (t .kind) (sym e ∙ h));
+        moved = moved-by true (λ _. ap isEnd (is-empty (t .kind) (sym e ∙ h)));
       }
 
   pub opened-other : (b c : Bool) → b ≡ isEmpty (t .kind) → b ≡ false → c ≡ isByte 0x7B (t .kind)
@@ -169,14 +132,14 @@ module _ (s : List ℕ) (at : ℕ) (t : Step) (w : Stepped s at t) where
       record {
         gives = ap (chosen empty (byte 0x7B)) (w .gives) ∙ open-other (t .kind) (drop (t .from) s) rest (sym e ∙ h)
             ∙ ap (λ (d : Bool). found d false rest) (sym f);
-        moved = moved-by c (λ g. byte-past 0x7B (t .kind) (sym f ∙ g));
+        moved = moved-by c (λ g. ap isEnd (is-byte 0x7B (t .kind) (sym f ∙ g)));
       }
 
   pub closed : (b : Bool) → b ≡ isByte 0x7D (t .kind) → b ≡ true → ChoiceAt (byte 0x7D) comma s at (record { spelt = true; first = true; next = t .next })
   closed b e h =
       record {
         gives = ap (chosen (byte 0x7D) comma) (w .gives) ∙ close-first (t .kind) (drop (t .from) s) rest (sym e ∙ h);
-        moved = moved-by true (λ _. byte-past 0x7D (t .kind) (sym e ∙ h));
+        moved = moved-by true (λ _. ap isEnd (is-byte 0x7D (t .kind) (sym e ∙ h)));
       }
 
   pub closed-other : (b c : Bool) → b ≡ isByte 0x7D (t .kind) → b ≡ false → c ≡ isByte 0x2C (t .kind)
@@ -185,7 +148,7 @@ module _ (s : List ℕ) (at : ℕ) (t : Step) (w : Stepped s at t) where
       record {
         gives = ap (chosen (byte 0x7D) comma) (w .gives) ∙ close-other (t .kind) (drop (t .from) s) rest (sym e ∙ h)
             ∙ ap (λ (d : Bool). found d false rest) (sym f);
-        moved = moved-by c (λ g. byte-past 0x2C (t .kind) (sym f ∙ g));
+        moved = moved-by c (λ g. ap isEnd (is-byte 0x2C (t .kind) (sym f ∙ g)));
       }
 
 -- prefixes
@@ -212,7 +175,7 @@ abbrev prefix-got : List ℕ → ℕ → List Token → Read Prefix
 prefix-got l n ts = got (record { digits = l; length = n }) ts
 
 module _ (s : List ℕ) (at : ℕ) (t : Step) (w : Stepped s at t) where
-  pub prefixed : isDigits (t .kind) ≡ true → (d : List ℕ) → d ≡ filled 6 0 (run (drop (t .from) s))
+  pub prefixed : isDigits (t .kind) ≡ true → (d : List ℕ) → d ≡ filled PREFIX 0 (run (drop (t .from) s))
       → PrefixAt s at (record { spelt = true; prefix = record { digits = d; length = t .next .at - t .from }; next = t .next })
   prefixed h d e =
       let k = is-digits (t .kind) h in
@@ -231,7 +194,7 @@ module _ (s : List ℕ) (at : ℕ) (t : Step) (w : Stepped s at t) where
         gives = ap (λ (ts : List Token). kept prefixOf (readPerm ts)) (w .gives)
             ∙ other-perm (t .kind) (drop (t .from) s) (tokens (drop (t .next .at) s)) h
             ∙ ap (λ (d : Bool). found d (prefixOf []) (tokens (drop (t .next .at) s))) (sym e);
-        moved = moved-by s at t w b (λ g. epsilon-past (t .kind) (sym e ∙ g));
+        moved = moved-by s at t w b (λ g. ap isEnd (is-epsilon (t .kind) (sym e ∙ g)));
       }
 
 -- the scheme with one entry more

@@ -6,6 +6,7 @@ use mathlib.Core.Bool.{Bool, true, false}
 use mathlib.Core.List.{List, [], _∷_}
 use mathlib.Core.Option.{none}
 use lib.ListN.{length, drop, set}
+use Rattle.word.specs.Ceilings.{PREFIX}
 use Rattle.scheme.specs.SchemeList.{Does, EntryList}
 use Rattle.scheme.specs.declared.memory.Entry.{Entry}
 use Rattle.scheme.specs.declared.memory.Scheme.{Scheme}
@@ -38,7 +39,7 @@ pub record ChoiceAt (t u : Token) (s : List ℕ) (at : ℕ) (r : Choice) : Type 
 -- the parts of an entry
 
 abbrev pub prefixOf : List ℕ → Prefix
-prefixOf p = record { digits = filled 6 0 p; length = length p }
+prefixOf p = record { digits = filled PREFIX 0 p; length = length p }
 
 abbrev pub readHead : List Token → Read (List ℕ)
 readHead ts = expect (byte 0x28) (λ a. after (readPerm a) (λ p b. expect comma (got p) b)) ts

@@ -2,6 +2,7 @@
 -- of each vector the first 7 components. Definitions only.
 use mathlib.Core.List.{List, [], map}
 use lib.ListN.{length}
+use Rattle.word.specs.Ceilings.{ENTRIES, PREFIX, GAPS}
 use Rattle.scheme.specs.SchemeList.{Does, expands, deletes, EntryList}
 use Rattle.scheme.specs.declared.memory.Rule.{Rule}
 use Rattle.scheme.specs.declared.memory.Rule.the-variants.{Expand, Delete}
@@ -17,9 +18,9 @@ ruleOf (deletes r) = Delete r
 abbrev pub entryOf : EntryList → Entry
 entryOf e =
     record {
-      prefix = filled 6 0 (e .prefix);
+      prefix = filled PREFIX 0 (e .prefix);
       length = length (e .prefix);
-      gaps = filled 8 (gapOf []) (map gapOf (e .gaps));
+      gaps = filled GAPS (gapOf []) (map gapOf (e .gaps));
       «gap_count» = length (e .gaps);
       rule = ruleOf (e .rule);
     }
@@ -29,4 +30,4 @@ abbrev pub plainEntry : EntryList
 plainEntry = record { prefix = []; gaps = []; rule = expands }
 
 unfoldable pub loadedScheme : List EntryList → Scheme
-loadedScheme E = record { entries = filled 128 (entryOf plainEntry) (map entryOf E); count = length E }
+loadedScheme E = record { entries = filled ENTRIES (entryOf plainEntry) (map entryOf E); count = length E }

@@ -8,6 +8,7 @@ use mathlib.Core.List.{List, [], _∷_, _++_, map}
 use lib.ListN.{length, getD, take, replicate, length-map}
 use lib.Dec.{ltb}
 use borrow.Author.Tests.{ltb-false, lt-ltb, le-leb, lt-leb}
+use Rattle.word.specs.Ceilings.{ENTRIES, PREFIX, COMPONENTS, GAPS, TOTAL}
 use Rattle.word.specs.Lists.{row, any}
 use Rattle.word.specs.ListLaws.{below-or-not}
 use Rattle.word.specs.Word.{isPerm}
@@ -54,35 +55,35 @@ abbrev keptGap : List ℕ → List ℕ
 keptGap b = gapIn (gapOf b)
 
 length-gap : (b : List ℕ) → length (keptGap b) ≡ length b
-length-gap b = length-padded (length b) (filled 7 0 (map partOf b))
+length-gap b = length-padded (length b) (filled COMPONENTS 0 (map partOf b))
 
-short-gap : (b : List ℕ) → length b ≤ 7 → keptGap b ≡ map partOf b
+short-gap : (b : List ℕ) → length b ≤ COMPONENTS → keptGap b ≡ map partOf b
 short-gap b h =
-    ap (λ (n : ℕ). take n (filled 7 0 (map partOf b) ++ replicate (length b) 0)) (sym (length-map b partOf))
-    ∙ take-filled 7 (map partOf b) (replicate (length b) 0) (omega (arith, length-map b partOf))
+    ap (λ (n : ℕ). take n (filled COMPONENTS 0 (map partOf b) ++ replicate (length b) 0)) (sym (length-map b partOf))
+    ∙ take-filled COMPONENTS (map partOf b) (replicate (length b) 0) (omega (arith, length-map b partOf))
 
-large-part : (b : List ℕ) → ltb 8 (total (map partOf b)) ≡ ltb 8 (total b)
+large-part : (b : List ℕ) → ltb TOTAL (total (map partOf b)) ≡ ltb TOTAL (total b)
 large-part b = step (capped b)
   where
-    step : (map partOf b ≡ b) ⊎ ((255 ≤ total (map partOf b)) × (255 ≤ total b)) → ltb 8 (total (map partOf b)) ≡ ltb 8 (total b)
-    step (inl e) = ap (λ (c : List ℕ). ltb 8 (total c)) e
-    step (inr (p, q)) = lt-ltb 8 (total (map partOf b)) (omega arith) ∙ sym (lt-ltb 8 (total b) (omega arith))
+    step : (map partOf b ≡ b) ⊎ ((255 ≤ total (map partOf b)) × (255 ≤ total b)) → ltb TOTAL (total (map partOf b)) ≡ ltb TOTAL (total b)
+    step (inl e) = ap (λ (c : List ℕ). ltb TOTAL (total c)) e
+    step (inr (p, q)) = lt-ltb TOTAL (total (map partOf b)) (omega arith) ∙ sym (lt-ltb TOTAL (total b) (omega arith))
 
 large-gap-kept : (b : List ℕ) → largeGap (keptGap b) ≡ largeGap b
-large-gap-kept b = step (below-or-not 7 (length b))
+large-gap-kept b = step (below-or-not COMPONENTS (length b))
   where
-    long : (c : List ℕ) → 7 < length c → largeGap c ≡ true
-    long c h = ap (λ (t : Bool). t || ltb 8 (total c)) (lt-ltb 7 (length c) h)
+    long : (c : List ℕ) → COMPONENTS < length c → largeGap c ≡ true
+    long c h = ap (λ (t : Bool). t || ltb TOTAL (total c)) (lt-ltb COMPONENTS (length c) h)
 
-    step : (7 < length b) ⊎ (length b ≤ 7) → largeGap (keptGap b) ≡ largeGap b
+    step : (COMPONENTS < length b) ⊎ (length b ≤ COMPONENTS) → largeGap (keptGap b) ≡ largeGap b
     step (inl h) = long (keptGap b) (omega (arith, length-gap b)) ∙ sym (long b h)
-    step (inr h) = ap largeGap (short-gap b h) ∙ ap₂ _||_ (ap (ltb 7) (length-map b partOf)) (large-part b)
+    step (inr h) = ap largeGap (short-gap b h) ∙ ap₂ _||_ (ap (ltb COMPONENTS) (length-map b partOf)) (large-part b)
 
 small-gap-same : (b : List ℕ) → largeGap b ≡ false → keptGap b ≡ b
-small-gap-same b e = short-gap b (ltb-false 7 (length b) (or-left (ltb 7 (length b)) (ltb 8 (total b)) e)) ∙ step (capped b)
+small-gap-same b e = short-gap b (ltb-false COMPONENTS (length b) (or-left (ltb COMPONENTS (length b)) (ltb TOTAL (total b)) e)) ∙ step (capped b)
   where
-    small : total b ≤ 8
-    small = ltb-false 8 (total b) (or-right (ltb 7 (length b)) (ltb 8 (total b)) e)
+    small : total b ≤ TOTAL
+    small = ltb-false TOTAL (total b) (or-right (ltb COMPONENTS (length b)) (ltb TOTAL (total b)) e)
 
     step : (map partOf b ≡ b) ⊎ ((255 ≤ total (map partOf b)) × (255 ≤ total b)) → map partOf b ≡ b
     step (inl k) = k
@@ -100,31 +101,31 @@ none-large-same (b ∷ B) e =
     ap₂ _∷_ (small-gap-same b (or-left (largeGap b) (any largeGap B) e)) (none-large-same B (or-right (largeGap b) (any largeGap B) e))
 
 abbrev keptGaps : List (List ℕ) → List (List ℕ)
-keptGaps B = map (λ i. gapIn (getD (filled 8 (gapOf []) (map gapOf B)) i noGap)) (row 0 (length B))
+keptGaps B = map (λ i. gapIn (getD (filled GAPS (gapOf []) (map gapOf B)) i noGap)) (row 0 (length B))
 
 length-gaps : (B : List (List ℕ)) → length (keptGaps B) ≡ length B
-length-gaps B = places-length gapOf gapIn (gapOf []) noGap 8 B
+length-gaps B = places-length gapOf gapIn (gapOf []) noGap GAPS B
 
-few-gaps : (B : List (List ℕ)) → length B ≤ 8 → keptGaps B ≡ map keptGap B
-few-gaps B h = places-kept gapOf gapIn (gapOf []) noGap 8 B h
+few-gaps : (B : List (List ℕ)) → length B ≤ GAPS → keptGaps B ≡ map keptGap B
+few-gaps B h = places-kept gapOf gapIn (gapOf []) noGap GAPS B h
 
 abbrev largeGaps : List (List ℕ) → Bool
-largeGaps B = ltb 8 (length B) || any largeGap B
+largeGaps B = ltb GAPS (length B) || any largeGap B
 
 large-gaps-kept : (B : List (List ℕ)) → largeGaps (keptGaps B) ≡ largeGaps B
-large-gaps-kept B = step (below-or-not 8 (length B))
+large-gaps-kept B = step (below-or-not GAPS (length B))
   where
-    many : (C : List (List ℕ)) → 8 < length C → largeGaps C ≡ true
-    many C h = ap (λ (t : Bool). t || any largeGap C) (lt-ltb 8 (length C) h)
+    many : (C : List (List ℕ)) → GAPS < length C → largeGaps C ≡ true
+    many C h = ap (λ (t : Bool). t || any largeGap C) (lt-ltb GAPS (length C) h)
 
-    step : (8 < length B) ⊎ (length B ≤ 8) → largeGaps (keptGaps B) ≡ largeGaps B
+    step : (GAPS < length B) ⊎ (length B ≤ GAPS) → largeGaps (keptGaps B) ≡ largeGaps B
     step (inl h) = many (keptGaps B) (omega (arith, length-gaps B)) ∙ sym (many B h)
-    step (inr h) = ap₂ _||_ (ap (ltb 8) (length-gaps B)) (ap (any largeGap) (few-gaps B h) ∙ any-large-kept B)
+    step (inr h) = ap₂ _||_ (ap (ltb GAPS) (length-gaps B)) (ap (any largeGap) (few-gaps B h) ∙ any-large-kept B)
 
 small-gaps-same : (B : List (List ℕ)) → largeGaps B ≡ false → keptGaps B ≡ B
 small-gaps-same B e =
-    few-gaps B (ltb-false 8 (length B) (or-left (ltb 8 (length B)) (any largeGap B) e))
-    ∙ none-large-same B (or-right (ltb 8 (length B)) (any largeGap B) e)
+    few-gaps B (ltb-false GAPS (length B) (or-left (ltb GAPS (length B)) (any largeGap B) e))
+    ∙ none-large-same B (or-right (ltb GAPS (length B)) (any largeGap B) e)
 
 -- one entry in memory
 
@@ -133,7 +134,7 @@ keptEntry e = entryIn (entryOf e)
 
 large-entry-kept : (e : EntryList) → largeEntry (keptEntry e) ≡ largeEntry e
 large-entry-kept e =
-    ap₂ _||_ (ap (ltb 6) (length-padded (length (e .prefix)) (filled 6 0 (e .prefix)))) (large-gaps-kept (e .gaps))
+    ap₂ _||_ (ap (ltb PREFIX) (length-padded (length (e .prefix)) (filled PREFIX 0 (e .prefix)))) (large-gaps-kept (e .gaps))
 
 rule-same : (r : Does) → doesOf (ruleOf r) ≡ r
 rule-same expands = refl
@@ -141,21 +142,21 @@ rule-same (deletes r) = refl
 
 small-entry-same : (e : EntryList) → largeEntry e ≡ false → keptEntry e ≡ e
 small-entry-same e h =
-    let p : padded (length (e .prefix)) (filled 6 0 (e .prefix)) ≡ e .prefix =
-    take-filled 6 (e .prefix) (replicate (length (e .prefix)) 0)
-    (ltb-false 6 (length (e .prefix)) (or-left (ltb 6 (length (e .prefix))) (largeGaps (e .gaps)) h)) in
-    let g : keptGaps (e .gaps) ≡ e .gaps = small-gaps-same (e .gaps) (or-right (ltb 6 (length (e .prefix))) (largeGaps (e .gaps)) h) in
+    let p : padded (length (e .prefix)) (filled PREFIX 0 (e .prefix)) ≡ e .prefix =
+    take-filled PREFIX (e .prefix) (replicate (length (e .prefix)) 0)
+    (ltb-false PREFIX (length (e .prefix)) (or-left (ltb PREFIX (length (e .prefix))) (largeGaps (e .gaps)) h)) in
+    let g : keptGaps (e .gaps) ≡ e .gaps = small-gaps-same (e .gaps) (or-right (ltb PREFIX (length (e .prefix))) (largeGaps (e .gaps)) h) in
     let r : doesOf (ruleOf (e .rule)) ≡ e .rule = rule-same (e .rule) in rw (p, g, r) refl
 
--- the entries in memory: their number is true, and up to 128 all are there
+-- the entries in memory: their number is true, and up to ENTRIES all are there
 
 loaded-length : (E : List EntryList) → length (schemeIn (loadedScheme E)) ≡ length E
 unfolding loadedScheme
-loaded-length E = places-length entryOf entryIn (entryOf plainEntry) noEntry 128 E
+loaded-length E = places-length entryOf entryIn (entryOf plainEntry) noEntry ENTRIES E
 
-loaded-kept : (E : List EntryList) → length E ≤ 128 → schemeIn (loadedScheme E) ≡ map keptEntry E
+loaded-kept : (E : List EntryList) → length E ≤ ENTRIES → schemeIn (loadedScheme E) ≡ map keptEntry E
 unfolding loadedScheme
-loaded-kept E h = places-kept entryOf entryIn (entryOf plainEntry) noEntry 128 E h
+loaded-kept E h = places-kept entryOf entryIn (entryOf plainEntry) noEntry ENTRIES E h
 
 -- the tests after those of the size
 abbrev schemeRest : List EntryList → List Finding
@@ -169,9 +170,9 @@ schemeRest E =
 -- the first fault of the entries in memory is that of the list
 pub loaded-scheme-faults : (E : List EntryList) → firstFault (schemeTests (schemeIn (loadedScheme E))) ≡ firstFault (schemeTests E)
 loaded-scheme-faults E =
-    sized-faults largeEntry keptEntry large-entry-kept small-entry-same 128 schemeRest E (schemeIn (loadedScheme E)) (loaded-length E) (loaded-kept E)
+    sized-faults largeEntry keptEntry large-entry-kept small-entry-same ENTRIES schemeRest E (schemeIn (loadedScheme E)) (loaded-length E) (loaded-kept E)
 
 -- a list with no fault is in memory as it is
 pub loaded-scheme-same : (E : List EntryList) → firstFault (schemeTests E) ≡ clean → schemeIn (loadedScheme E) ≡ E
 loaded-scheme-same E =
-    sized-same largeEntry keptEntry large-entry-kept small-entry-same 128 schemeRest E (schemeIn (loadedScheme E)) (loaded-length E) (loaded-kept E)
+    sized-same largeEntry keptEntry large-entry-kept small-entry-same ENTRIES schemeRest E (schemeIn (loadedScheme E)) (loaded-length E) (loaded-kept E)

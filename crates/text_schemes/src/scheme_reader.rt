@@ -25,6 +25,7 @@ ghost use mathlib.Core.Path.{_≡_};
 ghost use mathlib.Core.Bool.{not, _&&_};
 ghost use mathlib.Core.List.{[]};
 ghost use lib.ListN.{length, drop};
+ghost use Rattle.word.specs.Ceilings.{PREFIX};
 ghost use Rattle.text_grammar.specs.Spelling.{empty, byte, comma};
 ghost use Rattle.text_grammar.specs.Tokens.{run, tokens};
 ghost use Rattle.text_grammar.specs.Grammar.{readEntry, inBraces, readEntries};
@@ -147,7 +148,7 @@ fn separator_at(s: &[u8], c: Cursor) -> Choice
 // The first six digits of the run that stands from `from` on, as their values, and zeros after them.
 fn digits_at(s: &[u8], from: usize, len: usize) -> [u8; PREFIX]
     requires { ⌜ len ≡ length (run (drop from (now s))) ⌝ }
-    ensures { λ r. ⌜ r ≡ filled 6 0 (run (drop from (now (s .entry)))) ⌝ }
+    ensures { λ r. ⌜ r ≡ filled PREFIX 0 (run (drop from (now (s .entry)))) ⌝ }
 {
     let mut digits = [0u8; PREFIX];
     let mut i: usize = 0;

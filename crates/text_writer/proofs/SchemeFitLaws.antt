@@ -27,8 +27,9 @@ use Rattle.scheme.specs.SchemeMemory.{gapAt, entryAt}
 use Rattle.scheme.proofs.LookupLaws.{position-inside}
 use Rattle.text_grammar.specs.Spelling.{right, digits, numeral, separated, vectorPieces, entryPieces}
 use Rattle.text_grammar.specs.Spelling.{digitRun, writableVector, writableRule, writableEntry, writtenScheme}
+use Rattle.text_grammar.specs.GrammarLaws.{numeral-one}
 use Rattle.text_writer.specs.Writable.{EntryFits, SchemeFits, text}
-use Rattle.text_writer.specs.WrittenLaws.{text-one, text-entry, numeral-one}
+use Rattle.text_writer.specs.WrittenLaws.{text-one, text-entry}
 use Rattle.text_writer.specs.RoomLaws.{component, text-append, bound-separated, bound-braced, bound-perm, bound-rule}
 use Rattle.text_writer.proofs.FitLaws.{clean-test, first-mem, perm-digits, perm-places}
 

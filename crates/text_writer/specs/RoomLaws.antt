@@ -16,7 +16,8 @@ use Rattle.scheme.specs.declared.memory.Entry.{Entry}
 use Rattle.scheme.specs.declared.memory.Scheme.{Scheme}
 use Rattle.text_grammar.specs.Spelling.{Token, bytesOf, byte, digits, right, comma, separated, braced, permPiece, numeral, vectorPieces, rulePieces}
 use Rattle.text_grammar.specs.Spelling.{entryPieces, writtenPatterns, writtenScheme}
-use Rattle.text_writer.specs.Writable.{Room, PatternsFit, EntryFits, SchemeFits, text, patternAt, vectorAt, gapPieces, entryAt}
+use Rattle.text_page.specs.Page.{Room}
+use Rattle.text_writer.specs.Writable.{PatternsFit, EntryFits, SchemeFits, text, patternAt, vectorAt, gapPieces, entryAt}
 use Rattle.text_writer.specs.WrittenLaws.{each-append, text-one, text-entry, patterns-map, gaps-map, scheme-map}
 
 pub text-append : (a b : List Token) → length (text (a ++ b)) ≡ length (text a) + length (text b)

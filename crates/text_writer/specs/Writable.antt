@@ -1,8 +1,9 @@
 -- What the writer requires of patterns and schemes in memory, and the texts that its parts write. Definitions only.
-use Prim.Native.Nat.{ℕ, zero, suc, _+_, _≤_, _<_}
+use Prim.Native.Nat.{ℕ, zero, suc, _≤_, _<_}
 use mathlib.Core.Path.{_≡_}
 use mathlib.Core.List.{List, [], _∷_, _++_, map}
 use lib.ListN.{length, getD}
+use Rattle.word.specs.Ceilings.{DIGITS, PATTERNS, ENTRIES, PREFIX, COMPONENTS, GAPS}
 use Rattle.word.specs.Lists.{each}
 use Rattle.scheme.specs.SchemeMemory.{patternIn, gapIn, entryIn, noPattern, noGap, noEntry}
 use Rattle.scheme.specs.declared.memory.Pattern.{Pattern}
@@ -14,40 +15,36 @@ use Rattle.scheme.specs.declared.memory.Entry.{Entry}
 use Rattle.scheme.specs.declared.memory.Scheme.{Scheme}
 use Rattle.text_grammar.specs.Spelling.{Token, bytesOf, digits, permPiece, numeral, vectorPieces, braced, entryPieces}
 
--- the place behind these bytes is a number that fits
-pub record Room (xs : List ℕ) (at : ℕ) : Type 0 where
-  pub fits : at + length xs ≤ 2000000
-
 -- the first n places of an array are in it, and hold digits 0 to 9
 pub record DigitsFit (n : ℕ) (ds : List ℕ) : Type 0 where
   pub inside : n ≤ length ds
   pub small : (k : ℕ) → k < n → getD ds k 0 ≤ 9
 
 pub record PatternFits (p : Pattern) : Type 0 where
-  pub short : p .length ≤ 8
+  pub short : p .length ≤ DIGITS
   pub small : (k : ℕ) → k < p .length → getD (p .digits) k 0 ≤ 9
 
 pub record PatternsFit (s : Patterns) : Type 0 where
-  pub few : s .count ≤ 24
+  pub few : s .count ≤ PATTERNS
   pub fit : (i : ℕ) → i < s .count → PatternFits (getD (s .items) i noPattern)
 
 -- a vector has a component: "`⟨⟩` .. misspelt" (01)
 pub record GapFits (g : Gap) : Type 0 where
   pub some : 1 ≤ g .width
-  pub narrow : g .width ≤ 7
+  pub narrow : g .width ≤ COMPONENTS
 
 pub record RuleFits (r : Rule) : Type 0 where
   pub short : (n : ℕ) → r ≡ Delete n → n ≤ 999
 
 pub record EntryFits (e : Entry) : Type 0 where
-  pub short : e .length ≤ 6
+  pub short : e .length ≤ PREFIX
   pub small : (k : ℕ) → k < e .length → getD (e .prefix) k 0 ≤ 9
-  pub few : e .«gap_count» ≤ 8
+  pub few : e .«gap_count» ≤ GAPS
   pub fit : (i : ℕ) → i < e .«gap_count» → GapFits (getD (e .gaps) i noGap)
   pub rule : RuleFits (e .rule)
 
 pub record SchemeFits (s : Scheme) : Type 0 where
-  pub few : s .count ≤ 128
+  pub few : s .count ≤ ENTRIES
   pub fit : (i : ℕ) → i < s .count → EntryFits (getD (s .entries) i noEntry)
 
 -- the bytes of pieces, one after the other

@@ -1,13 +1,14 @@
 -- Laws of the texts that the writer's parts write: items with commas between them, items in braces, the first numbers of an array.
 use Prim.Native.Nat.{ℕ, zero, suc, _+_, _-_, _/_, _%_, _≤_, _<_}
 use native.Mathlib.Numerals.{add-one}
-use borrow.Author.Tests.{lt-ltb, le-ltb}
 use native.Mathlib.Omega.{arith}
 use mathlib.Core.Path.{_≡_, refl, sym, ap, _∙_}
 use mathlib.Core.List.{List, [], _∷_, _++_, map, map-map, append-assoc, append-nil}
+use mathlib.Core.Logic.{_⊎_, inl, inr}
 use lib.ListN.{length, getD, take, drop, replicate}
 use lib.Seq.{drop-cons, take-append-le}
 use Rattle.word.specs.Lists.{each, row}
+use Rattle.word.specs.ListLaws.{below-or-not}
 use Rattle.scheme.specs.SchemeMemory.{padded, patternIn, patternsIn, gapIn, entryIn, schemeIn, noPattern, noGap, noEntry}
 use Rattle.scheme.specs.SchemeList.{EntryList, deletes}
 use Rattle.scheme.specs.declared.memory.Patterns.{Patterns}
@@ -15,6 +16,11 @@ use Rattle.scheme.specs.declared.memory.Entry.{Entry}
 use Rattle.scheme.specs.declared.memory.Scheme.{Scheme}
 use Rattle.text_grammar.specs.Spelling.{Token, bytesOf, byte, digits, epsilon, empty, left, right, comma, separated, braced, permPiece, numeral, vectorPieces, rulePieces, entryPieces}
 use Rattle.text_grammar.specs.Spelling.{writtenPatterns, writtenScheme}
+use Rattle.text_grammar.specs.GrammarLaws.{numeral-one, numeral-two, numeral-three}
+use Rattle.text_page.specs.Page.{Writes, Room}
+use Rattle.text_page.specs.PageLaws.{ToCome, step, again, finish, room-next, writes-join}
+use Rattle.text_page.specs.Decimal.{decimal}
+use Rattle.text_page.specs.DecimalLaws.{decimal-one, decimal-more}
 use Rattle.text_writer.specs.Writable.{text, next, further, number, patternAt, vectorAt, gapPieces, entryAt}
 
 module _ {A B : Type 0} where
@@ -76,19 +82,32 @@ text-one t = append-nil (bytesOf t)
 
 -- items with a comma before each
 
-pub further-step : (f : ℕ → List Token) (i n : ℕ) → i < n → further f i (n - i) ≡ next f i ++ further f (i + 1) (n - (i + 1))
+further-step : (f : ℕ → List Token) (i n : ℕ) → i < n → further f i (n - i) ≡ next f i ++ further f (i + 1) (n - (i + 1))
 unfolding further
 further-step f i n h = go (n - i) (n - (i + 1)) (omega arith)
   where
     go : (a b : ℕ) → a ≡ suc b → further f i a ≡ next f i ++ further f (i + 1) b
     go a b e = rw (e, add-one i) refl
 
-pub further-end : (f : ℕ → List Token) (i n : ℕ) → n ≤ i → further f i (n - i) ≡ []
+further-end : (f : ℕ → List Token) (i n : ℕ) → n ≤ i → further f i (n - i) ≡ []
 unfolding further
 further-end f i n h = go (n - i) (omega arith)
   where
     go : (a : ℕ) → a ≡ 0 → further f i a ≡ []
     go a e = rw e refl
+
+-- a page on which these items are still to come: room for the next one, its comma and its text
+-- written, none left
+module _ (f : ℕ → List Token) {total : List ℕ} {at : ℕ} {before : List ℕ} (i n : ℕ) {place : ℕ} {t : List ℕ} (c : ToCome total at before (further f i (n - i)) place t) where
+  pub further-room : i < n → Room total at → Room (next f i) place
+  further-room h r = room-next (next f i) (further f (i + 1) (n - (i + 1))) r c (further-step f i n h)
+
+  pub further-on : i < n → {from after : ℕ} {u v : List ℕ} → Writes (0x2C ∷ []) place t u from → Writes (text (f i)) from u v after →
+      ToCome total at before (further f (i + 1) (n - (i + 1))) after v
+  further-on h a b = step (again c (further-step f i n h)) (writes-join a b)
+
+  pub further-done : n ≤ i → Writes total at before t place
+  further-done h = finish (again c (further-end f i n h))
 
 -- the items from 1 up to a last place
 pub further-up-to : (f : ℕ → List Token) (n : ℕ) → further f 1 n ≡ further f 1 (n + 1 - 1)
@@ -126,19 +145,23 @@ pub text-vector : (n : ℕ) (l : List ℕ) → 0 < n → n ≤ length l →
 text-vector n l h k =
     rw (padded-row n l k, map-map (λ (m : ℕ). digits (numeral m) ∷ []) (λ (j : ℕ). getD l j 0) (row 0 n)) (text-between (number l) left right n h)
 
--- a number of up to three digits
+-- a number of up to three digits: its bytes are those of the number in base ten
+pub numeral-decimal : (n : ℕ) → n ≤ 999 → bytesOf (digits (numeral n)) ≡ decimal n
+numeral-decimal n h = go (below-or-not n 10) (below-or-not n 100)
+  where
+    more : {l : List ℕ} (m : ℕ) → 10 ≤ m → decimal (m / 10) ≡ l → decimal m ≡ l ++ ((48 + m % 10) ∷ [])
+    more m k e = decimal-more m k ∙ ap (λ (l : List ℕ). l ++ ((48 + m % 10) ∷ [])) e
 
-pub numeral-one : (n : ℕ) → n < 10 → bytesOf (digits (numeral n)) ≡ (48 + n) ∷ []
-numeral-one n h = rw (lt-ltb n 10 h) refl
+    bytes : {u : List ℕ} → numeral n ≡ u → bytesOf (digits (numeral n)) ≡ map (λ d. 48 + d) u
+    bytes e = ap (λ (u : List ℕ). bytesOf (digits u)) e
 
-pub numeral-two : (n : ℕ) → 10 ≤ n → n < 100 → bytesOf (digits (numeral n)) ≡ ((48 + n / 10) ∷ []) ++ ((48 + n % 10) ∷ [])
-numeral-two n h k = rw (le-ltb n 10 h, lt-ltb n 100 k) refl
-
-pub numeral-three : (n : ℕ) → 100 ≤ n →
-    bytesOf (digits (numeral n)) ≡ ((48 + n / 100) ∷ []) ++ (((48 + n / 10 % 10) ∷ []) ++ ((48 + n % 10) ∷ []))
-numeral-three n h =
-    let k : 10 ≤ n = omega arith in
-    rw (le-ltb n 10 k, le-ltb n 100 h) refl
+    go : (n < 10) ⊎ (10 ≤ n) → (n < 100) ⊎ (100 ≤ n) → bytesOf (digits (numeral n)) ≡ decimal n
+    go (inl p) q = bytes (numeral-one n p) ∙ sym (decimal-one n p)
+    go (inr p) (inl q) = bytes (numeral-two n p q) ∙ sym (more n p (decimal-one (n / 10) (omega arith)))
+    go (inr p) (inr q) =
+        let hundred : n / 10 / 10 ≡ n / 100 = omega arith in
+        let first = decimal-one (n / 10 / 10) (omega arith) ∙ ap (λ (m : ℕ). (48 + m) ∷ []) hundred in
+        bytes (numeral-three n q) ∙ sym (more n p (more (n / 10) (omega arith) first))
 
 -- a set of patterns, by the patterns in memory
 

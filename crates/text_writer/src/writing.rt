@@ -9,42 +9,19 @@ use text_grammar::marks::EMPTY;
 use text_grammar::marks::EPSILON;
 use text_grammar::marks::LEFT;
 use text_grammar::marks::RIGHT;
+use text_page::bytes::put;
+use text_page::bytes::put_bytes;
+use text_page::bytes::put_decimal;
 ghost use mathlib.Core.Path.{_≡_};
 ghost use mathlib.Core.List.{[], _∷_};
-ghost use Prim.Native.Nat.{_+_, _-_, _≤_};
+ghost use Prim.Native.Nat.{_-_, _≤_};
 ghost use Rattle.scheme.specs.SchemeList.{deletes};
 ghost use Rattle.scheme.specs.SchemeMemory.{padded, patternIn, patternsIn, gapIn, doesOf, entryIn, schemeIn};
 ghost use Rattle.text_grammar.specs.Spelling.{bytesOf, permPiece, digits, numeral, vectorPieces, rulePieces, entryPieces};
 ghost use Rattle.text_grammar.specs.Spelling.{writtenPatterns, writtenScheme};
-ghost use Rattle.text_writer.specs.Page.{Writes};
-ghost use Rattle.text_writer.specs.Writable.{Room, DigitsFit, PatternFits, PatternsFit, GapFits, RuleFits, EntryFits, SchemeFits};
+ghost use Rattle.text_page.specs.Page.{Writes, Room};
+ghost use Rattle.text_writer.specs.Writable.{DigitsFit, PatternFits, PatternsFit, GapFits, RuleFits, EntryFits, SchemeFits};
 ghost use Rattle.text_writer.specs.Writable.{text, further, number, patternAt, vectorAt, gapPieces, entryAt};
-
-// Writes one byte.
-fn put(page: &mut [u8], at: usize, b: u8) -> usize
-    requires { ⌜ Room (b ∷ []) at ⌝ }
-    ensures { λ r. ⌜ Writes (b ∷ []) at (now (page .entry)) (now (page .exit)) r ⌝ }
-{
-    if at < page.len() {
-        page[at] = b;
-        return at + 1;
-    }
-    at + 1
-}
-
-// Writes the bytes of a mark.
-fn put_mark(page: &mut [u8], at: usize, mark: &[u8]) -> usize
-    requires { ⌜ Room (now mark) at ⌝ }
-    ensures { λ r. ⌜ Writes (now (mark .entry)) at (now (page .entry)) (now (page .exit)) r ⌝ }
-{
-    let mut next = at;
-    let mut i: usize = 0;
-    while i < mark.len() {
-        next = put(page, next, mark[i]);
-        i += 1;
-    }
-    next
-}
 
 // Writes the first n digits.
 fn put_digits(page: &mut [u8], at: usize, run: &[u8], n: usize) -> usize
@@ -66,7 +43,7 @@ fn put_permutation(page: &mut [u8], at: usize, run: &[u8], n: usize) -> usize
     ensures { λ r. ⌜ Writes (bytesOf (permPiece (padded n (now (run .entry))))) at (now (page .entry)) (now (page .exit)) r ⌝ }
 {
     if n == 0 {
-        return put_mark(page, at, &EPSILON);
+        return put_bytes(page, at, &EPSILON);
     }
     put_digits(page, at, run, n)
 }
@@ -81,15 +58,6 @@ fn put_pattern(page: &mut [u8], at: usize, p: Pattern) -> usize
     put_permutation(page, at, &run, n)
 }
 
-// Writes a comma and a pattern.
-fn put_next_pattern(page: &mut [u8], at: usize, p: Pattern) -> usize
-    requires { ⌜ PatternFits p × Room (0x2C ∷ text (permPiece (patternIn p) ∷ [])) at ⌝ }
-    ensures { λ r. ⌜ Writes (0x2C ∷ text (permPiece (patternIn p) ∷ [])) at (now (page .entry)) (now (page .exit)) r ⌝ }
-{
-    let next = put(page, at, b',');
-    put_pattern(page, next, p)
-}
-
 // Writes the patterns after the first, a comma before each.
 fn put_further_patterns(page: &mut [u8], at: usize, s: Patterns) -> usize
     requires { ⌜ PatternsFit s × (1 ≤ s .count) × Room (further (patternAt (s .items)) 1 (s .count - 1)) at ⌝ }
@@ -100,7 +68,8 @@ fn put_further_patterns(page: &mut [u8], at: usize, s: Patterns) -> usize
     let mut next = at;
     let mut i: usize = 1;
     while i <= last_pattern {
-        next = put_next_pattern(page, next, items[i]);
+        let from = put(page, next, b',');
+        next = put_pattern(page, from, items[i]);
         i += 1;
     }
     next
@@ -113,20 +82,12 @@ pub fn put_patterns(page: &mut [u8], at: usize, s: Patterns) -> usize
 {
     let items = s.items;
     if s.count == 0 {
-        return put_mark(page, at, &EMPTY);
+        return put_bytes(page, at, &EMPTY);
     }
     let first = put(page, at, b'{');
     let second = put_pattern(page, first, items[0]);
     let last = put_further_patterns(page, second, s);
     put(page, last, b'}')
-}
-
-// The byte of a digit.
-fn digit(d: usize) -> u8
-    requires { ⌜ d ≤ 9 ⌝ }
-    ensures { λ r. ⌜ r ≡ 48 + d ⌝ }
-{
-    48 + d as u8
 }
 
 // A byte as a number.
@@ -141,16 +102,7 @@ fn put_number(page: &mut [u8], at: usize, n: usize) -> usize
     requires { ⌜ (n ≤ 999) × Room (bytesOf (digits (numeral n))) at ⌝ }
     ensures { λ r. ⌜ Writes (bytesOf (digits (numeral n))) at (now (page .entry)) (now (page .exit)) r ⌝ }
 {
-    if n < 10 {
-        return put(page, at, digit(n));
-    }
-    if n < 100 {
-        let next = put(page, at, digit(n / 10));
-        return put(page, next, digit(n % 10));
-    }
-    let tens = put(page, at, digit(n / 100));
-    let ones = put(page, tens, digit(n / 10 % 10));
-    put(page, ones, digit(n % 10))
+    put_decimal(page, at, n as u64)
 }
 
 // Writes a component of a gap vector.
@@ -159,15 +111,6 @@ fn put_part(page: &mut [u8], at: usize, x: u8) -> usize
     ensures { λ r. ⌜ Writes (text (digits (numeral x) ∷ [])) at (now (page .entry)) (now (page .exit)) r ⌝ }
 {
     put_number(page, at, wide(x))
-}
-
-// Writes a comma and a component.
-fn put_next_part(page: &mut [u8], at: usize, x: u8) -> usize
-    requires { ⌜ Room (0x2C ∷ text (digits (numeral x) ∷ [])) at ⌝ }
-    ensures { λ r. ⌜ Writes (0x2C ∷ text (digits (numeral x) ∷ [])) at (now (page .entry)) (now (page .exit)) r ⌝ }
-{
-    let next = put(page, at, b',');
-    put_part(page, next, x)
 }
 
 // Writes the components after the first, a comma before each.
@@ -180,7 +123,8 @@ fn put_further_parts(page: &mut [u8], at: usize, g: Gap) -> usize
     let mut next = at;
     let mut i: usize = 1;
     while i < n {
-        next = put_next_part(page, next, parts[i]);
+        let from = put(page, next, b',');
+        next = put_part(page, from, parts[i]);
         i += 1;
     }
     next
@@ -192,19 +136,10 @@ fn put_vector(page: &mut [u8], at: usize, g: Gap) -> usize
     ensures { λ r. ⌜ Writes (text (vectorPieces (gapIn g))) at (now (page .entry)) (now (page .exit)) r ⌝ }
 {
     let parts = g.parts;
-    let first = put_mark(page, at, &LEFT);
+    let first = put_bytes(page, at, &LEFT);
     let second = put_part(page, first, parts[0]);
     let last = put_further_parts(page, second, g);
-    put_mark(page, last, &RIGHT)
-}
-
-// Writes a comma and a gap vector.
-fn put_next_vector(page: &mut [u8], at: usize, g: Gap) -> usize
-    requires { ⌜ GapFits g × Room (0x2C ∷ text (vectorPieces (gapIn g))) at ⌝ }
-    ensures { λ r. ⌜ Writes (0x2C ∷ text (vectorPieces (gapIn g))) at (now (page .entry)) (now (page .exit)) r ⌝ }
-{
-    let next = put(page, at, b',');
-    put_vector(page, next, g)
+    put_bytes(page, last, &RIGHT)
 }
 
 // Writes the gap vectors after the first, a comma before each.
@@ -217,7 +152,8 @@ fn put_further_vectors(page: &mut [u8], at: usize, e: Entry) -> usize
     let mut next = at;
     let mut i: usize = 1;
     while i < n {
-        next = put_next_vector(page, next, gaps[i]);
+        let from = put(page, next, b',');
+        next = put_vector(page, from, gaps[i]);
         i += 1;
     }
     next
@@ -230,7 +166,7 @@ fn put_gaps(page: &mut [u8], at: usize, e: Entry) -> usize
 {
     let gaps = e.gaps;
     if e.gap_count == 0 {
-        return put_mark(page, at, &EMPTY);
+        return put_bytes(page, at, &EMPTY);
     }
     let first = put(page, at, b'{');
     let second = put_vector(page, first, gaps[0]);
@@ -254,7 +190,7 @@ fn put_rule(page: &mut [u8], at: usize, rule: Rule) -> usize
     ensures { λ r. ⌜ Writes (text (rulePieces (doesOf rule))) at (now (page .entry)) (now (page .exit)) r ⌝ }
 {
     match rule {
-        Rule::Expand => put_mark(page, at, &EMPTY),
+        Rule::Expand => put_bytes(page, at, &EMPTY),
         Rule::Delete(n) => put_deleted(page, at, n),
     }
 }
@@ -276,15 +212,6 @@ fn put_entry(page: &mut [u8], at: usize, e: Entry) -> usize
     put(page, last, b')')
 }
 
-// Writes a comma and an entry.
-fn put_next_entry(page: &mut [u8], at: usize, e: Entry) -> usize
-    requires { ⌜ EntryFits e × Room (0x2C ∷ text (entryPieces (entryIn e))) at ⌝ }
-    ensures { λ r. ⌜ Writes (0x2C ∷ text (entryPieces (entryIn e))) at (now (page .entry)) (now (page .exit)) r ⌝ }
-{
-    let next = put(page, at, b',');
-    put_entry(page, next, e)
-}
-
 // Writes the entries after the first, a comma before each.
 fn put_further_entries(page: &mut [u8], at: usize, s: Scheme) -> usize
     requires { ⌜ SchemeFits s × (1 ≤ s .count) × Room (further (entryAt (s .entries)) 1 (s .count - 1)) at ⌝ }
@@ -295,7 +222,8 @@ fn put_further_entries(page: &mut [u8], at: usize, s: Scheme) -> usize
     let mut next = at;
     let mut i: usize = 1;
     while i <= last_entry {
-        next = put_next_entry(page, next, entries[i]);
+        let from = put(page, next, b',');
+        next = put_entry(page, from, entries[i]);
         i += 1;
     }
     next
@@ -308,7 +236,7 @@ pub fn put_scheme(page: &mut [u8], at: usize, s: Scheme) -> usize
 {
     let entries = s.entries;
     if s.count == 0 {
-        return put_mark(page, at, &EMPTY);
+        return put_bytes(page, at, &EMPTY);
     }
     let first = put(page, at, b'{');
     let second = put_entry(page, first, entries[0]);

@@ -5,6 +5,7 @@ use native.Mathlib.Omega.{arith}
 use lib.ListN.{length}
 use lib.Seq.{length-take-le}
 use borrow.Author.Needs.{needs}
+use Rattle.table_text.specs.Printed.{PAGE}
 use Rattle.table.proofs.write_table.Statement.{statement}
 use Rattle.table.proofs.write_table.Tie as tie
 
@@ -20,7 +21,7 @@ array-share-prefix-page c = search needs
 slice-aggregate-write-all : tie.Need-slice-aggregate-write-all
 slice-aggregate-write-all c =
     let p = c .before .before .print in
-    let size : length (p .last .1 .0) ≡ 512 = search needs in
+    let size : length (p .last .1 .0) ≡ PAGE = search needs in
     sym (length-take-le (p .result) (p .last .1 .0) (omega (arith, p .ensures .fits, size)))
 
 write-all-requires : tie.Need-write-all-requires

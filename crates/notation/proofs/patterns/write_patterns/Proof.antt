@@ -9,8 +9,8 @@ use Rattle.word.specs.Finding.{firstFault}
 use Rattle.scheme.specs.WellFormed.{patternTests}
 use Rattle.scheme.specs.SchemeMemory.{patternsIn}
 use Rattle.text_grammar.specs.Spelling.{writtenPatterns}
-use Rattle.text_writer.specs.Page.{overlay}
-use Rattle.text_writer.specs.PageLaws.{length-after}
+use Rattle.text_page.specs.Page.{overlay}
+use Rattle.text_page.specs.PageLaws.{length-after}
 use Rattle.text_writer.proofs.FitLaws.{patterns-fit}
 use Rattle.notation.proofs.WritingLaws.{clean-finding}
 use Rattle.notation.proofs.PatternWritingLaws.{patterns-refused, patterns-page-short, patterns-done}

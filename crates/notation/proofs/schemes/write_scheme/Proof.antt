@@ -9,8 +9,8 @@ use Rattle.word.specs.Finding.{firstFault}
 use Rattle.scheme.specs.WellFormed.{schemeTests}
 use Rattle.scheme.specs.SchemeMemory.{schemeIn}
 use Rattle.text_grammar.specs.Spelling.{writtenScheme}
-use Rattle.text_writer.specs.Page.{overlay}
-use Rattle.text_writer.specs.PageLaws.{length-after}
+use Rattle.text_page.specs.Page.{overlay}
+use Rattle.text_page.specs.PageLaws.{length-after}
 use Rattle.text_writer.proofs.SchemeFitLaws.{scheme-fit}
 use Rattle.notation.proofs.WritingLaws.{clean-finding}
 use Rattle.notation.proofs.SchemeWritingLaws.{scheme-refused, scheme-page-short, scheme-done}

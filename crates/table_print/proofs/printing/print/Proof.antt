@@ -3,7 +3,7 @@
 use mathlib.Core.Path.{sym, _∙_}
 use borrow.Author.Tests.{not-true, not-false}
 use Rattle.wellformed.proofs.OrderLaws.{not-faulty}
-use Rattle.text_writer.specs.PageLaws.{writes-as}
+use Rattle.text_page.specs.PageLaws.{writes-as}
 use Rattle.table_print.specs.PrintLaws.{prints, missing-text, refused-text, accepted-text, accepted-lists}
 use borrow.Author.Needs.{needs}
 use Rattle.table_print.proofs.printing.print.Statement.{statement}

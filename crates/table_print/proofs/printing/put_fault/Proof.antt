@@ -2,7 +2,7 @@
 -- Assumes nothing.
 use mathlib.Core.Path.{refl, sym}
 use native.Mathlib.Omega.{arith}
-use Rattle.text_writer.specs.PageLaws.{overlay-none}
+use Rattle.text_page.specs.PageLaws.{overlay-none}
 use borrow.Author.Needs.{needs}
 use Rattle.table_print.proofs.printing.put_fault.Statement.{statement}
 use Rattle.table_print.proofs.printing.put_fault.Tie as tie

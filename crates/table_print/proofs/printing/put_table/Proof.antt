@@ -4,15 +4,16 @@ use Prim.Native.Nat.{suc, _+_}
 use mathlib.Core.Path.{_≡_, sym, ap, _∙_}
 use mathlib.Core.List.{map}
 use lib.ListN.{take}
+use Rattle.word.specs.Ceilings.{CELLS}
 use Rattle.word.specs.Lists.{row}
 use Rattle.scheme.specs.SchemeMemory.{patternsIn, schemeIn}
 use Rattle.scheme.specs.declared.memory.Fault.{Fault}
-use Rattle.text_writer.specs.PageLaws.{writes-as}
+use Rattle.text_page.specs.PageLaws.{writes-as}
 use Rattle.wellformed.proofs.OrderLaws.{not-faulty}
 use Rattle.verdict.specs.Value.{countOf}
 use Rattle.counting.specs.CountLaws.{table-good}
 use Rattle.table_text.specs.Printed.{bfileText}
-use Rattle.table_print.specs.TableText.{printedOr, tableCells, lengthText}
+use Rattle.table_print.specs.TableText.{printedOr, lengthText}
 use Rattle.table_print.specs.PrintLaws.{counts-taken, only-line}
 use borrow.Author.Needs.{needs}
 use Rattle.table_print.proofs.printing.put_table.Statement.{statement}
@@ -49,14 +50,14 @@ all-counts-requires c κs =
     let a = c .before .before .before .before .before .args in
     let q = c .before .before .before .before .before .pre in
     let f = c .before .before .before .table-fault in
-    let good = table-good (schemeIn (a .scheme)) (a .n) tableCells (sym (f .ensures) ∙ not-faulty (f .result) (sym (c .before .before .is-fault .ensures) ∙ c .before .if1 .left)) in
+    let good = table-good (schemeIn (a .scheme)) (a .n) CELLS (sym (f .ensures) ∙ not-faulty (f .result) (sym (c .before .before .is-fault .ensures) ∙ c .before .if1 .left)) in
     (good .0, q .formed, q .claims, good .1)
 
 put-counts-requires : tie.Need-put-counts-requires
 put-counts-requires c κs =
     let a = c .before .before .before .before .before .before .before .before .args in
     let f = c .before .before .before .before .before .before .table-fault in
-    table-good (schemeIn (a .scheme)) (a .n) tableCells (sym (f .ensures) ∙ not-faulty (f .result) (sym (c .before .before .before .before .before .is-fault .ensures) ∙ c .before .before .before .before .if1 .left)) .0
+    table-good (schemeIn (a .scheme)) (a .n) CELLS (sym (f .ensures) ∙ not-faulty (f .result) (sym (c .before .before .before .before .before .is-fault .ensures) ∙ c .before .before .before .before .if1 .left)) .0
 
 same-length-2 : tie.Need-same-length-2
 same-length-2 c = search needs
@@ -68,7 +69,7 @@ returns-2 c =
     let E = schemeIn (a .scheme) in
     let f = c .before .before .before .before .before .before .before .before .before .table-fault in
     let none = sym (f .ensures) ∙ not-faulty (f .result) (sym (c .before .before .before .before .before .before .before .before .is-fault .ensures) ∙ c .before .before .before .before .before .before .before .if1 .left) in
-    let good = table-good E (a .n) tableCells none in
+    let good = table-good E (a .n) CELLS none in
     let all = c .before .before .before .before .before .all-counts in
     let put = c .before .before .put-counts .ensures in
     let text : lengthText P E (a .n) ≡ bfileText (take (a .n + 1) (all .result)) =

@@ -5,15 +5,15 @@ use Prim.Native.Nat.{_+_, _-_, _*_, _≤_, _<_}
 use native.Mathlib.Omega.{arith}
 use lib.ListN.{length, take, drop}
 use borrow.Author.Needs.{needs}
-use Rattle.text_writer.specs.PageLaws.{ToCome, start, step, again, finish, same-size}
-use Rattle.table_text.specs.Printed.{bfileText, countLines}
+use Rattle.text_page.specs.PageLaws.{ToCome, start, step, again, finish, same-size}
+use Rattle.table_text.specs.Printed.{LINE, bfileText, countLines}
 use Rattle.table_text.specs.PrintedLaws.{lines-step, lines-end}
 use Rattle.table_text.proofs.printing.put_counts.Statement.{statement}
 use Rattle.table_text.proofs.printing.put_counts.Tie as tie
 
 abbrev Inv-loop : tie.InvT-loop
 Inv-loop page₀ n counts next₀ i₀ page next i =
-    (i ≤ n + 1) × (next ≤ 24 * i) × ToCome (bfileText (take (n + 1) counts)) 0 page₀ (countLines i (drop i (take (n + 1) counts))) next page
+    (i ≤ n + 1) × (next ≤ LINE * i) × ToCome (bfileText (take (n + 1) counts)) 0 page₀ (countLines i (drop i (take (n + 1) counts))) next page
 
 abbrev μ-loop : tie.MeasureT-loop
 μ-loop page₀ n counts next₀ i₀ page next i = n + 1 - i

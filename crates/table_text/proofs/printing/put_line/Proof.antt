@@ -2,20 +2,20 @@
 -- other.
 -- Assumes nothing.
 use native.Mathlib.Omega.{arith}
-use Rattle.text_writer.specs.PageLaws.{writes-join}
-use Rattle.table_text.specs.DecimalLaws.{decimal-two}
+use Rattle.text_page.specs.PageLaws.{writes-join}
+use Rattle.text_page.specs.DecimalLaws.{decimal-two, room-decimal}
 use borrow.Author.Needs.{needs}
 use Rattle.table_text.proofs.printing.put_line.Statement.{statement}
 use Rattle.table_text.proofs.printing.put_line.Tie as tie
 
 put-decimal-requires : tie.Need-put-decimal-requires
-put-decimal-requires c κs = search needs
+put-decimal-requires c κs = room-decimal _ _ (search needs) (search needs)
 
 put-requires : tie.Need-put-requires
 put-requires c κs = search needs
 
 put-decimal-requires-2 : tie.Need-put-decimal-requires-2
-put-decimal-requires-2 c κs = search needs
+put-decimal-requires-2 c κs = room-decimal _ _ (search needs) (search needs)
 
 put-requires-2 : tie.Need-put-requires-2
 put-requires-2 c κs = search needs

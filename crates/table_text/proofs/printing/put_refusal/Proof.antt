@@ -3,8 +3,9 @@
 -- Assumes nothing.
 use native.Mathlib.Omega.{arith}
 use mathlib.Core.Path.{ap, _∙_}
-use Rattle.text_writer.specs.PageLaws.{writes-as, writes-join}
-use Rattle.table_text.specs.Printed.{decimal}
+use Rattle.text_page.specs.PageLaws.{writes-as, writes-join}
+use Rattle.text_page.specs.Decimal.{decimal}
+use Rattle.text_page.specs.DecimalLaws.{room-decimal}
 use borrow.Author.Needs.{needs}
 use Rattle.table_text.proofs.printing.put_refusal.Statement.{statement}
 use Rattle.table_text.proofs.printing.put_refusal.Tie as tie
@@ -25,13 +26,13 @@ wide-requires : tie.Need-wide-requires
 wide-requires c κs = search needs
 
 put-decimal-requires : tie.Need-put-decimal-requires
-put-decimal-requires c κs = search needs
+put-decimal-requires c κs = room-decimal _ _ (search needs) (search needs)
 
 put-requires-2 : tie.Need-put-requires-2
 put-requires-2 c κs = search needs
 
 put-decimal-requires-2 : tie.Need-put-decimal-requires-2
-put-decimal-requires-2 c κs = search needs
+put-decimal-requires-2 c κs = room-decimal _ _ (search needs) (search needs)
 
 put-requires-3 : tie.Need-put-requires-3
 put-requires-3 c κs = search needs

@@ -1,6 +1,8 @@
 -- `text_gaps::gap_reader::with_part` meets its contract: one component more by the laws of items.
 -- Assumes nothing.
+use mathlib.Core.Path.{ap₂, _∙_}
 use borrow.Author.Tests.{not-true, not-false}
+use Rattle.text_gaps.specs.ItemReading.{turnOf}
 use Rattle.text_gaps.proofs.GapTextLaws.{part-wrong, part-stored}
 use borrow.Author.Needs.{needs}
 use Rattle.text_gaps.proofs.gap_reader.with_part.Statement.{statement}
@@ -19,13 +21,19 @@ stored-part-requires c κs = search needs
 step-requires : tie.Need-step-requires
 step-requires c κs = search needs
 
-turn-in-vector-requires : tie.Need-turn-in-vector-requires
-turn-in-vector-requires c κs = search needs
+is-right-requires : tie.Need-is-right-requires
+is-right-requires c κs = search needs
+
+is-byte-requires : tie.Need-is-byte-requires
+is-byte-requires c κs = search needs
+
+turn-of-requires : tie.Need-turn-of-requires
+turn-of-requires c κs = search needs
 
 returns-2 : tie.Need-returns-2
-returns-2 c = let a = c .before .before .before .before .before .before .before .before .before .before .before .args in
-    part-stored (a .s .now) (a .m .turn) (a .m .gap) (a .m .next .at) (c .before .before .before .before .before .before .before .before .before .before .before .pre) (c .before .before .before .before .before .before .before .number-at .result) (c .before .before .before .before .before .before .before .number-at .ensures) (not-false _ (c .before .before .before .before .before .if1 .left)) (c .before .before .step .result) (c .before .before .step .ensures)
-    (c .turn-in-vector .result) (c .before .before .before .before .stored-part .result) (c .turn-in-vector .ensures) (c .before .before .before .before .stored-part .ensures)
+returns-2 c = let a = c .before .before .before .before .before .before .before .before .before .before .before .before .before .args in
+    part-stored (a .s .now) (a .m .turn) (a .m .gap) (a .m .next .at) (c .before .before .before .before .before .before .before .before .before .before .before .before .before .pre) (c .before .before .before .before .before .before .before .before .before .number-at .result) (c .before .before .before .before .before .before .before .before .before .number-at .ensures) (not-false _ (c .before .before .before .before .before .before .before .if1 .left)) (c .before .before .before .before .step .result) (c .before .before .before .before .step .ensures)
+    (c .turn-of .result) (c .before .before .before .before .before .before .stored-part .result) (c .turn-of .ensures ∙ ap₂ turnOf (c .before .before .is-right .ensures) (c .before .is-byte .ensures)) (c .before .before .before .before .before .before .stored-part .ensures)
 
 pub with-part-spec : {M : Type 1} → statement M
 with-part-spec =
@@ -35,5 +43,7 @@ with-part-spec =
     returns
     stored-part-requires
     step-requires
-    turn-in-vector-requires
+    is-right-requires
+    is-byte-requires
+    turn-of-requires
     returns-2)

@@ -1,6 +1,8 @@
 -- `text_gaps::gap_reader::with_vector` meets its contract: one vector more by the laws of items.
 -- Assumes nothing.
+use mathlib.Core.Path.{ap₂, _∙_}
 use borrow.Author.Tests.{not-true, not-false}
+use Rattle.text_gaps.specs.ItemReading.{turnOf}
 use Rattle.text_gaps.proofs.GapTextLaws.{gap-wrong, gap-stored}
 use borrow.Author.Needs.{needs}
 use Rattle.text_gaps.proofs.gap_reader.with_vector.Statement.{statement}
@@ -19,13 +21,19 @@ stored-gap-requires c κs = search needs
 step-requires : tie.Need-step-requires
 step-requires c κs = search needs
 
-turn-in-braces-requires : tie.Need-turn-in-braces-requires
-turn-in-braces-requires c κs = search needs
+is-byte-requires : tie.Need-is-byte-requires
+is-byte-requires c κs = search needs
+
+is-byte-requires-2 : tie.Need-is-byte-requires-2
+is-byte-requires-2 c κs = search needs
+
+turn-of-requires : tie.Need-turn-of-requires
+turn-of-requires c κs = search needs
 
 returns-2 : tie.Need-returns-2
-returns-2 c = let a = c .before .before .before .before .before .before .before .before .before .before .before .before .args in
-    gap-stored (a .s .now) (a .m .turn) (a .m .gaps) (a .m .next .at) (c .before .before .before .before .before .before .before .before .before .before .before .before .pre) (c .before .before .before .before .before .before .before .before .gap-at .result) (c .before .before .before .before .before .before .before .before .gap-at .ensures) (not-false _ (c .before .before .before .before .before .before .if1 .left)) (c .before .before .step .result) (c .before .before .step .ensures)
-    (c .turn-in-braces .result) (c .before .before .before .before .stored-gap .result) (c .turn-in-braces .ensures) (c .before .before .before .before .stored-gap .ensures)
+returns-2 c = let a = c .before .before .before .before .before .before .before .before .before .before .before .before .before .before .args in
+    gap-stored (a .s .now) (a .m .turn) (a .m .gaps) (a .m .next .at) (c .before .before .before .before .before .before .before .before .before .before .before .before .before .before .pre) (c .before .before .before .before .before .before .before .before .before .before .gap-at .result) (c .before .before .before .before .before .before .before .before .before .before .gap-at .ensures) (not-false _ (c .before .before .before .before .before .before .before .before .if1 .left)) (c .before .before .before .before .step .result) (c .before .before .before .before .step .ensures)
+    (c .turn-of .result) (c .before .before .before .before .before .before .stored-gap .result) (c .turn-of .ensures ∙ ap₂ turnOf (c .before .before .is-byte .ensures) (c .before .is-byte2 .ensures)) (c .before .before .before .before .before .before .stored-gap .ensures)
 
 pub with-vector-spec : {M : Type 1} → statement M
 with-vector-spec =
@@ -35,5 +43,7 @@ with-vector-spec =
     returns
     stored-gap-requires
     step-requires
-    turn-in-braces-requires
+    is-byte-requires
+    is-byte-requires-2
+    turn-of-requires
     returns-2)

@@ -4,7 +4,7 @@ use mathlib.Core.Path.{sym, _∙_}
 use Rattle.text_schemes.proofs.EntryTextLaws.{prefixed, prefixed-other}
 use borrow.Author.Needs.{needs}
 use Rattle.text_schemes.proofs.scheme_reader.prefix_at.Statement.{statement}
-use Rattle.text_gaps.proofs.GapNumberLaws.{is-digits, run-length}
+use Rattle.text_gaps.proofs.GapNumberLaws.{run-length}
 use Rattle.text_schemes.proofs.scheme_reader.prefix_at.Tie as tie
 
 step-requires : tie.Need-step-requires

@@ -2,7 +2,7 @@
 -- Assumes nothing.
 use mathlib.Core.Path.{refl}
 use borrow.Author.Needs.{needs}
-use Rattle.text_writer.specs.PageLaws.{start-as, step, finish-by, room-next, room-last}
+use Rattle.text_page.specs.PageLaws.{start-as, step, finish-by, room-next, room-last}
 use Rattle.text_writer.specs.WrittenLaws.{text-deletes}
 use Rattle.text_writer.proofs.writing.put_deleted.Statement.{statement}
 use Rattle.text_writer.proofs.writing.put_deleted.Tie as tie

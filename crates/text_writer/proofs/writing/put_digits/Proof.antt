@@ -6,7 +6,7 @@ use native.Mathlib.Omega.{arith}
 use Rattle.word.specs.Lists.{row}
 use Rattle.scheme.specs.SchemeMemory.{padded}
 use Rattle.text_grammar.specs.Spelling.{bytesOf, digits}
-use Rattle.text_writer.specs.PageLaws.{ToCome, start-as, step, again, finish, same-size, room-next}
+use Rattle.text_page.specs.PageLaws.{ToCome, start-as, step, again, finish, same-size, room-next}
 use Rattle.text_writer.specs.WrittenLaws.{shown, shown-start, shown-step, shown-end}
 use Rattle.text_writer.proofs.writing.put_digits.Statement.{statement}
 use Rattle.text_writer.proofs.writing.put_digits.Tie as tie

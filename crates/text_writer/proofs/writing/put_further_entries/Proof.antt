@@ -2,9 +2,9 @@
 -- Assumes nothing.
 use Prim.Native.Nat.{_+_, _-_}
 use borrow.Author.Needs.{needs}
+use Rattle.text_page.specs.PageLaws.{ToCome, start-as, same-size, room-first, room-rest}
 use Rattle.text_writer.specs.Writable.{further, entryAt}
-use Rattle.text_writer.specs.PageLaws.{ToCome, start-as, step, again, finish, same-size, room-next}
-use Rattle.text_writer.specs.WrittenLaws.{further-step, further-end, further-up-to}
+use Rattle.text_writer.specs.WrittenLaws.{further-room, further-on, further-done, further-up-to}
 use Rattle.text_writer.proofs.writing.put_further_entries.Statement.{statement}
 use Rattle.text_writer.proofs.writing.put_further_entries.Tie as tie
 
@@ -22,18 +22,25 @@ loop-holds c =
     let s = c .before .before .before .args .s in
     start-as _ _ _ _ (further-up-to (entryAt (s .entries)) (s .count - 1))
 
-mul-put-next-entry : tie.Need-mul-put-next-entry Inv-loop μ-loop
-mul-put-next-entry c = search needs
+put-requires : tie.Need-put-requires Inv-loop μ-loop
+put-requires c κs =
+    let s = c .before .before .before .before .before .before .args .s in
+    let h = c .before .before .before .before .before .before .pre in
+    let l = c .before .before .loop in
+    room-first (further-room (entryAt (s .entries)) (l .i) (s .count - 1 + 1) (l .inv) (search needs) (h .2))
 
-array-copy-out-put-next-entry : tie.Need-array-copy-out-put-next-entry Inv-loop μ-loop
-array-copy-out-put-next-entry c = search needs
+mul-put-entry : tie.Need-mul-put-entry Inv-loop μ-loop
+mul-put-entry c = search needs
 
-put-next-entry-requires : tie.Need-put-next-entry-requires Inv-loop μ-loop
-put-next-entry-requires c κs =
-    let s = c .before .before .before .before .before .before .before .args .s in
-    let h = c .before .before .before .before .before .before .before .pre in
-    let l = c .before .before .before .loop in
-    (h .0 .fit (l .i) (search needs), room-next _ _ (h .2) (l .inv) (further-step (entryAt (s .entries)) (l .i) (s .count - 1 + 1) (search needs)))
+array-copy-out-put-entry : tie.Need-array-copy-out-put-entry Inv-loop μ-loop
+array-copy-out-put-entry c = search needs
+
+put-entry-requires : tie.Need-put-entry-requires Inv-loop μ-loop
+put-entry-requires c κs =
+    let s = c .before .before .before .before .before .before .before .before .before .before .before .args .s in
+    let h = c .before .before .before .before .before .before .before .before .before .before .before .pre in
+    let l = c .before .before .before .before .before .before .before .loop in
+    (h .0 .fit (l .i) (search needs), room-rest (further-room (entryAt (s .entries)) (l .i) (s .count - 1 + 1) (l .inv) (search needs) (h .2)) (c .before .before .before .before .put .ensures))
 
 add-i : tie.Need-add-i Inv-loop μ-loop
 add-i c = search needs
@@ -43,9 +50,9 @@ loop-less c = search needs
 
 loop-again : tie.Need-loop-again Inv-loop μ-loop
 loop-again c =
-    let s = c .before .before .before .before .before .before .before .before .before .before .args .s in
-    let l = c .before .before .before .before .before .before .loop in
-    step (again (l .inv) (further-step (entryAt (s .entries)) (l .i) (s .count - 1 + 1) (search needs))) (c .before .before .put-next-entry .ensures)
+    let s = c .before .before .before .before .before .before .before .before .before .before .before .before .before .before .args .s in
+    let l = c .before .before .before .before .before .before .before .before .before .before .loop in
+    further-on (entryAt (s .entries)) (l .i) (s .count - 1 + 1) (l .inv) (search needs) (c .before .before .before .before .before .before .before .put .ensures) (c .before .before .put-entry .ensures)
 
 same-length : tie.Need-same-length Inv-loop μ-loop
 same-length c = same-size (c .before .loop .inv)
@@ -54,7 +61,7 @@ returns : tie.Need-returns Inv-loop μ-loop
 returns c =
     let s = c .before .before .before .before .before .args .s in
     let l = c .before .loop in
-    finish (again (l .inv) (further-end (entryAt (s .entries)) (l .i) (s .count - 1 + 1) (search needs)))
+    further-done (entryAt (s .entries)) (l .i) (s .count - 1 + 1) (l .inv) (search needs)
 
 pub put-further-entries-spec : {M : Type 1} → statement M
 put-further-entries-spec =
@@ -64,9 +71,10 @@ put-further-entries-spec =
     μ-loop
     sub-last-entry
     loop-holds
-    mul-put-next-entry
-    array-copy-out-put-next-entry
-    put-next-entry-requires
+    put-requires
+    mul-put-entry
+    array-copy-out-put-entry
+    put-entry-requires
     add-i
     loop-less
     loop-again

@@ -2,9 +2,9 @@
 -- Assumes nothing.
 use Prim.Native.Nat.{_-_}
 use borrow.Author.Needs.{needs}
+use Rattle.text_page.specs.PageLaws.{ToCome, start, same-size, room-first, room-rest}
 use Rattle.text_writer.specs.Writable.{further, number}
-use Rattle.text_writer.specs.PageLaws.{ToCome, start, step, again, finish, same-size, room-next}
-use Rattle.text_writer.specs.WrittenLaws.{further-step, further-end}
+use Rattle.text_writer.specs.WrittenLaws.{further-room, further-on, further-done}
 use Rattle.text_writer.proofs.writing.put_further_parts.Statement.{statement}
 use Rattle.text_writer.proofs.writing.put_further_parts.Tie as tie
 
@@ -17,14 +17,22 @@ abbrev μ-loop : tie.MeasureT-loop
 loop-holds : tie.Need-loop-holds Inv-loop μ-loop
 loop-holds c = start _ _ _
 
-array-read-put-next-part : tie.Need-array-read-put-next-part Inv-loop μ-loop
-array-read-put-next-part c = search needs
-
-put-next-part-requires : tie.Need-put-next-part-requires Inv-loop μ-loop
-put-next-part-requires c κs =
-    let g = c .before .before .before .before .before .args .g in
+put-requires : tie.Need-put-requires Inv-loop μ-loop
+put-requires c κs =
+    let s = c .before .before .before .before .before .args .g in
+    let h = c .before .before .before .before .before .pre in
     let l = c .before .before .loop in
-    room-next _ _ (c .before .before .before .before .before .pre .1) (l .inv) (further-step (number (g .parts)) (l .i) (g .width) (search needs))
+    room-first (further-room (number (s .parts)) (l .i) (s .width) (l .inv) (search needs) (h .1))
+
+array-read-put-part : tie.Need-array-read-put-part Inv-loop μ-loop
+array-read-put-part c = search needs
+
+put-part-requires : tie.Need-put-part-requires Inv-loop μ-loop
+put-part-requires c κs =
+    let s = c .before .before .before .before .before .before .before .before .before .args .g in
+    let h = c .before .before .before .before .before .before .before .before .before .pre in
+    let l = c .before .before .before .before .before .before .loop in
+    room-rest (further-room (number (s .parts)) (l .i) (s .width) (l .inv) (search needs) (h .1)) (c .before .before .before .put .ensures)
 
 add-i : tie.Need-add-i Inv-loop μ-loop
 add-i c = search needs
@@ -34,18 +42,18 @@ loop-less c = search needs
 
 loop-again : tie.Need-loop-again Inv-loop μ-loop
 loop-again c =
-    let g = c .before .before .before .before .before .before .before .before .args .g in
-    let l = c .before .before .before .before .before .loop in
-    step (again (l .inv) (further-step (number (g .parts)) (l .i) (g .width) (search needs))) (c .before .before .put-next-part .ensures)
+    let s = c .before .before .before .before .before .before .before .before .before .before .before .before .args .g in
+    let l = c .before .before .before .before .before .before .before .before .before .loop in
+    further-on (number (s .parts)) (l .i) (s .width) (l .inv) (search needs) (c .before .before .before .before .before .before .put .ensures) (c .before .before .put-part .ensures)
 
 same-length : tie.Need-same-length Inv-loop μ-loop
 same-length c = same-size (c .before .loop .inv)
 
 returns : tie.Need-returns Inv-loop μ-loop
 returns c =
-    let g = c .before .before .before .before .args .g in
+    let s = c .before .before .before .before .args .g in
     let l = c .before .loop in
-    finish (again (l .inv) (further-end (number (g .parts)) (l .i) (g .width) (search needs)))
+    further-done (number (s .parts)) (l .i) (s .width) (l .inv) (search needs)
 
 pub put-further-parts-spec : {M : Type 1} → statement M
 put-further-parts-spec =
@@ -54,8 +62,9 @@ put-further-parts-spec =
     Inv-loop
     μ-loop
     loop-holds
-    array-read-put-next-part
-    put-next-part-requires
+    put-requires
+    array-read-put-part
+    put-part-requires
     add-i
     loop-less
     loop-again

@@ -2,9 +2,9 @@
 -- Assumes nothing.
 use Prim.Native.Nat.{_+_, _-_}
 use borrow.Author.Needs.{needs}
+use Rattle.text_page.specs.PageLaws.{ToCome, start-as, same-size, room-first, room-rest}
 use Rattle.text_writer.specs.Writable.{further, patternAt}
-use Rattle.text_writer.specs.PageLaws.{ToCome, start-as, step, again, finish, same-size, room-next}
-use Rattle.text_writer.specs.WrittenLaws.{further-step, further-end, further-up-to}
+use Rattle.text_writer.specs.WrittenLaws.{further-room, further-on, further-done, further-up-to}
 use Rattle.text_writer.proofs.writing.put_further_patterns.Statement.{statement}
 use Rattle.text_writer.proofs.writing.put_further_patterns.Tie as tie
 
@@ -22,18 +22,25 @@ loop-holds c =
     let s = c .before .before .before .args .s in
     start-as _ _ _ _ (further-up-to (patternAt (s .items)) (s .count - 1))
 
-mul-put-next-pattern : tie.Need-mul-put-next-pattern Inv-loop μ-loop
-mul-put-next-pattern c = search needs
+put-requires : tie.Need-put-requires Inv-loop μ-loop
+put-requires c κs =
+    let s = c .before .before .before .before .before .before .args .s in
+    let h = c .before .before .before .before .before .before .pre in
+    let l = c .before .before .loop in
+    room-first (further-room (patternAt (s .items)) (l .i) (s .count - 1 + 1) (l .inv) (search needs) (h .2))
 
-array-copy-out-put-next-pattern : tie.Need-array-copy-out-put-next-pattern Inv-loop μ-loop
-array-copy-out-put-next-pattern c = search needs
+mul-put-pattern : tie.Need-mul-put-pattern Inv-loop μ-loop
+mul-put-pattern c = search needs
 
-put-next-pattern-requires : tie.Need-put-next-pattern-requires Inv-loop μ-loop
-put-next-pattern-requires c κs =
-    let s = c .before .before .before .before .before .before .before .args .s in
-    let h = c .before .before .before .before .before .before .before .pre in
-    let l = c .before .before .before .loop in
-    (h .0 .fit (l .i) (search needs), room-next _ _ (h .2) (l .inv) (further-step (patternAt (s .items)) (l .i) (s .count - 1 + 1) (search needs)))
+array-copy-out-put-pattern : tie.Need-array-copy-out-put-pattern Inv-loop μ-loop
+array-copy-out-put-pattern c = search needs
+
+put-pattern-requires : tie.Need-put-pattern-requires Inv-loop μ-loop
+put-pattern-requires c κs =
+    let s = c .before .before .before .before .before .before .before .before .before .before .before .args .s in
+    let h = c .before .before .before .before .before .before .before .before .before .before .before .pre in
+    let l = c .before .before .before .before .before .before .before .loop in
+    (h .0 .fit (l .i) (search needs), room-rest (further-room (patternAt (s .items)) (l .i) (s .count - 1 + 1) (l .inv) (search needs) (h .2)) (c .before .before .before .before .put .ensures))
 
 add-i : tie.Need-add-i Inv-loop μ-loop
 add-i c = search needs
@@ -43,9 +50,9 @@ loop-less c = search needs
 
 loop-again : tie.Need-loop-again Inv-loop μ-loop
 loop-again c =
-    let s = c .before .before .before .before .before .before .before .before .before .before .args .s in
-    let l = c .before .before .before .before .before .before .loop in
-    step (again (l .inv) (further-step (patternAt (s .items)) (l .i) (s .count - 1 + 1) (search needs))) (c .before .before .put-next-pattern .ensures)
+    let s = c .before .before .before .before .before .before .before .before .before .before .before .before .before .before .args .s in
+    let l = c .before .before .before .before .before .before .before .before .before .before .loop in
+    further-on (patternAt (s .items)) (l .i) (s .count - 1 + 1) (l .inv) (search needs) (c .before .before .before .before .before .before .before .put .ensures) (c .before .before .put-pattern .ensures)
 
 same-length : tie.Need-same-length Inv-loop μ-loop
 same-length c = same-size (c .before .loop .inv)
@@ -54,7 +61,7 @@ returns : tie.Need-returns Inv-loop μ-loop
 returns c =
     let s = c .before .before .before .before .before .args .s in
     let l = c .before .loop in
-    finish (again (l .inv) (further-end (patternAt (s .items)) (l .i) (s .count - 1 + 1) (search needs)))
+    further-done (patternAt (s .items)) (l .i) (s .count - 1 + 1) (l .inv) (search needs)
 
 pub put-further-patterns-spec : {M : Type 1} → statement M
 put-further-patterns-spec =
@@ -64,9 +71,10 @@ put-further-patterns-spec =
     μ-loop
     sub-last-pattern
     loop-holds
-    mul-put-next-pattern
-    array-copy-out-put-next-pattern
-    put-next-pattern-requires
+    put-requires
+    mul-put-pattern
+    array-copy-out-put-pattern
+    put-pattern-requires
     add-i
     loop-less
     loop-again

@@ -2,9 +2,9 @@
 -- Assumes nothing.
 use Prim.Native.Nat.{_-_}
 use borrow.Author.Needs.{needs}
+use Rattle.text_page.specs.PageLaws.{ToCome, start, same-size, room-first, room-rest}
 use Rattle.text_writer.specs.Writable.{further, vectorAt}
-use Rattle.text_writer.specs.PageLaws.{ToCome, start, step, again, finish, same-size, room-next}
-use Rattle.text_writer.specs.WrittenLaws.{further-step, further-end}
+use Rattle.text_writer.specs.WrittenLaws.{further-room, further-on, further-done}
 use Rattle.text_writer.proofs.writing.put_further_vectors.Statement.{statement}
 use Rattle.text_writer.proofs.writing.put_further_vectors.Tie as tie
 
@@ -17,18 +17,25 @@ abbrev μ-loop : tie.MeasureT-loop
 loop-holds : tie.Need-loop-holds Inv-loop μ-loop
 loop-holds c = start _ _ _
 
-mul-put-next-vector : tie.Need-mul-put-next-vector Inv-loop μ-loop
-mul-put-next-vector c = search needs
+put-requires : tie.Need-put-requires Inv-loop μ-loop
+put-requires c κs =
+    let s = c .before .before .before .before .before .args .e in
+    let h = c .before .before .before .before .before .pre in
+    let l = c .before .before .loop in
+    room-first (further-room (vectorAt (s .gaps)) (l .i) (s .«gap_count») (l .inv) (search needs) (h .1))
 
-array-copy-out-put-next-vector : tie.Need-array-copy-out-put-next-vector Inv-loop μ-loop
-array-copy-out-put-next-vector c = search needs
+mul-put-vector : tie.Need-mul-put-vector Inv-loop μ-loop
+mul-put-vector c = search needs
 
-put-next-vector-requires : tie.Need-put-next-vector-requires Inv-loop μ-loop
-put-next-vector-requires c κs =
-    let s = c .before .before .before .before .before .before .args .e in
-    let h = c .before .before .before .before .before .before .pre in
-    let l = c .before .before .before .loop in
-    (h .0 .fit (l .i) (search needs), room-next _ _ (h .1) (l .inv) (further-step (vectorAt (s .gaps)) (l .i) (s .«gap_count») (search needs)))
+array-copy-out-put-vector : tie.Need-array-copy-out-put-vector Inv-loop μ-loop
+array-copy-out-put-vector c = search needs
+
+put-vector-requires : tie.Need-put-vector-requires Inv-loop μ-loop
+put-vector-requires c κs =
+    let s = c .before .before .before .before .before .before .before .before .before .before .args .e in
+    let h = c .before .before .before .before .before .before .before .before .before .before .pre in
+    let l = c .before .before .before .before .before .before .before .loop in
+    (h .0 .fit (l .i) (search needs), room-rest (further-room (vectorAt (s .gaps)) (l .i) (s .«gap_count») (l .inv) (search needs) (h .1)) (c .before .before .before .before .put .ensures))
 
 add-i : tie.Need-add-i Inv-loop μ-loop
 add-i c = search needs
@@ -38,9 +45,9 @@ loop-less c = search needs
 
 loop-again : tie.Need-loop-again Inv-loop μ-loop
 loop-again c =
-    let s = c .before .before .before .before .before .before .before .before .before .args .e in
-    let l = c .before .before .before .before .before .before .loop in
-    step (again (l .inv) (further-step (vectorAt (s .gaps)) (l .i) (s .«gap_count») (search needs))) (c .before .before .put-next-vector .ensures)
+    let s = c .before .before .before .before .before .before .before .before .before .before .before .before .before .args .e in
+    let l = c .before .before .before .before .before .before .before .before .before .before .loop in
+    further-on (vectorAt (s .gaps)) (l .i) (s .«gap_count») (l .inv) (search needs) (c .before .before .before .before .before .before .before .put .ensures) (c .before .before .put-vector .ensures)
 
 same-length : tie.Need-same-length Inv-loop μ-loop
 same-length c = same-size (c .before .loop .inv)
@@ -49,7 +56,7 @@ returns : tie.Need-returns Inv-loop μ-loop
 returns c =
     let s = c .before .before .before .before .args .e in
     let l = c .before .loop in
-    finish (again (l .inv) (further-end (vectorAt (s .gaps)) (l .i) (s .«gap_count») (search needs)))
+    further-done (vectorAt (s .gaps)) (l .i) (s .«gap_count») (l .inv) (search needs)
 
 pub put-further-vectors-spec : {M : Type 1} → statement M
 put-further-vectors-spec =
@@ -58,9 +65,10 @@ put-further-vectors-spec =
     Inv-loop
     μ-loop
     loop-holds
-    mul-put-next-vector
-    array-copy-out-put-next-vector
-    put-next-vector-requires
+    put-requires
+    mul-put-vector
+    array-copy-out-put-vector
+    put-vector-requires
     add-i
     loop-less
     loop-again

@@ -2,22 +2,22 @@
 -- Assumes nothing.
 use mathlib.Core.Path.{refl, sym}
 use borrow.Author.Needs.{needs}
-use Rattle.text_writer.specs.PageLaws.{start-as, step, finish-by, room-as, room-next, room-last, writes-as}
+use Rattle.text_page.specs.PageLaws.{start-as, step, finish-by, room-as, room-next, room-last, writes-as}
 use Rattle.text_writer.specs.WrittenLaws.{text-gaps, text-no-gaps}
 use Rattle.text_writer.proofs.writing.put_gaps.Statement.{statement}
 use Rattle.text_writer.proofs.writing.put_gaps.Tie as tie
 
-slice-aggregate-put-mark : tie.Need-slice-aggregate-put-mark
-slice-aggregate-put-mark c = search needs
+slice-aggregate-put-bytes : tie.Need-slice-aggregate-put-bytes
+slice-aggregate-put-bytes c = search needs
 
-put-mark-requires : tie.Need-put-mark-requires
-put-mark-requires c κs = room-as (c .before .before .before .before .before .before .pre .1) (text-no-gaps (c .before .before .before .before .before .before .args .e) (c .before .before .if1 .taken))
+put-bytes-requires : tie.Need-put-bytes-requires
+put-bytes-requires c κs = room-as (c .before .before .before .before .before .before .pre .1) (text-no-gaps (c .before .before .before .before .before .before .args .e) (c .before .before .if1 .taken))
 
 same-length : tie.Need-same-length
 same-length c = search needs
 
 returns : tie.Need-returns
-returns c = writes-as (c .before .before .put-mark .ensures) (sym (text-no-gaps (c .before .before .before .before .before .before .before .before .before .args .e) (c .before .before .before .before .before .if1 .taken)))
+returns c = writes-as (c .before .before .put-bytes .ensures) (sym (text-no-gaps (c .before .before .before .before .before .before .before .before .before .args .e) (c .before .before .before .before .before .if1 .taken)))
 
 put-requires : tie.Need-put-requires
 put-requires c κs =
@@ -61,8 +61,8 @@ pub put-gaps-spec : {M : Type 1} → statement M
 put-gaps-spec =
     tie.close
     (tie.spec
-    slice-aggregate-put-mark
-    put-mark-requires
+    slice-aggregate-put-bytes
+    put-bytes-requires
     same-length
     returns
     put-requires

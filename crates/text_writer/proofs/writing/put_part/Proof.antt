@@ -4,7 +4,7 @@ use Prim.Native.Nat.{ℕ}
 use mathlib.Core.Path.{sym, ap, _∙_}
 use borrow.Author.Needs.{needs}
 use Rattle.text_grammar.specs.Spelling.{bytesOf, digits, numeral}
-use Rattle.text_writer.specs.PageLaws.{room-as, writes-as}
+use Rattle.text_page.specs.PageLaws.{room-as, writes-as}
 use Rattle.text_writer.specs.WrittenLaws.{text-one}
 use Rattle.text_writer.proofs.writing.put_part.Statement.{statement}
 use Rattle.text_writer.proofs.writing.put_part.Tie as tie

@@ -6,7 +6,7 @@ use lib.ListN.{length}
 use borrow.Author.Needs.{needs}
 use Rattle.scheme.specs.SchemeMemory.{patternIn}
 use Rattle.text_grammar.specs.Spelling.{permPiece}
-use Rattle.text_writer.specs.PageLaws.{room-as, writes-as}
+use Rattle.text_page.specs.PageLaws.{room-as, writes-as}
 use Rattle.text_writer.specs.WrittenLaws.{text-one}
 use Rattle.text_writer.proofs.writing.put_pattern.Statement.{statement}
 use Rattle.text_writer.proofs.writing.put_pattern.Tie as tie

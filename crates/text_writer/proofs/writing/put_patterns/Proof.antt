@@ -2,24 +2,24 @@
 -- Assumes nothing.
 use mathlib.Core.Path.{refl, sym}
 use borrow.Author.Needs.{needs}
-use Rattle.text_writer.specs.PageLaws.{start-as, step, finish-by, room-next, room-last, writes-as}
+use Rattle.text_page.specs.PageLaws.{start-as, step, finish-by, room-next, room-last, writes-as}
 use Rattle.text_writer.specs.WrittenLaws.{text-patterns, text-no-patterns}
 use Rattle.text_writer.specs.RoomLaws.{room-patterns}
 use Rattle.text_writer.proofs.writing.put_patterns.Statement.{statement}
 use Rattle.text_writer.proofs.writing.put_patterns.Tie as tie
 
-slice-aggregate-put-mark : tie.Need-slice-aggregate-put-mark
-slice-aggregate-put-mark c = search needs
+slice-aggregate-put-bytes : tie.Need-slice-aggregate-put-bytes
+slice-aggregate-put-bytes c = search needs
 
-put-mark-requires : tie.Need-put-mark-requires
-put-mark-requires c κs = search needs
+put-bytes-requires : tie.Need-put-bytes-requires
+put-bytes-requires c κs = search needs
 
 same-length : tie.Need-same-length
 same-length c = search needs
 
 returns : tie.Need-returns
 returns c =
-    writes-as (c .before .before .put-mark .ensures) (sym (text-no-patterns (c .before .before .before .before .before .before .before .before .before .args .s) (c .before .before .before .before .before .if1 .taken)))
+    writes-as (c .before .before .put-bytes .ensures) (sym (text-no-patterns (c .before .before .before .before .before .before .before .before .before .args .s) (c .before .before .before .before .before .if1 .taken)))
 
 put-requires : tie.Need-put-requires
 put-requires c κs = search needs
@@ -64,8 +64,8 @@ pub put-patterns-spec : {M : Type 1} → statement M
 put-patterns-spec =
     tie.close
     (tie.spec
-    slice-aggregate-put-mark
-    put-mark-requires
+    slice-aggregate-put-bytes
+    put-bytes-requires
     same-length
     returns
     put-requires

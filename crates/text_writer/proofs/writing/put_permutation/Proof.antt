@@ -2,16 +2,16 @@
 -- Assumes nothing.
 use mathlib.Core.Path.{sym}
 use borrow.Author.Needs.{needs}
-use Rattle.text_writer.specs.PageLaws.{room-as, writes-as}
+use Rattle.text_page.specs.PageLaws.{room-as, writes-as}
 use Rattle.text_writer.specs.WrittenLaws.{perm-none, perm-some}
 use Rattle.text_writer.proofs.writing.put_permutation.Statement.{statement}
 use Rattle.text_writer.proofs.writing.put_permutation.Tie as tie
 
-slice-aggregate-put-mark : tie.Need-slice-aggregate-put-mark
-slice-aggregate-put-mark c = search needs
+slice-aggregate-put-bytes : tie.Need-slice-aggregate-put-bytes
+slice-aggregate-put-bytes c = search needs
 
-put-mark-requires : tie.Need-put-mark-requires
-put-mark-requires c κs =
+put-bytes-requires : tie.Need-put-bytes-requires
+put-bytes-requires c κs =
     let a = c .before .before .before .before .before .args in
     room-as (c .before .before .before .before .before .pre .1) (perm-none (a .n) (a .run .now) (c .before .before .if1 .taken))
 
@@ -21,7 +21,7 @@ same-length c = search needs
 returns : tie.Need-returns
 returns c =
     let a = c .before .before .before .before .before .before .before .before .args in
-    writes-as (c .before .before .put-mark .ensures) (sym (perm-none (a .n) (a .run .now) (search needs)))
+    writes-as (c .before .before .put-bytes .ensures) (sym (perm-none (a .n) (a .run .now) (search needs)))
 
 put-digits-requires : tie.Need-put-digits-requires
 put-digits-requires c κs =
@@ -42,8 +42,8 @@ pub put-permutation-spec : {M : Type 1} → statement M
 put-permutation-spec =
     tie.close
     (tie.spec
-    slice-aggregate-put-mark
-    put-mark-requires
+    slice-aggregate-put-bytes
+    put-bytes-requires
     same-length
     returns
     put-digits-requires

@@ -6,18 +6,18 @@ use Rattle.scheme.specs.SchemeMemory.{doesOf}
 use Rattle.scheme.specs.declared.memory.Rule.{Rule}
 use Rattle.text_grammar.specs.Spelling.{rulePieces}
 use Rattle.text_writer.specs.Writable.{text}
-use Rattle.text_writer.specs.PageLaws.{room-as, writes-as}
+use Rattle.text_page.specs.PageLaws.{room-as, writes-as}
 use Rattle.text_writer.proofs.writing.put_rule.Statement.{statement}
 use Rattle.text_writer.proofs.writing.put_rule.Tie as tie
 
 enum-told : tie.Need-enum-told
 enum-told c = search needs
 
-slice-aggregate-put-mark : tie.Need-slice-aggregate-put-mark
-slice-aggregate-put-mark c = search needs
+slice-aggregate-put-bytes : tie.Need-slice-aggregate-put-bytes
+slice-aggregate-put-bytes c = search needs
 
-put-mark-requires : tie.Need-put-mark-requires
-put-mark-requires c κs = room-as (c .before .before .before .before .before .pre .1) (ap (λ (r : Rule). text (rulePieces (doesOf r))) (c .before .before .enum-told .given .1))
+put-bytes-requires : tie.Need-put-bytes-requires
+put-bytes-requires c κs = room-as (c .before .before .before .before .before .pre .1) (ap (λ (r : Rule). text (rulePieces (doesOf r))) (c .before .before .enum-told .given .1))
 
 enum-known-rule : tie.Need-enum-known-rule
 enum-known-rule c = search needs
@@ -31,7 +31,7 @@ same-length : tie.Need-same-length
 same-length c = search needs
 
 returns : tie.Need-returns
-returns c = writes-as (c .before .before .put-mark .ensures) (sym (ap (λ (r : Rule). text (rulePieces (doesOf r))) (c .before .before .before .before .before .enum-told .given .1)))
+returns c = writes-as (c .before .before .put-bytes .ensures) (sym (ap (λ (r : Rule). text (rulePieces (doesOf r))) (c .before .before .before .before .before .enum-told .given .1)))
 
 same-length-2 : tie.Need-same-length-2
 same-length-2 c = search needs
@@ -44,8 +44,8 @@ put-rule-spec =
     tie.close
     (tie.spec
     enum-told
-    slice-aggregate-put-mark
-    put-mark-requires
+    slice-aggregate-put-bytes
+    put-bytes-requires
     enum-known-rule
     put-deleted-requires
     same-length

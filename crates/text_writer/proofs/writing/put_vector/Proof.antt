@@ -4,16 +4,16 @@ use mathlib.Core.Path.{_≡_, refl}
 use native.Mathlib.Omega.{arith}
 use lib.ListN.{length}
 use borrow.Author.Needs.{needs}
-use Rattle.text_writer.specs.PageLaws.{start-as, step, finish-by, room-next, room-last}
+use Rattle.text_page.specs.PageLaws.{start-as, step, finish-by, room-next, room-last}
 use Rattle.text_writer.specs.WrittenLaws.{text-vector}
 use Rattle.text_writer.proofs.writing.put_vector.Statement.{statement}
 use Rattle.text_writer.proofs.writing.put_vector.Tie as tie
 
-slice-aggregate-put-mark : tie.Need-slice-aggregate-put-mark
-slice-aggregate-put-mark c = search needs
+slice-aggregate-put-bytes : tie.Need-slice-aggregate-put-bytes
+slice-aggregate-put-bytes c = search needs
 
-put-mark-requires : tie.Need-put-mark-requires
-put-mark-requires c κs = search needs
+put-bytes-requires : tie.Need-put-bytes-requires
+put-bytes-requires c κs = search needs
 
 array-read-put-part : tie.Need-array-read-put-part
 array-read-put-part c = search needs
@@ -24,7 +24,7 @@ put-part-requires c κs =
     let h = c .before .before .before .before .before .before .before .before .pre in
     let seven : length (a .g .parts) ≡ 7 = search needs in
     let whole = start-as _ _ (a .at) (a .page .now) (text-vector (a .g .width) (a .g .parts) (h .0 .some) (omega arith)) in
-    room-next _ _ (h .1) (step whole (c .before .before .before .put-mark .ensures)) refl
+    room-next _ _ (h .1) (step whole (c .before .before .before .put-bytes .ensures)) refl
 
 put-further-parts-requires : tie.Need-put-further-parts-requires
 put-further-parts-requires c κs =
@@ -32,18 +32,18 @@ put-further-parts-requires c κs =
     let h = c .before .before .before .before .before .before .before .before .before .before .before .before .pre in
     let seven : length (a .g .parts) ≡ 7 = search needs in
     let whole = start-as _ _ (a .at) (a .page .now) (text-vector (a .g .width) (a .g .parts) (h .0 .some) (omega arith)) in
-    (h .0, room-next _ _ (h .1) (step (step whole (c .before .before .before .before .before .before .before .put-mark .ensures)) (c .before .before .before .put-part .ensures)) refl)
+    (h .0, room-next _ _ (h .1) (step (step whole (c .before .before .before .before .before .before .before .put-bytes .ensures)) (c .before .before .before .put-part .ensures)) refl)
 
-slice-aggregate-put-mark-2 : tie.Need-slice-aggregate-put-mark-2
-slice-aggregate-put-mark-2 c = search needs
+slice-aggregate-put-bytes-2 : tie.Need-slice-aggregate-put-bytes-2
+slice-aggregate-put-bytes-2 c = search needs
 
-put-mark-requires-2 : tie.Need-put-mark-requires-2
-put-mark-requires-2 c κs =
+put-bytes-requires-2 : tie.Need-put-bytes-requires-2
+put-bytes-requires-2 c κs =
     let a = c .before .before .before .before .before .before .before .before .before .before .before .before .before .before .before .before .before .args in
     let h = c .before .before .before .before .before .before .before .before .before .before .before .before .before .before .before .before .before .pre in
     let seven : length (a .g .parts) ≡ 7 = search needs in
     let whole = start-as _ _ (a .at) (a .page .now) (text-vector (a .g .width) (a .g .parts) (h .0 .some) (omega arith)) in
-    room-last (h .1) (step (step (step whole (c .before .before .before .before .before .before .before .before .before .before .before .before .put-mark .ensures)) (c .before .before .before .before .before .before .before .before .put-part .ensures)) (c .before .before .before .before .put-further-parts .ensures))
+    room-last (h .1) (step (step (step whole (c .before .before .before .before .before .before .before .before .before .before .before .before .put-bytes .ensures)) (c .before .before .before .before .before .before .before .before .put-part .ensures)) (c .before .before .before .before .put-further-parts .ensures))
 
 same-length : tie.Need-same-length
 same-length c = search needs
@@ -54,18 +54,18 @@ returns c =
     let h = c .before .before .before .before .before .before .before .before .before .before .before .before .before .before .before .before .before .before .before .before .pre in
     let seven : length (a .g .parts) ≡ 7 = (let o = c .before .before .before .before .before .before .before .before .before .before .before .before .before .before .before .before .before .before .before .before .good in search needs) in
     let whole = start-as _ _ (a .at) (a .page .now) (text-vector (a .g .width) (a .g .parts) (h .0 .some) (omega arith)) in
-    finish-by (step (step (step whole (c .before .before .before .before .before .before .before .before .before .before .before .before .before .before .before .put-mark .ensures)) (c .before .before .before .before .before .before .before .before .before .before .before .put-part .ensures)) (c .before .before .before .before .before .before .before .put-further-parts .ensures)) (c .before .before .put-mark2 .ensures)
+    finish-by (step (step (step whole (c .before .before .before .before .before .before .before .before .before .before .before .before .before .before .before .put-bytes .ensures)) (c .before .before .before .before .before .before .before .before .before .before .before .put-part .ensures)) (c .before .before .before .before .before .before .before .put-further-parts .ensures)) (c .before .before .put-bytes2 .ensures)
 
 pub put-vector-spec : {M : Type 1} → statement M
 put-vector-spec =
     tie.close
     (tie.spec
-    slice-aggregate-put-mark
-    put-mark-requires
+    slice-aggregate-put-bytes
+    put-bytes-requires
     array-read-put-part
     put-part-requires
     put-further-parts-requires
-    slice-aggregate-put-mark-2
-    put-mark-requires-2
+    slice-aggregate-put-bytes-2
+    put-bytes-requires-2
     same-length
     returns)

@@ -8,9 +8,9 @@ use lib.ListN.{length, getD}
 use borrow.Author.Tests.{le-leb}
 use Rattle.word.specs.Lists.{all}
 use Rattle.word.specs.ListLaws.{all-append}
-use Rattle.table_text.specs.Printed.{digitsOf, decimal}
-use Rattle.table_text.specs.DecimalLaws.{digits-none}
-use Rattle.table_text.specs.Numeral.{isDigit, denotesAfter, denotes}
+use Rattle.text_page.specs.Decimal.{digitsOf, decimal}
+use Rattle.text_page.specs.DecimalLaws.{digits-none}
+use Rattle.text_page.specs.Numeral.{isDigit, denotesAfter, denotes}
 
 abbrev last : ℕ → List ℕ
 last n = (0x30 + n % 10) ∷ []

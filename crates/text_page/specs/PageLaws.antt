@@ -6,8 +6,7 @@ use mathlib.Core.Path.{_≡_, refl, sym, ap, _∙_}
 use mathlib.Core.List.{List, [], _∷_, _++_}
 use lib.ListN.{length, take, drop, set, length-append}
 use lib.Seq.{set-out}
-use Rattle.text_writer.specs.Page.{overlay, Writes}
-use Rattle.text_writer.specs.Writable.{Room}
+use Rattle.text_page.specs.Page.{overlay, Writes, Room}
 
 pub overlay-none : (at : ℕ) (t : List ℕ) → overlay at [] t ≡ t
 overlay-none at [] = refl
@@ -60,6 +59,13 @@ writes-as w e = rw e at w
 
 pub room-byte : {x : ℕ} (y : ℕ) {at : ℕ} → Room (x ∷ []) at → Room (y ∷ []) at
 room-byte y r = record { fits = r .fits }
+
+-- a byte before others, and then the others
+pub room-first : {x : ℕ} {xs : List ℕ} {at : ℕ} → Room (x ∷ xs) at → Room (x ∷ []) at
+room-first r = record { fits = omega (arith, r .fits) }
+
+pub room-rest : {x : ℕ} {xs : List ℕ} {at next : ℕ} {t u : List ℕ} → Room (x ∷ xs) at → Writes (x ∷ []) at t u next → Room xs next
+room-rest r w = record { fits = omega (arith, r .fits, w .moved) }
 
 pub writes-byte : {x y at next : ℕ} {t u : List ℕ} → Writes (x ∷ []) at t u next → x ≡ y → Writes (y ∷ []) at t u next
 writes-byte w e = rw e at w

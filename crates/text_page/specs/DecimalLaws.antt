@@ -4,7 +4,8 @@ use native.Mathlib.Omega.{arith}
 use mathlib.Core.Path.{_≡_, refl, ap, _∙_}
 use mathlib.Core.List.{List, [], _∷_, _++_}
 use lib.ListN.{length, length-append}
-use Rattle.table_text.specs.Printed.{digitsOf, decimal}
+use Rattle.text_page.specs.Page.{Room}
+use Rattle.text_page.specs.Decimal.{NUMERAL, digitsOf, decimal}
 
 abbrev last : ℕ → List ℕ
 last n = (0x30 + n % 10) ∷ []
@@ -46,6 +47,13 @@ parts n = refl
 pub decimal-more : (n : ℕ) → 10 ≤ n → decimal n ≡ decimal (n / 10) ++ ((0x30 + n % 10) ∷ [])
 decimal-more n h = parts n ∙ ap (λ (l : List ℕ). l ++ last n) (digits-decimal n (n / 10) (omega arith) (omega arith))
 
+-- there is a digit, and one more than ten times less has
+pub decimal-some : (n : ℕ) → 1 ≤ length (decimal n)
+decimal-some n = omega (arith, ap length (parts n), length-append (digitsOf n (n / 10)) (last n))
+
+pub decimal-longer : (n : ℕ) → 10 ≤ n → length (decimal n) ≡ length (decimal (n / 10)) + 1
+decimal-longer n h = ap length (decimal-more n h) ∙ length-append (decimal (n / 10)) (last n)
+
 abbrev pub tenTo : ℕ → ℕ
 tenTo zero = 1
 tenTo (suc k) = 10 * tenTo k
@@ -69,6 +77,10 @@ decimal-few k n h =
 pub decimal-two : (n : ℕ) → n < 100 → length (decimal n) ≤ 2
 decimal-two n h = decimal-few 1 n h
 
--- so has a number of 64 bits at most twenty
-pub decimal-twenty : (n : ℕ) → n < 18446744073709551616 → length (decimal n) ≤ 20
-decimal-twenty n h = decimal-few 19 n (omega arith)
+-- so has a number of 64 bits
+pub decimal-most : (n : ℕ) → n < 18446744073709551616 → length (decimal n) ≤ NUMERAL
+decimal-most n h = decimal-few 19 n (omega arith)
+
+-- room for a number of 64 bits
+pub room-decimal : (n at : ℕ) → n < 18446744073709551616 → at ≤ 1000000 → Room (decimal n) at
+room-decimal n at h k = record { fits = omega (arith, decimal-most n h) }

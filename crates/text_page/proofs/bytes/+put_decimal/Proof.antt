@@ -4,18 +4,18 @@
 use mathlib.Core.Path.{sym}
 use native.Mathlib.Omega.{arith}
 use borrow.Author.Needs.{needs}
-use Rattle.text_writer.specs.PageLaws.{writes-as, writes-byte, writes-join}
-use Rattle.table_text.specs.DecimalLaws.{decimal-one, decimal-more, decimal-twenty}
+use Rattle.text_page.specs.PageLaws.{writes-as, writes-byte, writes-join}
+use Rattle.text_page.specs.DecimalLaws.{decimal-one, decimal-more, decimal-some, decimal-longer, decimal-most}
 use Prim.Native.Nat.{ℕ, _<_}
 use borrow.Fn.Kinds.{In}
 use borrow.Fn.PlainCycle.{Measures, is, falls, and}
-use Rattle.table_text.proofs.printing.put_decimal.Reads as put-decimal
-use Rattle.table_text.proofs.printing.put_decimal.Kinds as put-decimal-kinds
-use Rattle.table_text.proofs.printing.+put_decimal.Lts-put_decimal as put-decimal-lts
-use Rattle.table_text.proofs.printing.digit.Reads as digit-reads
-use Rattle.table_text.proofs.printing.put.Reads as put-reads
-use Rattle.table_text.proofs.printing.+put_decimal.{statement}
-use Rattle.table_text.proofs.printing.+put_decimal.Tie.{close}
+use Rattle.text_page.proofs.bytes.put_decimal.Reads as put-decimal
+use Rattle.text_page.proofs.bytes.put_decimal.Kinds as put-decimal-kinds
+use Rattle.text_page.proofs.bytes.+put_decimal.Lts-put_decimal as put-decimal-lts
+use Rattle.text_page.proofs.bytes.digit.Reads as digit-reads
+use Rattle.text_page.proofs.bytes.put.Reads as put-reads
+use Rattle.text_page.proofs.bytes.+put_decimal.{statement}
+use Rattle.text_page.proofs.bytes.+put_decimal.Tie.{close}
 
 abbrev μ-put-decimal : Measures 1 put-decimal-kinds.ps ℕ
 μ-put-decimal κs a = a .1 .1 .0
@@ -43,7 +43,7 @@ module _ (t : ℕ) where
   digit-requires c κs = search needs
 
   put-requires : put-decimal-lts.Need-put-requires (called t) (put-decimal-at t) put-decimal.Post
-  put-requires c κs = search needs
+  put-requires c κs = record { fits = omega (arith, decimal-some (c .before .before .before .before .args .n), c .before .before .before .before .pre .1 .fits) }
 
   same-length : put-decimal-lts.Need-same-length (called t) (put-decimal-at t) put-decimal.Post
   same-length c = search needs
@@ -53,16 +53,20 @@ module _ (t : ℕ) where
       let a = c .before .before .before .before .before .before .before .args in
       let big : a .n < 18446744073709551616 = search needs in
       let w = writes-as (writes-byte (c .before .before .put .ensures) (c .before .before .before .digit .ensures)) (sym (decimal-one (a .n) (c .before .before .before .before .before .if1 .taken))) in
-      (w, omega (arith, w .moved, decimal-twenty (a .n) big))
+      (w, omega (arith, w .moved, decimal-most (a .n) big))
 
   put-decimal-requires : put-decimal-lts.Need-put-decimal-requires (called t) (put-decimal-at t) put-decimal.Post
-  put-decimal-requires c κs = (omega arith, search needs)
+  put-decimal-requires c κs =
+      (omega arith, record { fits = omega (arith, decimal-longer (c .before .before .before .args .n) (c .before .if1 .left), c .before .before .before .pre .1 .fits) })
 
   digit-requires-2 : put-decimal-lts.Need-digit-requires-2 (called t) (put-decimal-at t) put-decimal.Post
   digit-requires-2 c κs = search needs
 
   put-requires-2 : put-decimal-lts.Need-put-requires-2 (called t) (put-decimal-at t) put-decimal.Post
-  put-requires-2 c κs = search needs
+  put-requires-2 c κs =
+      let a = c .before .before .before .before .before .before .before .before .args in
+      let w = c .before .before .before .before .put-decimal .ensures .0 in
+      record { fits = omega (arith, decimal-longer (a .n) (c .before .before .before .before .before .before .if1 .left), w .moved, c .before .before .before .before .before .before .before .before .pre .1 .fits) }
 
   same-length-2 : put-decimal-lts.Need-same-length-2 (called t) (put-decimal-at t) put-decimal.Post
   same-length-2 c = search needs
@@ -72,7 +76,7 @@ module _ (t : ℕ) where
       let a = c .before .before .before .before .before .before .before .before .before .before .before .args in
       let big : a .n < 18446744073709551616 = search needs in
       let w = writes-as (writes-join (c .before .before .before .before .before .before .before .put-decimal .ensures .0) (writes-byte (c .before .before .put2 .ensures) (c .before .before .before .digit2 .ensures))) (sym (decimal-more (a .n) (c .before .before .before .before .before .before .before .before .before .if1 .left))) in
-      (w, omega (arith, w .moved, decimal-twenty (a .n) big))
+      (w, omega (arith, w .moved, decimal-most (a .n) big))
 
 pub +put-decimal-spec : {M : Type 1} → statement M
 +put-decimal-spec = close μ-put-decimal λ t. put-decimal-lts.spec (called t) (put-decimal-at t) put-decimal.Post

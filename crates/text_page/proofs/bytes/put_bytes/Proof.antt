@@ -1,15 +1,13 @@
--- `table_text::printing::put_bytes` meets its contract: what is still to come are the bytes from
--- the index on.
+-- `text_page::bytes::put_bytes` meets its contract: what is still to come are the bytes from the index on.
 -- Assumes nothing.
 use Prim.Native.Nat.{_-_}
-use native.Mathlib.Omega.{arith}
 use borrow.Author.Needs.{needs}
 use native.Mathlib.Numerals.{add-one}
 use lib.ListN.{length, drop, drop-of-length-le}
 use lib.Seq.{drop-cons}
-use Rattle.text_writer.specs.PageLaws.{ToCome, start, step, again, finish, same-size}
-use Rattle.table_text.proofs.printing.put_bytes.Statement.{statement}
-use Rattle.table_text.proofs.printing.put_bytes.Tie as tie
+use Rattle.text_page.specs.PageLaws.{ToCome, start, step, again, finish, same-size, room-next}
+use Rattle.text_page.proofs.bytes.put_bytes.Statement.{statement}
+use Rattle.text_page.proofs.bytes.put_bytes.Tie as tie
 
 abbrev Inv-loop : tie.InvT-loop
 Inv-loop page₀ at bytes next₀ i₀ page next i = ToCome bytes at page₀ (drop i bytes) next page
@@ -24,7 +22,10 @@ shared-slice-read-put : tie.Need-shared-slice-read-put Inv-loop μ-loop
 shared-slice-read-put c = search needs
 
 put-requires : tie.Need-put-requires Inv-loop μ-loop
-put-requires c κs = omega (arith, c .before .before .before .loop .inv .place)
+put-requires c κs =
+    let a = c .before .before .before .before .before .before .args in
+    let l = c .before .before .before .loop in
+    room-next _ _ (c .before .before .before .before .before .before .pre) (l .inv) (drop-cons (a .bytes .now) (l .i) 0 (search needs))
 
 add-i : tie.Need-add-i Inv-loop μ-loop
 add-i c = search needs

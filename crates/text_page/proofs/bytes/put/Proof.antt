@@ -1,10 +1,9 @@
--- `table_text::printing::put` meets its contract: a byte inside the page is one place set, and one
--- behind its end changes nothing.
+-- `text_page::bytes::put` meets its contract: a byte inside the page is one place set, and one behind its end changes nothing.
 -- Assumes nothing.
 use borrow.Author.Needs.{needs}
-use Rattle.text_writer.specs.PageLaws.{one-inside, one-behind}
-use Rattle.table_text.proofs.printing.put.Statement.{statement}
-use Rattle.table_text.proofs.printing.put.Tie as tie
+use Rattle.text_page.specs.PageLaws.{one-inside, one-behind}
+use Rattle.text_page.proofs.bytes.put.Statement.{statement}
+use Rattle.text_page.proofs.bytes.put.Tie as tie
 
 slice-write-page : tie.Need-slice-write-page
 slice-write-page c = search needs

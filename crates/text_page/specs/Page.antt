@@ -1,5 +1,5 @@
--- A lent page with bytes written over it.
-use Prim.Native.Nat.{ℕ, zero, suc, _+_}
+-- A lent page with bytes written over it. Definitions only.
+use Prim.Native.Nat.{ℕ, zero, suc, _+_, _≤_}
 use mathlib.Core.Path.{_≡_}
 use mathlib.Core.List.{List, [], _∷_}
 use lib.ListN.{length}
@@ -15,3 +15,7 @@ overlay (suc at) xs (y ∷ t) = y ∷ overlay at xs t
 pub record Writes (xs : List ℕ) (at : ℕ) (before after : List ℕ) (next : ℕ) : Type 0 where
   pub moved : next ≡ at + length xs
   pub page : after ≡ overlay at xs before
+
+-- the place behind these bytes is a number that fits
+pub record Room (xs : List ℕ) (at : ℕ) : Type 0 where
+  pub fits : at + length xs ≤ 2000000

@@ -1,0 +1,2 @@
+// Bytes and numbers written over a lent page.
+pub mod bytes;
