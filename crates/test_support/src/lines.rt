@@ -1,15 +1,13 @@
 // The lines of standard input.
 use crate::parts::before;
-use crate::parts::lent;
 use crate::parts::suffix;
 use libc::STDIN_FILENO;
 ghost use Prim.Native.Nat.{_+_, _≤_, min};
 ghost use lib.ListN.{length};
 
-// Standard input, as far as the buffer holds it.
-pub fn input(buffer: &mut [u8]) -> &mut [u8] {
-    let n = io::read_full(STDIN_FILENO, buffer);
-    lent(buffer, n)
+// Reads standard input, as far as the buffer holds it; how many bytes there are.
+pub fn input(buffer: &mut [u8]) -> usize {
+    io::read_full(STDIN_FILENO, buffer)
 }
 
 // The line that starts at the index `at`, without its end.
