@@ -20,6 +20,16 @@ pub fn before(a: &[u8], x: u8) -> &[u8] {
     prefix(a, bytes::scan::find(a, 0, a.len(), x))
 }
 
+// What stands behind the first byte x, or nothing where there is none.
+pub fn behind(a: &[u8], x: u8) -> &[u8] {
+    let at = bytes::scan::find(a, 0, a.len(), x);
+    if at < a.len() {
+        suffix(a, at + 1)
+    } else {
+        suffix(a, at)
+    }
+}
+
 // The first n bytes to be written, or all of them where there are fewer.
 pub fn lent(page: &mut [u8], n: usize) -> &mut [u8] {
     if n < page.len() { &mut page[..n] } else { page }
