@@ -1,23 +1,30 @@
-// Tests of containment: against the direct search on every short pair, at the limits, on bad input, and on the examples of document 01.
-use crate::print;
-use test_listing::direct;
-use test_listing::permutations;
+// Tests of containment: against the direct search on every short pair, at the limits, on bad input,
+// and on the examples of document 01.
+use test_listing::direct::has_copy;
 use test_listing::permutations::LONGEST;
+use test_listing::permutations::count;
+use test_listing::permutations::permutation;
+use test_support::counts::one_more_if;
+use test_support::parts::prefix;
+use test_support::print;
 use word::containment::Contained;
 use word::containment::contains;
+use word::limits::WORD;
 use word::refusal::number;
 
 // the length of the longest patterns that are compared on every permutation
 const PATTERN: usize = 4;
-// how many patterns of that length there are
-const PATTERNS: usize = 24;
-// the length of the longest permutations that they are compared on
-const PERMUTATION: usize = 7;
-// how many permutations of that length there are
-const PERMUTATIONS: usize = 5040;
+// the lengths of the permutations that they are compared on, 0 to 7
+const LENGTHS: usize = 8;
+// the pairs of a length of patterns and a length of permutations
+const LINES: usize = PATTERN * LENGTHS;
+// the most pairs of a pattern and a permutation of two such lengths: 24 times 5040
+const PAIRS: usize = 120960;
+// one entry more than a permutation may have
+const BEYOND: usize = WORD + 1;
 
 // a permutation of twenty entries in which 24163857 stands once, at the positions 6, 7, 8, 10, 14, 15, 16 and 18
-const ONE_COPY: [u8; 20] = [
+const ONE_COPY: [u8; WORD] = [
     13,
     18,
     8,
@@ -40,7 +47,7 @@ const ONE_COPY: [u8; 20] = [
     6,
 ];
 // a permutation of twenty entries in which it does not stand
-const NO_COPY: [u8; 20] = [
+const NO_COPY: [u8; WORD] = [
     6,
     9,
     10,
@@ -63,7 +70,7 @@ const NO_COPY: [u8; 20] = [
     13,
 ];
 // 1 to 21 in their order
-const TWENTY_ONE: [u8; 21] = [
+const TWENTY_ONE: [u8; BEYOND] = [
     1,
     2,
     3,
@@ -94,28 +101,20 @@ struct Tally {
     disagreements: u64,
 }
 
-// For each length of patterns and each length of permutations a line: the two lengths, how many pairs `contains` says yes of, how many
-// pairs there are, and on how many the direct search says something else.
+// For each length of patterns and each length of permutations a line: the two lengths, how many
+// pairs `contains` says yes of, how many pairs there are, and on how many the direct search says
+// something else.
 pub fn against_direct_search() {
-    let mut k: usize = 1;
-    while k <= PATTERN {
-        lines_of(k);
-        k += 1;
-    }
-}
-
-// The lines of the patterns of length k.
-fn lines_of(k: usize) {
-    let mut n: usize = 0;
-    while n <= PERMUTATION {
-        line_of(k, n);
-        n += 1;
+    let mut i: usize = 0;
+    while i < LINES {
+        line_of(i / LENGTHS + 1, i % LENGTHS);
+        i += 1;
     }
 }
 
 // The line of the patterns of length k and the permutations of length n.
 fn line_of(k: usize, n: usize) {
-    let t = over_patterns(k, n);
+    let t = over_pairs(k, n);
     print::number(k as u64);
     print::next_number(n as u64);
     print::next_number(t.contained);
@@ -125,83 +124,58 @@ fn line_of(k: usize, n: usize) {
 }
 
 // The tally of every pattern of length k with every permutation of length n.
-fn over_patterns(k: usize, n: usize) -> Tally {
+fn over_pairs(k: usize, n: usize) -> Tally {
+    let patterns = count(k);
+    let words = count(n);
     let mut t = Tally {
         contained: 0,
         pairs: 0,
         disagreements: 0,
     };
-    let mut p = permutations::first();
-    let mut turn: usize = 0;
-    while turn < PATTERNS {
-        let sum = over_permutations(t, p, k, n);
-        t = sum;
-        let next = permutations::after(p, k);
-        if !next.found {
+    let mut i: usize = 0;
+    while i < PAIRS {
+        if patterns <= i / words {
             return t;
         }
-        p = next.entries;
-        turn += 1;
+        let sum = with_pair(
+            t,
+            permutation(k, i / words),
+            k,
+            permutation(n, i % words),
+            n,
+        );
+        t = sum;
+        i += 1;
     }
     t
 }
 
-// The tally, and in it the pattern with every permutation of length n.
-fn over_permutations(t: Tally, p: [u8; LONGEST], k: usize, n: usize) -> Tally {
-    let mut sum = t;
-    let mut w = permutations::first();
-    let mut turn: usize = 0;
-    while turn < PERMUTATIONS {
-        let more = with_pair(
-            sum,
-            library_answer(p, k, w, n),
-            direct::has_copy(p, k, w, n),
-        );
-        sum = more;
-        let next = permutations::after(w, n);
-        if !next.found {
-            return sum;
-        }
-        w = next.entries;
-        turn += 1;
+// The tally, and in it the first k entries of p and the first n of w.
+fn with_pair(t: Tally, p: [u8; LONGEST], k: usize, w: [u8; LONGEST], n: usize) -> Tally {
+    let answer = contains(prefix(&p, k), prefix(&w, n));
+    Tally {
+        contained: one_more_if(is_yes(answer), t.contained),
+        pairs: one_more_if(true, t.pairs),
+        disagreements: one_more_if(!agree(answer, has_copy(p, k, w, n)), t.disagreements),
     }
-    sum
 }
 
-// What `contains` answers on the first k entries of p and the first n of w.
-fn library_answer(p: [u8; LONGEST], k: usize, w: [u8; LONGEST], n: usize) -> Contained {
-    contains(permutations::prefix(&p, k), permutations::prefix(&w, n))
-}
-
-// The tally, and in it one pair with the answer of `contains` and that of the direct search. A refusal is a disagreement.
-fn with_pair(t: Tally, answer: Contained, direct: bool) -> Tally {
+// Whether `contains` says yes.
+fn is_yes(answer: Contained) -> bool {
     match answer {
-        Contained::Yes => Tally {
-            contained: one_more(t.contained),
-            pairs: one_more(t.pairs),
-            disagreements: one_more_if(!direct, t.disagreements),
-        },
-        Contained::No => Tally {
-            contained: t.contained,
-            pairs: one_more(t.pairs),
-            disagreements: one_more_if(direct, t.disagreements),
-        },
-        Contained::Refused(_, _) => Tally {
-            contained: t.contained,
-            pairs: one_more(t.pairs),
-            disagreements: one_more(t.disagreements),
-        },
+        Contained::Yes => true,
+        Contained::No => false,
+        Contained::Refused(_, _) => false,
     }
 }
 
-// n + 1. No count here comes near the largest number.
-fn one_more(n: u64) -> u64 {
-    std::num::wrapping_add_u64(n, 1)
-}
-
-// n + 1 where it is so, and n elsewhere.
-fn one_more_if(so: bool, n: u64) -> u64 {
-    if so { one_more(n) } else { n }
+// Whether `contains` says what the direct search says. A refusal is a disagreement.
+fn agree(answer: Contained, direct: bool) -> bool {
+    match answer {
+        Contained::Yes => direct,
+        Contained::No => !direct,
+        Contained::Refused(_, _) => false,
+    }
 }
 
 // The line of one call of `contains`: the label and the answer.
@@ -211,17 +185,11 @@ fn line(label: &[u8], pattern: &[u8], permutation: &[u8]) {
         Contained::Yes => print::text(b" yes"),
         Contained::No => print::text(b" no"),
         Contained::Refused(why, at) => {
-            print::text(b" refused");
-            print::next_number(wide(number(why)));
-            print::next_number(at as u64);
+            print::text(b" ");
+            print::refused(number(why), at);
         }
     }
     print::end();
-}
-
-// A byte as a number to print.
-fn wide(x: u8) -> u64 {
-    x as u64
 }
 
 // The ceilings, ε, digits that are no permutation, and two arguments at fault.
@@ -310,7 +278,7 @@ fn ceiling_first() {
         &[0, 1, 2, 3, 4, 5, 6, 7, 8],
         &[1],
     );
-    line(b"twenty-one-entries-with-a-repeat", &[1], &[7; 21]);
+    line(b"twenty-one-entries-with-a-repeat", &[1], &[7; BEYOND]);
 }
 
 // The examples of document 01.

@@ -1,11 +1,13 @@
-// The examples of document 01 on lengths, tables and refusals: a line each, the label, the answer, and what became of the page of cells.
+// The examples of document 01 on lengths, tables and refusals: a line each, the label, the answer,
+// and what became of the page of cells.
 use crate::page::CELLS;
 use crate::page::Left;
 use crate::page::run;
-use crate::print;
 use crate::tally::print_answer;
 use notation::patterns::read_patterns;
 use notation::schemes::read_scheme;
+use test_support::print;
+use word::limits::LENGTH;
 
 // the scheme of {123}: `{(ε,∅,∅),(1,∅,∅),(12,{⟨0,0,1⟩},{2}),(21,∅,{1})}`
 const CATALAN: [u8; 62] =
@@ -31,11 +33,12 @@ pub fn lines() {
 
 // "n = 20 is counted, 21 refused 2" (01).
 fn lengths() {
-    catalan(b"catalan-number-20", 20);
-    catalan(b"length-21", 21);
+    catalan(b"catalan-number-20", LENGTH);
+    catalan(b"length-21", LENGTH + 1);
 }
 
-// "A table of 74 cells serves the scheme below at n = 6; 73 is refused 12" (01). Of a longer table the cells behind are untouched.
+// "A table of 74 cells serves the scheme below at n = 6; 73 is refused 12" (01). Of a longer table
+// the cells behind are untouched.
 fn tables() {
     schroeder(b"exactly-74-cells", 74);
     schroeder(b"one-cell-too-few", 73);
@@ -44,7 +47,7 @@ fn tables() {
 
 // 20! is the largest count; at the length 0 the entry for ε alone needs two cells.
 fn all_permutations() {
-    all(b"twenty-factorial", 20, CELLS);
+    all(b"twenty-factorial", LENGTH, CELLS);
     all(b"length-0-with-two-cells", 0, 2);
     all(b"length-0-with-one-cell", 0, 1);
 }
@@ -86,9 +89,7 @@ fn end_line(r: Left) {
     print_answer(answer);
     if r.kept {
         print::text(b" kept\n");
-    } else if r.cleared {
-        print::text(b" cleared\n");
     } else {
-        print::text(b" changed\n");
+        print::either(r.cleared, b" cleared\n", b" changed\n");
     }
 }

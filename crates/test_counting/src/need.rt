@@ -1,9 +1,11 @@
-// The cells that counting needs, found by addition: "2 times the sum of C(n, k) over all entries, k being the entry's length" (01).
+// The cells that counting needs, found by addition: "2 times the sum of C(n, k) over all entries, k
+// being the entry's length" (01).
 use scheme::memory::Scheme;
 use word::limits::ENTRIES;
+use word::limits::PREFIX;
 
-// how many binomials of a row are kept: those for the lengths of prefixes, 0 to 6
-const ROW: usize = 7;
+// how many binomials of a row are kept: those for the lengths of prefixes, 0 to PREFIX
+const ROW: usize = PREFIX + 1;
 
 // The cells that a scheme needs at the length n.
 pub fn need(s: Scheme, n: usize) -> usize {

@@ -10,7 +10,8 @@ pub const CELLS: usize = 32768;
 // what each of its cells holds before the count
 const OLD: u64 = 9876543210123456789;
 
-// The answer of a count, whether the page holds what it held before, and whether the cells that are needed hold 0 and all others what they held.
+// The answer of a count, whether the page holds what it held before, and whether the cells that are
+// needed hold 0 and all others what they held.
 pub struct Left {
     pub answer: Counted,
     pub kept: bool,
@@ -20,16 +21,13 @@ pub struct Left {
 // A count that is lent the first cells of a page: so many, or all of them where there are fewer.
 pub fn run(patterns: Patterns, scheme: Scheme, n: usize, cells: usize) -> Left {
     let mut page = [OLD; CELLS];
-    let answer = lend(patterns, scheme, n, &mut page, cells);
+    let answer = count(patterns, scheme, n, lent(&mut page, cells));
     outcome(answer, &page, need(scheme, n))
 }
 
-// The count with the first cells of the page as its table.
-fn lend(patterns: Patterns, scheme: Scheme, n: usize, page: &mut [u64], cells: usize) -> Counted {
-    if page.len() < cells {
-        return count(patterns, scheme, n, page);
-    }
-    count(patterns, scheme, n, &mut page[..cells])
+// The first n cells, or all of them where there are fewer.
+fn lent(page: &mut [u64], n: usize) -> &mut [u64] {
+    if n < page.len() { &mut page[..n] } else { page }
 }
 
 // The answer, and what the page holds.

@@ -5,7 +5,6 @@ use crate::avoiders::avoiders;
 use crate::need::need;
 use crate::page::Left;
 use crate::page::run;
-use crate::print;
 use counting::answer::Counted;
 use counting::plainly::count_plainly;
 use notation::patterns::read_patterns;
@@ -15,6 +14,7 @@ use scheme::memory::Scheme;
 use scheme::order::earlier;
 use scheme::order::is_fault;
 use test_listing::permutations::LONGEST;
+use test_support::print;
 use word::refusal::number;
 
 // the largest length that is counted
@@ -86,11 +86,7 @@ fn space_before(n: usize) {
 pub fn print_answer(answer: Counted) {
     match answer {
         Counted::Count(c) => print::number(c),
-        Counted::Refused(why, at) => {
-            print::text(b"refused");
-            print::next_number(wide(number(why)));
-            print::next_number(at as u64);
-        }
+        Counted::Refused(why, at) => print::refused(number(why), at),
     }
 }
 
@@ -130,29 +126,12 @@ fn is_in_order(r: Left) -> bool {
 
 // Ends the line with what was found of all lengths.
 fn last_words(found: Found) {
-    if found.listed {
-        print::text(b" listed");
-    } else {
-        print::text(b" differs");
-    }
-    if found.plain {
-        print::text(b" plain");
-    } else {
-        print::text(b" plain-differs");
-    }
-    if found.cleared {
-        print::text(b" cleared\n");
-    } else {
-        print::text(b" not-cleared\n");
-    }
+    print::either(found.listed, b" listed", b" differs");
+    print::either(found.plain, b" plain", b" plain-differs");
+    print::either(found.cleared, b" cleared\n", b" not-cleared\n");
 }
 
 // Whether both are so.
 fn both(a: bool, b: bool) -> bool {
     if a { b } else { false }
-}
-
-// A byte as a number to print.
-fn wide(x: u8) -> u64 {
-    x as u64
 }

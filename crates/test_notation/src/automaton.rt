@@ -1,5 +1,6 @@
-// Reading by a finite automaton over the bytes, given by the table of rows.rt. It shares no code with the crate `notation`: it has no cursor, no
-// tokens and no parts, and no memory beside its state, one number and the list read so far.
+// Reading by a finite automaton over the bytes, given by the table of rows.rt. It shares no code with
+// the crate `notation`: it has no cursor, no tokens and no parts, and no memory beside its state, one
+// number and the list read so far.
 use crate::flat::Flat;
 use crate::flat::STOP;
 use crate::flat::nothing;
@@ -14,7 +15,7 @@ use crate::rows::ROWS;
 use crate::rows::SKIP;
 use crate::rows::WRONG;
 use crate::rows::row_at;
-use crate::texts::wide;
+use test_support::counts::wide;
 
 // Where reading stands: the state, the number that was begun last, and the list so far.
 pub struct Machine {

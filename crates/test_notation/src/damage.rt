@@ -6,23 +6,28 @@ use crate::flat::Flat;
 use crate::flat::of_patterns;
 use crate::flat::of_scheme;
 use crate::flat::same;
-use crate::print;
 use crate::rows::SCHEME;
 use crate::rows::SET;
 use crate::texts::Kind;
+use crate::texts::ROOM;
 use crate::texts::Text;
 use crate::texts::WAYS;
-use crate::texts::byte_at;
 use crate::texts::damaged;
 use crate::texts::is_damage;
-use crate::texts::prefix;
 use notation::patterns::read_patterns;
 use notation::schemes::read_scheme;
 use scheme::memory::Fault;
+use test_support::counts::one_more_if;
+use test_support::parts::byte_at;
+use test_support::parts::prefix;
+use test_support::print;
 use word::refusal::number;
 
-// What was found on the damaged texts: how many there are, how many are spelt, how many are read with no fault, and on how many the two readers
-// disagree.
+// the most damaged texts that come of one
+const DAMAGES: usize = ROOM * WAYS;
+
+// What was found on the damaged texts: how many there are, how many are spelt, how many are read
+// with no fault, and on how many the two readers disagree.
 struct Tally {
     texts: u64,
     spelt: u64,
@@ -39,7 +44,7 @@ struct Answer {
 // The line of one text: the tally of every byte damaged in every way.
 pub fn line(kind: Kind, label: &[u8], text: &[u8]) {
     print::text(label);
-    let t = over_bytes(kind, text);
+    let t = over_damages(kind, text);
     print::next_number(t.texts);
     print::next_number(t.spelt);
     print::next_number(t.read);
@@ -48,36 +53,27 @@ pub fn line(kind: Kind, label: &[u8], text: &[u8]) {
 }
 
 // The tally of every byte damaged in every way.
-fn over_bytes(kind: Kind, text: &[u8]) -> Tally {
+fn over_damages(kind: Kind, text: &[u8]) -> Tally {
     let mut t = Tally {
         texts: 0,
         spelt: 0,
         read: 0,
         disagreements: 0,
     };
-    let mut at: usize = 0;
-    while at < text.len() {
-        let sum = over_ways(t, kind, text, at);
-        t = sum;
-        at += 1;
+    let mut i: usize = 0;
+    while i < DAMAGES {
+        let more = with_damage(t, kind, text, i / WAYS, i % WAYS);
+        t = more;
+        i += 1;
     }
     t
 }
 
-// The tally, and in it the byte at the index `at` damaged in every way.
-fn over_ways(t: Tally, kind: Kind, text: &[u8], at: usize) -> Tally {
-    let mut sum = t;
-    let mut way: usize = 0;
-    while way < WAYS {
-        let more = with_way(sum, kind, text, at, way);
-        sum = more;
-        way += 1;
+// The tally, and in it the byte at the index `at` damaged in one way.
+fn with_damage(t: Tally, kind: Kind, text: &[u8], at: usize, way: usize) -> Tally {
+    if text.len() <= at {
+        return t;
     }
-    sum
-}
-
-// The tally, and in it the byte damaged in one way.
-fn with_way(t: Tally, kind: Kind, text: &[u8], at: usize, way: usize) -> Tally {
     if !is_damage(byte_at(text, at), way) {
         return t;
     }
@@ -106,7 +102,8 @@ fn with_answers(t: Tally, a: Answer, m: Machine) -> Tally {
     }
 }
 
-// Whether both find the text spelt or both do not, and where there is no fault whether the lists are the same.
+// Whether both find the text spelt or both do not, and where there is no fault whether the lists are
+// the same.
 fn agree(a: Answer, m: Machine) -> bool {
     let refusal = a.refusal;
     let spelt = is_end(m);
@@ -129,10 +126,7 @@ fn patterns_answer(text: &[u8]) -> Answer {
     let r = read_patterns(text);
     let patterns = r.patterns;
     let fault = r.fault;
-    Answer {
-        refusal: number_of(fault),
-        list: of_patterns(patterns),
-    }
+    answered(fault, of_patterns(patterns))
 }
 
 // What reading a scheme answers.
@@ -140,9 +134,14 @@ fn scheme_answer(text: &[u8]) -> Answer {
     let r = read_scheme(text);
     let scheme = r.scheme;
     let fault = r.fault;
+    answered(fault, of_scheme(scheme))
+}
+
+// The fault and the list as an answer.
+fn answered(fault: Fault, list: Flat) -> Answer {
     Answer {
         refusal: number_of(fault),
-        list: of_scheme(scheme),
+        list,
     }
 }
 
@@ -151,14 +150,5 @@ fn number_of(fault: Fault) -> u8 {
     match fault {
         Fault::Clean => 0,
         Fault::At(why, _) => number(why),
-    }
-}
-
-// n + 1 where it is so, and n elsewhere. No count here comes near the largest number.
-fn one_more_if(so: bool, n: u64) -> u64 {
-    if so {
-        std::num::wrapping_add_u64(n, 1)
-    } else {
-        n
     }
 }

@@ -1,21 +1,26 @@
-// A list as numbers in a row, by which what two readers read is compared. A set: for each pattern its digits and a stop. A scheme: for each
-// entry its digits and a stop; for each gap vector its components and a stop; a stop; then the position deleted, or a stop for an entry that expands.
+// A list as numbers in a row, by which what two readers read is compared. A set: for each pattern its
+// digits and a stop. A scheme: for each entry its digits and a stop; for each gap vector its
+// components and a stop; a stop; then the position deleted, or a stop for an entry that expands.
 use crate::texts::ROOM;
-use crate::texts::byte_at;
-use crate::texts::prefix;
-use crate::texts::wide;
 use scheme::memory::Entry;
 use scheme::memory::Gap;
 use scheme::memory::Pattern;
 use scheme::memory::Patterns;
 use scheme::memory::Rule;
 use scheme::memory::Scheme;
+use test_support::counts::wide;
+use test_support::parts::byte_at;
+use test_support::parts::prefix;
 use word::limits::ENTRIES;
 use word::limits::GAPS;
 use word::limits::PATTERNS;
 
 // no digit, no component and no position: these are at most 999
 pub const STOP: u64 = 1000;
+// the parts of an entry: its prefix, its gap vectors and its rule
+const PARTS: usize = GAPS + 2;
+// the parts of all entries
+const ALL_PARTS: usize = ENTRIES * PARTS;
 
 // The first `count` numbers of an array. A text gives at most one number a byte.
 pub struct Flat {
@@ -82,11 +87,11 @@ pub fn of_scheme(s: Scheme) -> Flat {
     let count = s.count;
     let mut f = nothing();
     let mut i: usize = 0;
-    while i < ENTRIES {
-        if count <= i {
+    while i < ALL_PARTS {
+        if count <= i / PARTS {
             return f;
         }
-        let more = with_entry(f, entries[i]);
+        let more = with_part(f, entries[i / PARTS], i % PARTS);
         f = more;
         i += 1;
     }
@@ -99,30 +104,27 @@ fn with_pattern(f: Flat, p: Pattern) -> Flat {
     with_bytes(f, prefix(&digits, p.length))
 }
 
-// The numbers and an entry.
-fn with_entry(f: Flat, e: Entry) -> Flat {
-    let digits = e.prefix;
-    let rule = e.rule;
-    let head = with_bytes(f, prefix(&digits, e.length));
-    let gaps = with_gaps(head, e);
-    with(with(gaps, STOP), rule_number(rule))
+// The numbers and a part of an entry: its prefix, one of its gap vectors where it has that one, or
+// its rule.
+fn with_part(f: Flat, e: Entry, part: usize) -> Flat {
+    if part == 0 {
+        let digits = e.prefix;
+        return with_bytes(f, prefix(&digits, e.length));
+    }
+    if part == GAPS + 1 {
+        let rule = e.rule;
+        return with(with(f, STOP), rule_number(rule));
+    }
+    if e.gap_count < part {
+        return f;
+    }
+    with_gap(f, gap_at(e, part - 1))
 }
 
-// The numbers and the gap vectors of an entry.
-fn with_gaps(f: Flat, e: Entry) -> Flat {
+// The gap vector at the index i, or the first where there is none.
+fn gap_at(e: Entry, i: usize) -> Gap {
     let gaps = e.gaps;
-    let count = e.gap_count;
-    let mut all = f;
-    let mut i: usize = 0;
-    while i < GAPS {
-        if count <= i {
-            return all;
-        }
-        let more = with_gap(all, gaps[i]);
-        all = more;
-        i += 1;
-    }
-    all
+    if i < GAPS { gaps[i] } else { gaps[0] }
 }
 
 // The numbers and a gap vector.

@@ -1,6 +1,8 @@
-// The line of one text: the label, and either the refusal or the number of items read and what came of writing them to three pages: one with room,
-// one of just the bytes needed, and one of a byte fewer. Of the first two it says the number of bytes, whether they are the text without its
-// spaces, and whether the page behind them is still 7; of the last the refusal, and whether all of that page is still 7.
+// The line of one text: the label, and either the refusal or the number of items read and what came
+// of writing them to three pages: one with room, one of just the bytes needed, and one of a byte
+// fewer. Of the first two it says the number of bytes, whether they are the text without its spaces,
+// and whether the page behind them is still 7; of the last the refusal, and whether all of that page
+// is still 7.
 use crate::page::Filled;
 use crate::page::PAGE;
 use crate::page::begins_as;
@@ -9,13 +11,16 @@ use crate::page::is_sevens;
 use crate::page::one_fewer;
 use crate::page::with_patterns;
 use crate::page::with_scheme;
-use crate::print;
 use crate::texts::Kind;
 use notation::patterns::read_patterns;
 use notation::schemes::read_scheme;
+use notation::written::Written;
 use scheme::memory::Fault;
 use scheme::memory::Patterns;
 use scheme::memory::Scheme;
+use test_support::print;
+use word::refusal::Refusal;
+use word::refusal::number;
 
 // The line of a text of either kind.
 pub fn of(kind: Kind, label: &[u8], text: &[u8]) {
@@ -33,7 +38,7 @@ pub fn of_patterns(label: &[u8], text: &[u8]) {
     let fault = r.fault;
     match fault {
         Fault::Clean => patterns_back(patterns, text),
-        Fault::At(why, at) => print::refused(why, at),
+        Fault::At(why, at) => refused(why, at),
     }
     print::end();
 }
@@ -46,7 +51,7 @@ pub fn of_scheme(label: &[u8], text: &[u8]) {
     let fault = r.fault;
     match fault {
         Fault::Clean => scheme_back(scheme, text),
-        Fault::At(why, at) => print::refused(why, at),
+        Fault::At(why, at) => refused(why, at),
     }
     print::end();
 }
@@ -78,9 +83,9 @@ fn whole(f: Filled, text: &[u8]) -> usize {
     let page = f.page;
     let answer = f.answer;
     let n = count_of(answer);
-    print::written(answer);
-    print::verdict(begins_as(&page, n, text), b" same", b" different");
-    print::verdict(is_sevens(&page, n), b" rest-kept", b" rest-changed");
+    written(answer);
+    print::either(begins_as(&page, n, text), b" same", b" different");
+    print::either(is_sevens(&page, n), b" rest-kept", b" rest-changed");
     n
 }
 
@@ -88,6 +93,23 @@ fn whole(f: Filled, text: &[u8]) -> usize {
 fn short(f: Filled) {
     let page = f.page;
     let answer = f.answer;
-    print::written(answer);
-    print::verdict(is_sevens(&page, 0), b" page-kept", b" page-changed");
+    written(answer);
+    print::either(is_sevens(&page, 0), b" page-kept", b" page-changed");
+}
+
+// Prints the answer of writing.
+fn written(w: Written) {
+    match w {
+        Written::Bytes(n) => {
+            print::text(b" written");
+            print::next_number(n as u64);
+        }
+        Written::Refused(why, at) => refused(why, at),
+    }
+}
+
+// Prints a refusal.
+fn refused(why: Refusal, at: usize) {
+    print::text(b" ");
+    print::refused(number(why), at);
 }

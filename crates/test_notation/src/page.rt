@@ -1,10 +1,13 @@
 // A page filled with 7, and what writing to it or to its first bytes leaves there.
-use crate::texts::byte_at;
 use notation::patterns::write_patterns;
 use notation::schemes::write_scheme;
 use notation::written::Written;
 use scheme::memory::Patterns;
 use scheme::memory::Scheme;
+use test_support::parts::byte_at;
+use test_support::parts::lent;
+use test_support::parts::same;
+use test_support::parts::suffix;
 
 // the bytes of a page
 pub const PAGE: usize = 4096;
@@ -18,31 +21,15 @@ pub struct Filled {
 // A page to whose first n bytes a pattern set was written.
 pub fn with_patterns(patterns: Patterns, n: usize) -> Filled {
     let mut page = [7u8; PAGE];
-    let answer = put_patterns(patterns, &mut page, n);
+    let answer = write_patterns(patterns, lent(&mut page, n));
     Filled { page, answer }
 }
 
 // A page to whose first n bytes a scheme was written.
 pub fn with_scheme(scheme: Scheme, n: usize) -> Filled {
     let mut page = [7u8; PAGE];
-    let answer = put_scheme(scheme, &mut page, n);
+    let answer = write_scheme(scheme, lent(&mut page, n));
     Filled { page, answer }
-}
-
-// Writes a pattern set to the first n bytes of the page; to none of them where the page has fewer than n.
-fn put_patterns(patterns: Patterns, page: &mut [u8], n: usize) -> Written {
-    if page.len() < n {
-        return Written::Bytes(0);
-    }
-    write_patterns(patterns, &mut page[..n])
-}
-
-// Writes a scheme to the first n bytes of the page; to none of them where the page has fewer than n.
-fn put_scheme(scheme: Scheme, page: &mut [u8], n: usize) -> Written {
-    if page.len() < n {
-        return Written::Bytes(0);
-    }
-    write_scheme(scheme, &mut page[..n])
 }
 
 // The number of bytes written, and 0 after a refusal.
@@ -81,12 +68,6 @@ pub fn begins_as(page: &[u8], n: usize, text: &[u8]) -> bool {
 
 // Whether every byte of the page from the index `from` on is 7.
 pub fn is_sevens(page: &[u8], from: usize) -> bool {
-    let mut i = from;
-    while i < page.len() {
-        if page[i] != 7 {
-            return false;
-        }
-        i += 1;
-    }
-    true
+    let sevens = [7u8; PAGE];
+    same(suffix(page, from), suffix(&sevens, from))
 }

@@ -1,22 +1,21 @@
-// Texts that a line of the input does not hold: with other bytes than its characters have, cut inside a mark, or of the greatest length.
+// Texts that a line of the input does not hold: with other bytes than its characters have, cut
+// inside a mark, or of the greatest length.
 use crate::line::of_patterns;
 use crate::line::of_scheme;
-use crate::print;
-use crate::texts::prefix;
+use test_support::parts::prefix;
+use test_support::print;
+use word::limits::PATTERN_TEXT;
+use word::limits::SCHEME_TEXT;
 
 // the bytes of the short scheme
 const BYTES: usize = 32;
 // the short scheme: {(ε,{⟨0⟩},∅),(1,∅,{1})}
 const SHORT: [u8; BYTES] =
     *b"{(\xCE\xB5,{\xE2\x9F\xA80\xE2\x9F\xA9},\xE2\x88\x85),(1,\xE2\x88\x85,{1})}";
-// "Pattern text 1,024 bytes" (01)
-const LONGEST_SET: usize = 1024;
-// one byte beyond
-const BEYOND_SET: usize = 1025;
-// "scheme text 32,768" (01)
-const LONGEST_SCHEME: usize = 32768;
-// one byte beyond
-const BEYOND_SCHEME: usize = 32769;
+// one byte more than a pattern text may have
+const BEYOND_SET: usize = PATTERN_TEXT + 1;
+// one byte more than a scheme text may have
+const BEYOND_SCHEME: usize = SCHEME_TEXT + 1;
 
 // A line for each text.
 pub fn lines() {
@@ -46,7 +45,8 @@ fn cut_marks() {
     of_scheme(b"scheme-empty-mark-after-2-bytes", prefix(&mark, 2));
 }
 
-// The short scheme cut after each number of bytes: ε after 3, ⟨ after 7 and 8, ⟩ after 11 and 12, ∅ after 16 and 17. The rest stands behind the end.
+// The short scheme cut after each number of bytes: ε after 3, ⟨ after 7 and 8, ⟩ after 11 and 12, ∅
+// after 16 and 17. The rest stands behind the end.
 fn cuts() {
     let mut n: usize = 0;
     while n <= BYTES {
@@ -65,32 +65,22 @@ fn cut_after(n: usize) {
 // The mark ∅ among spaces, and spaces alone.
 fn long_patterns() {
     let mut page = [b' '; BEYOND_SET];
-    of_patterns(b"patterns-1024-spaces", prefix(&page, LONGEST_SET));
+    of_patterns(b"patterns-1024-spaces", prefix(&page, PATTERN_TEXT));
     of_patterns(b"patterns-1025-spaces", &page);
     page[500] = 0xE2;
     page[501] = 0x88;
     page[502] = 0x85;
-    of_patterns(b"patterns-in-1024-bytes", prefix(&page, LONGEST_SET));
+    of_patterns(b"patterns-in-1024-bytes", prefix(&page, PATTERN_TEXT));
     of_patterns(b"patterns-in-1025-bytes", &page);
 }
 
 // The short scheme with spaces behind it, and spaces alone.
 fn long_schemes() {
-    let padded = padded_short();
-    of_scheme(b"scheme-in-32768-bytes", prefix(&padded, LONGEST_SCHEME));
-    of_scheme(b"scheme-in-32769-bytes", &padded);
     let spaces = [b' '; BEYOND_SCHEME];
-    of_scheme(b"scheme-32768-spaces", prefix(&spaces, LONGEST_SCHEME));
+    let mut padded = spaces;
+    bytes::copy(&SHORT, &mut padded);
+    of_scheme(b"scheme-in-32768-bytes", prefix(&padded, SCHEME_TEXT));
+    of_scheme(b"scheme-in-32769-bytes", &padded);
+    of_scheme(b"scheme-32768-spaces", prefix(&spaces, SCHEME_TEXT));
     of_scheme(b"scheme-32769-spaces", &spaces);
-}
-
-// The short scheme and spaces behind it.
-fn padded_short() -> [u8; BEYOND_SCHEME] {
-    let mut page = [b' '; BEYOND_SCHEME];
-    let mut i: usize = 0;
-    while i < BYTES {
-        page[i] = SHORT[i];
-        i += 1;
-    }
-    page
 }

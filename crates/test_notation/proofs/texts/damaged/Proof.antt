@@ -1,47 +1,11 @@
--- `test_notation::texts::damaged` is safe and ends: what is left of the text falls. Assumes nothing.
-use Prim.Native.Nat.{_-_}
-use lib.ListN.{length}
+-- `test_notation::texts::damaged` is safe and ends: it has 160 turns. Assumes nothing.
 use borrow.Author.Needs.{needs}
+use Prim.Native.Nat.{_-_}
 use Rattle.test_notation.proofs.texts.damaged.Statement.{statement}
 use Rattle.test_notation.proofs.texts.damaged.Tie as tie
 
-abbrev Inv-loop : tie.InvT-loop
-Inv-loop text at way t₀ i₀ t i = Unit
-
-abbrev μ-loop : tie.MeasureT-loop
-μ-loop text at way t₀ i₀ t i = length text - i
-
-loop-holds : tie.Need-loop-holds Inv-loop μ-loop
-loop-holds c = search needs
-
-shared-slice-read-with-byte : tie.Need-shared-slice-read-with-byte Inv-loop μ-loop
-shared-slice-read-with-byte c = search needs
-
-with-byte-requires : tie.Need-with-byte-requires Inv-loop μ-loop
-with-byte-requires c κs = search needs
-
-add-i : tie.Need-add-i Inv-loop μ-loop
-add-i c = search needs
-
-loop-less : tie.Need-loop-less Inv-loop μ-loop
-loop-less c = search needs
-
-loop-again : tie.Need-loop-again Inv-loop μ-loop
-loop-again c = search needs
-
-returns : tie.Need-returns Inv-loop μ-loop
-returns c = search needs
-
 pub damaged-spec : {M : Type 1} → statement M
-damaged-spec =
-    tie.close
-    (tie.spec
-    Inv-loop
-    μ-loop
-    loop-holds
-    shared-slice-read-with-byte
-    with-byte-requires
-    add-i
-    loop-less
-    loop-again
-    returns)
+damaged-spec = tie.close (tie.spec
+    (λ text at way bytes₀ i₀ bytes i. Unit) (λ text at way bytes₀ i₀ bytes i. 160 - i)
+    (λ c. search needs) (λ c κs. search needs) (λ c. search needs) (λ c. search needs)
+    (λ c. search needs) (λ c. search needs) (λ c κs. search needs) (λ c. search needs))
