@@ -4,7 +4,7 @@ use Prim.Native.Nat.{ℕ, _+_, _≤_, _<_}
 use native.Mathlib.Omega.{arith}
 use mathlib.Core.Path.{_≡_, refl, sym, ap, _∙_, subst}
 use mathlib.Core.Bool.{Bool, true, false, cond}
-use mathlib.Core.List.{List, []}
+use mathlib.Core.List.{List, [], _++_}
 use mathlib.Core.Option.{Option, none, some}
 use mathlib.Core.Logic.{_⊎_, inl, inr}
 use lib.ListN.{length, take}
@@ -22,7 +22,8 @@ use Rattle.scheme.specs.declared.memory.Fault.{Fault}
 use Rattle.scheme.specs.declared.memory.Fault.the-variants.{Clean, At}
 use Rattle.text_grammar.specs.Spelling.{Token, spaceless}
 use Rattle.text_grammar.specs.Tokens.{tokens}
-use Rattle.text_page.specs.Page.{overlay}
+use Rattle.text_page.specs.Page.{overlay, Writes}
+use Rattle.text_page.specs.PageLaws.{length-after}
 use Rattle.notation.specs.Written.{writtenOr, Writing}
 use Rattle.notation.specs.Answers.{answerFrom, answerTo, foundFrom, foundIn, ReadsList, WritesList}
 use Rattle.notation.specs.declared.written.Written.{Written}
@@ -139,8 +140,17 @@ module _ {L R : Type 0} (Spells : List ℕ → L → Type 0) (tests : L → List
   refused-page r f e h k = wrote before r (writes-refused (tests l) (written l) before r f e h k)
 
   module _ (h : firstFault (tests l) ≡ clean) where
-    pub short-page : (after : List ℕ) → after ≡ before → length before < length (written l) → Wrote after (Refused ShortPage 0)
-    short-page after e k = rw e (wrote before (Refused ShortPage 0) (writes-short (tests l) (written l) before h k))
+    -- the writer is run on no bytes of the page first: u is what it leaves of them, n its answer
+    module _ (u : List ℕ) (n : ℕ) (run : Writes (written l) 0 [] u n) where
+      same-page : u ++ before ≡ before
+      same-page = ap (λ (x : List ℕ). x ++ before) (run .page)
 
-    pub written-page : length (written l) ≤ length before → (after : List ℕ) → after ≡ overlay 0 (written l) before → (n : ℕ) → n ≡ length (written l) → Wrote after (Bytes n)
-    written-page k after a n e = wrote after (Bytes n) (writes-done (tests l) (written l) before h k after a n e)
+      pub short-page : length (u ++ before) < n → Wrote (u ++ before) (Refused ShortPage 0)
+      short-page k =
+          let long : length before < length (written l) = omega (arith, ap length same-page, length-after run) in
+          rw same-page (wrote before (Refused ShortPage 0) (writes-short (tests l) (written l) before h long))
+
+      pub written-page : n ≤ length (u ++ before) → (after : List ℕ) (m : ℕ) → Writes (written l) 0 (u ++ before) after m → Wrote after (Bytes n)
+      written-page k after m w =
+          let fits : length (written l) ≤ length before = omega (arith, ap length same-page, length-after run) in
+          wrote after (Bytes n) (writes-done (tests l) (written l) before h fits after (w .page ∙ ap (overlay 0 (written l)) same-page) n (length-after run))

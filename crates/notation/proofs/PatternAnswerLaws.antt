@@ -12,7 +12,7 @@ use Rattle.word.specs.Finding.{Finding, clean, fault, firstFault}
 use Rattle.word.specs.declared.refusal.Refusal.{Refusal}
 use Rattle.word.specs.declared.refusal.Refusal.the-variants.{Misspelt, Oversize, NoPermutation}
 use Rattle.scheme.specs.WellFormed.{listed, patternTests}
-use Rattle.scheme.specs.SchemeMemory.{patternsIn, faultOf}
+use Rattle.scheme.specs.SchemeMemory.{patternsIn, faultOf, faulty}
 use Rattle.scheme.specs.declared.memory.Patterns.{Patterns}
 use Rattle.scheme.specs.declared.memory.Fault.{Fault}
 use Rattle.scheme.specs.declared.memory.Fault.the-variants.{Clean, At}
@@ -28,7 +28,7 @@ use Rattle.text_patterns.specs.PatternGrammar as walk
 use Rattle.text_patterns.specs.PatternReading.{walk-reads}
 use Rattle.text_patterns.specs.declared.pattern_reader.PatternText.{PatternText}
 use Rattle.notation.specs.declared.patterns.PatternsRead.{PatternsRead}
-use Rattle.notation.specs.PatternAnswers.{refusedPatterns, readOr, testedPatterns, patternsAnswer, ReadsPatterns}
+use Rattle.notation.specs.PatternAnswers.{nonePatterns, refusedPatterns, readOr, testedPatterns, patternsAnswer, ReadsPatterns}
 use Rattle.notation.proofs.ReadingFaultLaws.{notOne, test-not-one, first-not-one, twin-not-one, all-not-one}
 use Rattle.notation.proofs.AnswerLaws as any
 
@@ -44,11 +44,13 @@ patterns-not-one P =
     ) refl)
 
 -- the two ways of an answer
-pub read-clean : (f : Fault) (m : Patterns) → f ≡ Clean → record { fault = f; patterns = m } ≡ readOr f m
-read-clean f m e = rw e refl
+pub or-read : (f : Fault) (m : Patterns) → faulty f ≡ false → record { fault = f; patterns = m } ≡ readOr f m
+or-read Clean m h = refl
+or-read (At r i) m h = absurd (true≢false h)
 
-pub read-fault : (f : Fault) (m : Patterns) (r : Refusal) (i : ℕ) → f ≡ At r i → refusedPatterns r i ≡ readOr f m
-read-fault f m r i e = rw e refl
+pub or-refused : (f : Fault) (m : Patterns) → faulty f ≡ true → nonePatterns f ≡ readOr f m
+or-refused Clean m h = absurd (true≢false (sym h))
+or-refused (At r i) m h = refl
 
 -- the answer by the length of the text, by its spelling, by the tests
 module _ (s : List ℕ) where

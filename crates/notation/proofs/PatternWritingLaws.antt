@@ -3,7 +3,7 @@
 use Prim.Native.Nat.{ℕ, _≤_, _<_}
 use mathlib.Core.Path.{_≡_, refl, sym, ap, _∙_}
 use mathlib.Core.Bool.{true}
-use mathlib.Core.List.{List}
+use mathlib.Core.List.{List, [], _++_}
 use lib.ListN.{length}
 use Rattle.word.specs.Ceilings.{PATTERN_TEXT}
 use Rattle.word.specs.Finding.{clean, firstFault}
@@ -17,7 +17,7 @@ use Rattle.text_grammar.specs.SpellingLaws.{patterns-written-spells, patterns-r
 use Rattle.text_patterns.specs.PatternMemory.{loadedPatterns}
 use Rattle.text_patterns.specs.PatternLoading.{loaded-same}
 use Rattle.text_grammar.specs.Grammar.{readPatterns}
-use Rattle.text_page.specs.Page.{overlay}
+use Rattle.text_page.specs.Page.{Writes}
 use Rattle.notation.specs.Written.{writtenOr}
 use Rattle.notation.specs.Answers.{answerFrom}
 use Rattle.notation.specs.PatternAnswers.{refusedPatterns, testedPatterns, patternsAnswer, WritesPatterns}
@@ -38,14 +38,14 @@ patterns-refused P before r f e h k =
     any.refused-page SpellsPatterns patternTests writtenPatterns patternsAnswer (λ l. record { fault = Clean; patterns = loadedPatterns l }) (λ l. patternsIn (loadedPatterns l)) P
     (λ h. patterns-written-spells P (patterns-writable P h)) (text-back P) (loaded-same P) before r f e h k
 
-pub patterns-page-short : (P : List (List ℕ)) (before : List ℕ) → firstFault (patternTests P) ≡ clean → (after : List ℕ) → after ≡ before → length before < length (writtenPatterns P) →
-    WritesPatterns P before after (Refused ShortPage 0)
-patterns-page-short P before h after e k =
+pub patterns-page-short : (P : List (List ℕ)) (before : List ℕ) → firstFault (patternTests P) ≡ clean → (u : List ℕ) (n : ℕ) → Writes (writtenPatterns P) 0 [] u n →
+    length (u ++ before) < n → WritesPatterns P before (u ++ before) (Refused ShortPage 0)
+patterns-page-short P before h u n run k =
     any.short-page SpellsPatterns patternTests writtenPatterns patternsAnswer (λ l. record { fault = Clean; patterns = loadedPatterns l }) (λ l. patternsIn (loadedPatterns l)) P
-    (λ h. patterns-written-spells P (patterns-writable P h)) (text-back P) (loaded-same P) before h after e k
+    (λ h. patterns-written-spells P (patterns-writable P h)) (text-back P) (loaded-same P) before h u n run k
 
-pub patterns-done : (P : List (List ℕ)) (before : List ℕ) → firstFault (patternTests P) ≡ clean → length (writtenPatterns P) ≤ length before →
-    (after : List ℕ) → after ≡ overlay 0 (writtenPatterns P) before → (n : ℕ) → n ≡ length (writtenPatterns P) → WritesPatterns P before after (Bytes n)
-patterns-done P before h k after a n e =
+pub patterns-done : (P : List (List ℕ)) (before : List ℕ) → firstFault (patternTests P) ≡ clean → (u : List ℕ) (n : ℕ) → Writes (writtenPatterns P) 0 [] u n →
+    n ≤ length (u ++ before) → (after : List ℕ) (m : ℕ) → Writes (writtenPatterns P) 0 (u ++ before) after m → WritesPatterns P before after (Bytes n)
+patterns-done P before h u n run k after m w =
     any.written-page SpellsPatterns patternTests writtenPatterns patternsAnswer (λ l. record { fault = Clean; patterns = loadedPatterns l }) (λ l. patternsIn (loadedPatterns l)) P
-    (λ h. patterns-written-spells P (patterns-writable P h)) (text-back P) (loaded-same P) before h k after a n e
+    (λ h. patterns-written-spells P (patterns-writable P h)) (text-back P) (loaded-same P) before h u n run k after m w

@@ -13,7 +13,7 @@ use Rattle.word.specs.declared.refusal.Refusal.{Refusal}
 use Rattle.word.specs.declared.refusal.Refusal.the-variants.{Misspelt, Oversize, NoPermutation, Rootless, Width, NoPosition, Childless, NoTarget}
 use Rattle.scheme.specs.WellFormed.{listed, largeEntry, twinEntry, wrongWidth, outside, lacksChild, lacksTarget, schemeTests}
 use Rattle.scheme.specs.SchemeList.{EntryList}
-use Rattle.scheme.specs.SchemeMemory.{schemeIn, faultOf}
+use Rattle.scheme.specs.SchemeMemory.{schemeIn, faultOf, faulty}
 use Rattle.scheme.specs.declared.memory.Scheme.{Scheme}
 use Rattle.scheme.specs.declared.memory.Fault.{Fault}
 use Rattle.scheme.specs.declared.memory.Fault.the-variants.{Clean, At}
@@ -28,7 +28,7 @@ use Rattle.text_schemes.specs.SchemeLoading.{loaded-scheme-same, loaded-scheme-
 use Rattle.text_grammar.specs.SpellingLaws.{scheme-sound, scheme-complete, scheme-unique, scheme-written-read}
 use Rattle.text_schemes.specs.declared.parts.SchemeText.{SchemeText}
 use Rattle.notation.specs.declared.schemes.SchemeRead.{SchemeRead}
-use Rattle.notation.specs.SchemeAnswers.{refusedScheme, readSchemeOr, testedScheme, schemeAnswer, ReadsScheme}
+use Rattle.notation.specs.SchemeAnswers.{noScheme, refusedScheme, readSchemeOr, testedScheme, schemeAnswer, ReadsScheme}
 use Rattle.notation.proofs.ReadingFaultLaws.{notOne, test-not-one, first-not-one, twin-not-one, all-not-one}
 use Rattle.notation.proofs.AnswerLaws as any
 
@@ -49,11 +49,13 @@ scheme-not-one E =
     ) refl)
 
 -- the two ways of an answer
-pub read-clean : (f : Fault) (m : Scheme) → f ≡ Clean → record { fault = f; scheme = m } ≡ readSchemeOr f m
-read-clean f m e = rw e refl
+pub or-read : (f : Fault) (m : Scheme) → faulty f ≡ false → record { fault = f; scheme = m } ≡ readSchemeOr f m
+or-read Clean m h = refl
+or-read (At r i) m h = absurd (true≢false h)
 
-pub read-fault : (f : Fault) (m : Scheme) (r : Refusal) (i : ℕ) → f ≡ At r i → refusedScheme r i ≡ readSchemeOr f m
-read-fault f m r i e = rw e refl
+pub or-refused : (f : Fault) (m : Scheme) → faulty f ≡ true → noScheme f ≡ readSchemeOr f m
+or-refused Clean m h = absurd (true≢false (sym h))
+or-refused (At r i) m h = refl
 
 -- the answer by the length of the text, by its spelling, by the tests
 module _ (s : List ℕ) where

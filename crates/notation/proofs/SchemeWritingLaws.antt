@@ -3,7 +3,7 @@
 use Prim.Native.Nat.{ℕ, _≤_, _<_}
 use mathlib.Core.Path.{_≡_, refl, sym, ap, _∙_}
 use mathlib.Core.Bool.{true}
-use mathlib.Core.List.{List}
+use mathlib.Core.List.{List, [], _++_}
 use lib.ListN.{length}
 use Rattle.word.specs.Ceilings.{SCHEME_TEXT}
 use Rattle.word.specs.Finding.{clean, firstFault}
@@ -18,7 +18,7 @@ use Rattle.text_grammar.specs.SpellingLaws.{scheme-written-spells, scheme-read-
 use Rattle.text_schemes.specs.SchemeLoaded.{loadedScheme}
 use Rattle.text_schemes.specs.SchemeLoading.{loaded-scheme-same}
 use Rattle.text_grammar.specs.Grammar.{readEntries}
-use Rattle.text_page.specs.Page.{overlay}
+use Rattle.text_page.specs.Page.{Writes}
 use Rattle.notation.specs.Written.{writtenOr}
 use Rattle.notation.specs.Answers.{answerFrom}
 use Rattle.notation.specs.SchemeAnswers.{refusedScheme, testedScheme, schemeAnswer, WritesScheme}
@@ -39,14 +39,14 @@ scheme-refused E before r f e h k =
     any.refused-page SpellsScheme schemeTests writtenScheme schemeAnswer (λ l. record { fault = Clean; scheme = loadedScheme l }) (λ l. schemeIn (loadedScheme l)) E
     (λ h. scheme-written-spells E (scheme-writable E h)) (text-back E) (loaded-scheme-same E) before r f e h k
 
-pub scheme-page-short : (E : List EntryList) (before : List ℕ) → firstFault (schemeTests E) ≡ clean → (after : List ℕ) → after ≡ before → length before < length (writtenScheme E) →
-    WritesScheme E before after (Refused ShortPage 0)
-scheme-page-short E before h after e k =
+pub scheme-page-short : (E : List EntryList) (before : List ℕ) → firstFault (schemeTests E) ≡ clean → (u : List ℕ) (n : ℕ) → Writes (writtenScheme E) 0 [] u n →
+    length (u ++ before) < n → WritesScheme E before (u ++ before) (Refused ShortPage 0)
+scheme-page-short E before h u n run k =
     any.short-page SpellsScheme schemeTests writtenScheme schemeAnswer (λ l. record { fault = Clean; scheme = loadedScheme l }) (λ l. schemeIn (loadedScheme l)) E
-    (λ h. scheme-written-spells E (scheme-writable E h)) (text-back E) (loaded-scheme-same E) before h after e k
+    (λ h. scheme-written-spells E (scheme-writable E h)) (text-back E) (loaded-scheme-same E) before h u n run k
 
-pub scheme-done : (E : List EntryList) (before : List ℕ) → firstFault (schemeTests E) ≡ clean → length (writtenScheme E) ≤ length before →
-    (after : List ℕ) → after ≡ overlay 0 (writtenScheme E) before → (n : ℕ) → n ≡ length (writtenScheme E) → WritesScheme E before after (Bytes n)
-scheme-done E before h k after a n e =
+pub scheme-done : (E : List EntryList) (before : List ℕ) → firstFault (schemeTests E) ≡ clean → (u : List ℕ) (n : ℕ) → Writes (writtenScheme E) 0 [] u n →
+    n ≤ length (u ++ before) → (after : List ℕ) (m : ℕ) → Writes (writtenScheme E) 0 (u ++ before) after m → WritesScheme E before after (Bytes n)
+scheme-done E before h u n run k after m w =
     any.written-page SpellsScheme schemeTests writtenScheme schemeAnswer (λ l. record { fault = Clean; scheme = loadedScheme l }) (λ l. schemeIn (loadedScheme l)) E
-    (λ h. scheme-written-spells E (scheme-writable E h)) (text-back E) (loaded-scheme-same E) before h k after a n e
+    (λ h. scheme-written-spells E (scheme-writable E h)) (text-back E) (loaded-scheme-same E) before h u n run k after m w

@@ -16,9 +16,13 @@ use Rattle.notation.specs.Answers.{answerTo, ReadsList, WritesList}
 use Rattle.notation.specs.declared.patterns.PatternsRead.{PatternsRead}
 use Rattle.notation.specs.declared.written.Written.{Written}
 
+-- what was found, and no patterns
+abbrev pub nonePatterns : Fault → PatternsRead
+nonePatterns f = record { fault = f; patterns = loadedPatterns [] }
+
 -- a refusal with its index, and no patterns
 abbrev pub refusedPatterns : Refusal → ℕ → PatternsRead
-refusedPatterns r i = record { fault = At r i; patterns = loadedPatterns [] }
+refusedPatterns r i = nonePatterns (At r i)
 
 -- the patterns, or what their tests found
 abbrev pub readOr : Fault → Patterns → PatternsRead

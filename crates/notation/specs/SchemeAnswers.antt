@@ -17,9 +17,13 @@ use Rattle.notation.specs.Answers.{answerTo, ReadsList, WritesList}
 use Rattle.notation.specs.declared.schemes.SchemeRead.{SchemeRead}
 use Rattle.notation.specs.declared.written.Written.{Written}
 
+-- what was found, and no entries
+abbrev pub noScheme : Fault → SchemeRead
+noScheme f = record { fault = f; scheme = loadedScheme [] }
+
 -- a refusal with its index, and no entries
 abbrev pub refusedScheme : Refusal → ℕ → SchemeRead
-refusedScheme r i = record { fault = At r i; scheme = loadedScheme [] }
+refusedScheme r i = noScheme (At r i)
 
 -- the scheme, or what its tests found
 abbrev pub readSchemeOr : Fault → Scheme → SchemeRead

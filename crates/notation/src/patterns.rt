@@ -12,7 +12,7 @@ use word::limits::PATTERN_TEXT;
 use word::refusal::Refusal;
 ghost use mathlib.Core.Path.{_≡_};
 ghost use Rattle.scheme.specs.SchemeMemory.{patternsIn};
-ghost use Rattle.notation.specs.PatternAnswers.{readOr, refusedPatterns, patternsAnswer, ReadsPatterns, WritesPatterns};
+ghost use Rattle.notation.specs.PatternAnswers.{nonePatterns, patternsAnswer, ReadsPatterns, WritesPatterns};
 
 // What reading a set of patterns answers: the set where there is no fault, or a refusal with its index beside a set of none.
 pub struct PatternsRead {
@@ -25,36 +25,26 @@ pub fn read_patterns(text: &[u8]) -> PatternsRead
     ensures { λ r. ⌜ (r ≡ patternsAnswer (now (text .entry))) × ReadsPatterns (now (text .entry)) r ⌝ }
 {
     if PATTERN_TEXT < text.len() {
-        return refused_patterns(Refusal::Oversize, 0);
+        return refused_patterns(Fault::At(Refusal::Oversize, 0));
     }
     let found = load_patterns(text);
     if !found.spelt {
-        return refused_patterns(Refusal::Misspelt, 0);
+        return refused_patterns(Fault::At(Refusal::Misspelt, 0));
     }
     let patterns = found.patterns;
     let fault = patterns_fault(patterns);
-    read_or(fault, patterns)
-}
-
-// The patterns, or the refusal that their tests found.
-fn read_or(fault: Fault, patterns: Patterns) -> PatternsRead
-    ensures { λ r. ⌜ r ≡ readOr fault patterns ⌝ }
-{
-    match fault {
-        Fault::Clean => PatternsRead { fault, patterns },
-        Fault::At(refusal, index) => refused_patterns(refusal, index),
+    if is_fault(fault) {
+        return refused_patterns(fault);
     }
+    PatternsRead { fault, patterns }
 }
 
 // A refusal in the place of patterns.
-fn refused_patterns(refusal: Refusal, index: usize) -> PatternsRead
-    ensures { λ r. ⌜ r ≡ refusedPatterns refusal index ⌝ }
+fn refused_patterns(fault: Fault) -> PatternsRead
+    ensures { λ r. ⌜ r ≡ nonePatterns fault ⌝ }
 {
     let patterns = no_patterns();
-    PatternsRead {
-        fault: Fault::At(refusal, index),
-        patterns,
-    }
+    PatternsRead { fault, patterns }
 }
 
 // Writes a set of patterns at the start of the page: the tests 2 to 4, then 13; the number of bytes. A refused call leaves the page as it is.

@@ -12,7 +12,7 @@ use word::limits::SCHEME_TEXT;
 use word::refusal::Refusal;
 ghost use mathlib.Core.Path.{_≡_};
 ghost use Rattle.scheme.specs.SchemeMemory.{schemeIn};
-ghost use Rattle.notation.specs.SchemeAnswers.{readSchemeOr, refusedScheme, schemeAnswer, ReadsScheme, WritesScheme};
+ghost use Rattle.notation.specs.SchemeAnswers.{noScheme, schemeAnswer, ReadsScheme, WritesScheme};
 
 // What reading a scheme answers: the scheme where there is no fault, or a refusal with its index beside a scheme of no entries.
 pub struct SchemeRead {
@@ -25,36 +25,26 @@ pub fn read_scheme(text: &[u8]) -> SchemeRead
     ensures { λ r. ⌜ (r ≡ schemeAnswer (now (text .entry))) × ReadsScheme (now (text .entry)) r ⌝ }
 {
     if SCHEME_TEXT < text.len() {
-        return refused_scheme(Refusal::Oversize, 0);
+        return refused_scheme(Fault::At(Refusal::Oversize, 0));
     }
     let found = load_scheme(text);
     if !found.spelt {
-        return refused_scheme(Refusal::Misspelt, 0);
+        return refused_scheme(Fault::At(Refusal::Misspelt, 0));
     }
     let scheme = found.scheme;
     let fault = scheme_fault(scheme);
-    read_or(fault, scheme)
-}
-
-// The scheme, or the refusal that its tests found.
-fn read_or(fault: Fault, scheme: Scheme) -> SchemeRead
-    ensures { λ r. ⌜ r ≡ readSchemeOr fault scheme ⌝ }
-{
-    match fault {
-        Fault::Clean => SchemeRead { fault, scheme },
-        Fault::At(refusal, index) => refused_scheme(refusal, index),
+    if is_fault(fault) {
+        return refused_scheme(fault);
     }
+    SchemeRead { fault, scheme }
 }
 
 // A refusal in the place of a scheme.
-fn refused_scheme(refusal: Refusal, index: usize) -> SchemeRead
-    ensures { λ r. ⌜ r ≡ refusedScheme refusal index ⌝ }
+fn refused_scheme(fault: Fault) -> SchemeRead
+    ensures { λ r. ⌜ r ≡ noScheme fault ⌝ }
 {
     let scheme = no_entries();
-    SchemeRead {
-        fault: Fault::At(refusal, index),
-        scheme,
-    }
+    SchemeRead { fault, scheme }
 }
 
 // Writes a scheme at the start of the page: the tests 2 to 9, then 13; the number of bytes. A refused call leaves the page as it is.

@@ -1,11 +1,11 @@
 -- `notation::patterns::read_patterns` meets its contract: by the length of the text, by its spelling, by the tests of what it spells.
 -- Assumes nothing.
-use mathlib.Core.Path.{ap, _∙_}
+use mathlib.Core.Path.{sym, ap, _∙_}
 use borrow.Author.Tests.{not-true, not-false}
 use native.Mathlib.Omega.{arith}
 use Rattle.notation.specs.PatternAnswers.{readOr}
 use Rattle.scheme.specs.declared.memory.Fault.{Fault}
-use Rattle.notation.proofs.PatternAnswerLaws.{answer-long, answer-misspelt, answer-tested, answered}
+use Rattle.notation.proofs.PatternAnswerLaws.{answer-long, answer-misspelt, answer-tested, or-read, or-refused, answered}
 use borrow.Author.Needs.{needs}
 use Rattle.notation.proofs.patterns.read_patterns.Statement.{statement}
 use Rattle.notation.proofs.patterns.read_patterns.Tie as tie
@@ -31,13 +31,25 @@ returns-2 c = let f = c .before .before .before .load-patterns in
 patterns-fault-requires : tie.Need-patterns-fault-requires
 patterns-fault-requires c κs = search needs
 
-read-or-requires : tie.Need-read-or-requires
-read-or-requires c κs = search needs
+is-fault-requires : tie.Need-is-fault-requires
+is-fault-requires c κs = search needs
+
+refused-patterns-requires-3 : tie.Need-refused-patterns-requires-3
+refused-patterns-requires-3 c κs = search needs
 
 returns-3 : tie.Need-returns-3
-returns-3 c = let f = c .before .before .before .before .before .load-patterns in
-    let s = c .before .before .before .before .before .before .before .before .args .text .now in
-    answered s (c .read-or .result) (c .read-or .ensures ∙ ap (λ (x : Fault). readOr x (f .result .patterns)) (c .before .patterns-fault .ensures) ∙ answer-tested s (f .result) (omega arith) (f .ensures) (not-false (f .result .spelt) (c .before .before .before .if2 .left)))
+returns-3 c =
+    let f = c .before .before .before .before .before .before .before .load-patterns in
+    let s = c .before .before .before .before .before .before .before .before .before .before .args .text .now in
+    let found = c .before .before .before .patterns-fault in
+    answered s _ (c .refused-patterns3 .ensures ∙ or-refused (found .result) (f .result .patterns) (sym (c .before .before .is-fault .ensures) ∙ c .before .if3 .taken) ∙ ap (λ (x : Fault). readOr x (f .result .patterns)) (found .ensures) ∙ answer-tested s (f .result) (omega arith) (f .ensures) (not-false (f .result .spelt) (c .before .before .before .before .before .if2 .left)))
+
+returns-4 : tie.Need-returns-4
+returns-4 c =
+    let f = c .before .before .before .before .before .before .load-patterns in
+    let s = c .before .before .before .before .before .before .before .before .before .args .text .now in
+    let found = c .before .before .patterns-fault in
+    answered s _ (or-read (found .result) (f .result .patterns) (sym (c .before .is-fault .ensures) ∙ c .if3 .left) ∙ ap (λ (x : Fault). readOr x (f .result .patterns)) (found .ensures) ∙ answer-tested s (f .result) (omega arith) (f .ensures) (not-false (f .result .spelt) (c .before .before .before .before .if2 .left)))
 
 pub read-patterns-spec : {M : Type 1} → statement M
 read-patterns-spec =
@@ -49,5 +61,7 @@ read-patterns-spec =
     refused-patterns-requires-2
     returns-2
     patterns-fault-requires
-    read-or-requires
-    returns-3)
+    is-fault-requires
+    refused-patterns-requires-3
+    returns-3
+    returns-4)

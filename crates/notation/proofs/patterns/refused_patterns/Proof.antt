@@ -2,7 +2,6 @@
 -- Assumes nothing.
 use mathlib.Core.Path.{ap}
 use Rattle.scheme.specs.declared.memory.Patterns.{Patterns}
-use Rattle.scheme.specs.declared.memory.Fault.the-variants.{At}
 use Rattle.notation.specs.declared.patterns.PatternsRead.{PatternsRead}
 use borrow.Author.Needs.{needs}
 use Rattle.notation.proofs.patterns.refused_patterns.Statement.{statement}
@@ -13,7 +12,7 @@ no-patterns-requires c κs = search needs
 
 returns : tie.Need-returns
 returns c =
-    ap {B = PatternsRead} (λ (m : Patterns). record { fault = At (c .before .args .refusal) (c .before .args .index); patterns = m })
+    ap {B = PatternsRead} (λ (m : Patterns). record { fault = c .before .args .fault; patterns = m })
     (c .no-patterns .ensures)
 
 pub refused-patterns-spec : {M : Type 1} → statement M

@@ -1,16 +1,10 @@
 -- `notation::patterns::write_patterns` meets its contract: by the tests of the patterns, then by the length of the page.
 -- Assumes nothing.
-use Prim.Native.Nat.{ℕ}
-use mathlib.Core.Path.{_≡_, sym, ap, _∙_}
-use mathlib.Core.List.{List, [], _++_}
+use mathlib.Core.Path.{sym, _∙_}
 use native.Mathlib.Omega.{arith}
-use lib.ListN.{length}
 use Rattle.word.specs.Finding.{firstFault}
 use Rattle.scheme.specs.WellFormed.{patternTests}
 use Rattle.scheme.specs.SchemeMemory.{patternsIn}
-use Rattle.text_grammar.specs.Spelling.{writtenPatterns}
-use Rattle.text_page.specs.Page.{overlay}
-use Rattle.text_page.specs.PageLaws.{length-after}
 use Rattle.text_writer.proofs.FitLaws.{patterns-fit}
 use Rattle.notation.proofs.WritingLaws.{clean-finding}
 use Rattle.notation.proofs.PatternWritingLaws.{patterns-refused, patterns-page-short, patterns-done}
@@ -54,12 +48,7 @@ returns-2 c = let a = c .before .before .before .before .before .before .before 
     let f = c .before .before .before .before .before .before .before .patterns-fault in
     let none = sym (c .before .before .before .before .before .before .is-fault .ensures) ∙ c .before .before .before .before .before .if1 .left in
     let put = c .before .before .before .put-patterns in
-    let empty : put .last .0 ≡ [] = put .ensures .page in
-    let same : put .last .0 ++ a .page .now ≡ a .page .now = ap (λ (l : List ℕ). l ++ a .page .now) empty in
-    let size : put .result ≡ length (writtenPatterns P) = length-after (put .ensures) in
-    let long = ap length same in
-    patterns-page-short P (a .page .now) (clean-finding (firstFault (patternTests P)) (f .result) (f .ensures) none) (put .last .0 ++ a .page .now) same
-    (omega arith)
+    patterns-page-short P (a .page .now) (clean-finding (firstFault (patternTests P)) (f .result) (f .ensures) none) _ (put .result) (put .ensures) (search needs)
 
 put-patterns-requires-2 : tie.Need-put-patterns-requires-2
 put-patterns-requires-2 c κs = let s = c .before .before .before .before .before .before .before .before .before .before .args .s in
@@ -76,12 +65,7 @@ returns-3 c = let a = c .before .before .before .before .before .before .before 
     let f = c .before .before .before .before .before .before .before .before .before .before .before .patterns-fault in
     let none = sym (c .before .before .before .before .before .before .before .before .before .before .is-fault .ensures) ∙ c .before .before .before .before .before .before .before .before .before .if1 .left in
     let put = c .before .before .before .before .before .before .before .put-patterns in
-    let empty : put .last .0 ≡ [] = put .ensures .page in
-    let same : put .last .0 ++ a .page .now ≡ a .page .now = ap (λ (l : List ℕ). l ++ a .page .now) empty in
-    let size : put .result ≡ length (writtenPatterns P) = length-after (put .ensures) in
-    let long = ap length same in
-    let over = c .before .before .put-patterns2 .ensures .page ∙ ap (overlay 0 (writtenPatterns P)) same in
-    patterns-done P (a .page .now) (clean-finding (firstFault (patternTests P)) (f .result) (f .ensures) none) (omega arith) _ over (put .result) size
+    patterns-done P (a .page .now) (clean-finding (firstFault (patternTests P)) (f .result) (f .ensures) none) _ (put .result) (put .ensures) (search needs) _ _ (c .before .before .put-patterns2 .ensures)
 
 pub write-patterns-spec : {M : Type 1} → statement M
 write-patterns-spec =

@@ -1,11 +1,11 @@
 -- `notation::schemes::read_scheme` meets its contract: by the length of the text, by its spelling, by the tests of what it spells.
 -- Assumes nothing.
-use mathlib.Core.Path.{ap, _∙_}
+use mathlib.Core.Path.{sym, ap, _∙_}
 use borrow.Author.Tests.{not-true, not-false}
 use native.Mathlib.Omega.{arith}
 use Rattle.notation.specs.SchemeAnswers.{readSchemeOr}
 use Rattle.scheme.specs.declared.memory.Fault.{Fault}
-use Rattle.notation.proofs.SchemeAnswerLaws.{answer-long, answer-misspelt, answer-tested, answered}
+use Rattle.notation.proofs.SchemeAnswerLaws.{answer-long, answer-misspelt, answer-tested, or-read, or-refused, answered}
 use borrow.Author.Needs.{needs}
 use Rattle.notation.proofs.schemes.read_scheme.Statement.{statement}
 use Rattle.notation.proofs.schemes.read_scheme.Tie as tie
@@ -31,13 +31,25 @@ returns-2 c = let f = c .before .before .before .load-scheme in
 scheme-fault-requires : tie.Need-scheme-fault-requires
 scheme-fault-requires c κs = search needs
 
-read-or-requires : tie.Need-read-or-requires
-read-or-requires c κs = search needs
+is-fault-requires : tie.Need-is-fault-requires
+is-fault-requires c κs = search needs
+
+refused-scheme-requires-3 : tie.Need-refused-scheme-requires-3
+refused-scheme-requires-3 c κs = search needs
 
 returns-3 : tie.Need-returns-3
-returns-3 c = let f = c .before .before .before .before .before .load-scheme in
-    let s = c .before .before .before .before .before .before .before .before .args .text .now in
-    answered s (c .read-or .result) (c .read-or .ensures ∙ ap (λ (x : Fault). readSchemeOr x (f .result .scheme)) (c .before .scheme-fault .ensures) ∙ answer-tested s (f .result) (omega arith) (f .ensures) (not-false (f .result .spelt) (c .before .before .before .if2 .left)))
+returns-3 c =
+    let f = c .before .before .before .before .before .before .before .load-scheme in
+    let s = c .before .before .before .before .before .before .before .before .before .before .args .text .now in
+    let found = c .before .before .before .scheme-fault in
+    answered s _ (c .refused-scheme3 .ensures ∙ or-refused (found .result) (f .result .scheme) (sym (c .before .before .is-fault .ensures) ∙ c .before .if3 .taken) ∙ ap (λ (x : Fault). readSchemeOr x (f .result .scheme)) (found .ensures) ∙ answer-tested s (f .result) (omega arith) (f .ensures) (not-false (f .result .spelt) (c .before .before .before .before .before .if2 .left)))
+
+returns-4 : tie.Need-returns-4
+returns-4 c =
+    let f = c .before .before .before .before .before .before .load-scheme in
+    let s = c .before .before .before .before .before .before .before .before .before .args .text .now in
+    let found = c .before .before .scheme-fault in
+    answered s _ (or-read (found .result) (f .result .scheme) (sym (c .before .is-fault .ensures) ∙ c .if3 .left) ∙ ap (λ (x : Fault). readSchemeOr x (f .result .scheme)) (found .ensures) ∙ answer-tested s (f .result) (omega arith) (f .ensures) (not-false (f .result .spelt) (c .before .before .before .before .if2 .left)))
 
 pub read-scheme-spec : {M : Type 1} → statement M
 read-scheme-spec =
@@ -49,5 +61,7 @@ read-scheme-spec =
     refused-scheme-requires-2
     returns-2
     scheme-fault-requires
-    read-or-requires
-    returns-3)
+    is-fault-requires
+    refused-scheme-requires-3
+    returns-3
+    returns-4)

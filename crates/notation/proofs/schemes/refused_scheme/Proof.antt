@@ -2,7 +2,6 @@
 -- Assumes nothing.
 use mathlib.Core.Path.{ap}
 use Rattle.scheme.specs.declared.memory.Scheme.{Scheme}
-use Rattle.scheme.specs.declared.memory.Fault.the-variants.{At}
 use Rattle.notation.specs.declared.schemes.SchemeRead.{SchemeRead}
 use borrow.Author.Needs.{needs}
 use Rattle.notation.proofs.schemes.refused_scheme.Statement.{statement}
@@ -13,7 +12,7 @@ no-entries-requires c κs = search needs
 
 returns : tie.Need-returns
 returns c =
-    ap {B = SchemeRead} (λ (m : Scheme). record { fault = At (c .before .args .refusal) (c .before .args .index); scheme = m })
+    ap {B = SchemeRead} (λ (m : Scheme). record { fault = c .before .args .fault; scheme = m })
     (c .no-entries .ensures)
 
 pub refused-scheme-spec : {M : Type 1} → statement M

@@ -1,16 +1,10 @@
 -- `notation::schemes::write_scheme` meets its contract: by the tests of the scheme, then by the length of the page.
 -- Assumes nothing.
-use Prim.Native.Nat.{ℕ}
-use mathlib.Core.Path.{_≡_, sym, ap, _∙_}
-use mathlib.Core.List.{List, [], _++_}
+use mathlib.Core.Path.{sym, _∙_}
 use native.Mathlib.Omega.{arith}
-use lib.ListN.{length}
 use Rattle.word.specs.Finding.{firstFault}
 use Rattle.scheme.specs.WellFormed.{schemeTests}
 use Rattle.scheme.specs.SchemeMemory.{schemeIn}
-use Rattle.text_grammar.specs.Spelling.{writtenScheme}
-use Rattle.text_page.specs.Page.{overlay}
-use Rattle.text_page.specs.PageLaws.{length-after}
 use Rattle.text_writer.proofs.SchemeFitLaws.{scheme-fit}
 use Rattle.notation.proofs.WritingLaws.{clean-finding}
 use Rattle.notation.proofs.SchemeWritingLaws.{scheme-refused, scheme-page-short, scheme-done}
@@ -54,12 +48,7 @@ returns-2 c = let a = c .before .before .before .before .before .before .before 
     let f = c .before .before .before .before .before .before .before .scheme-fault in
     let none = sym (c .before .before .before .before .before .before .is-fault .ensures) ∙ c .before .before .before .before .before .if1 .left in
     let put = c .before .before .before .put-scheme in
-    let empty : put .last .0 ≡ [] = put .ensures .page in
-    let same : put .last .0 ++ a .page .now ≡ a .page .now = ap (λ (l : List ℕ). l ++ a .page .now) empty in
-    let size : put .result ≡ length (writtenScheme E) = length-after (put .ensures) in
-    let long = ap length same in
-    scheme-page-short E (a .page .now) (clean-finding (firstFault (schemeTests E)) (f .result) (f .ensures) none) (put .last .0 ++ a .page .now) same
-    (omega arith)
+    scheme-page-short E (a .page .now) (clean-finding (firstFault (schemeTests E)) (f .result) (f .ensures) none) _ (put .result) (put .ensures) (search needs)
 
 put-scheme-requires-2 : tie.Need-put-scheme-requires-2
 put-scheme-requires-2 c κs = let s = c .before .before .before .before .before .before .before .before .before .before .args .s in
@@ -76,12 +65,7 @@ returns-3 c = let a = c .before .before .before .before .before .before .before 
     let f = c .before .before .before .before .before .before .before .before .before .before .before .scheme-fault in
     let none = sym (c .before .before .before .before .before .before .before .before .before .before .is-fault .ensures) ∙ c .before .before .before .before .before .before .before .before .before .if1 .left in
     let put = c .before .before .before .before .before .before .before .put-scheme in
-    let empty : put .last .0 ≡ [] = put .ensures .page in
-    let same : put .last .0 ++ a .page .now ≡ a .page .now = ap (λ (l : List ℕ). l ++ a .page .now) empty in
-    let size : put .result ≡ length (writtenScheme E) = length-after (put .ensures) in
-    let long = ap length same in
-    let over = c .before .before .put-scheme2 .ensures .page ∙ ap (overlay 0 (writtenScheme E)) same in
-    scheme-done E (a .page .now) (clean-finding (firstFault (schemeTests E)) (f .result) (f .ensures) none) (omega arith) _ over (put .result) size
+    scheme-done E (a .page .now) (clean-finding (firstFault (schemeTests E)) (f .result) (f .ensures) none) _ (put .result) (put .ensures) (search needs) _ _ (c .before .before .put-scheme2 .ensures)
 
 pub write-scheme-spec : {M : Type 1} → statement M
 write-scheme-spec =
