@@ -9,10 +9,11 @@ use mathlib.Core.List.{List, _++_, map, map-append, List·Memᴰ}
 use mathlib.Core.Option.{some}
 use lib.ListN.{length, getD}
 use lib.Dec.{eqb}
-use borrow.Author.Tests.{ne-eqb}
+use borrow.Author.Tests.{ne-eqb, leb-true}
 use Rattle.word.specs.Ceilings.{LENGTH}
 use Rattle.word.specs.Lists.{row, oneTo}
 use Rattle.word.specs.Word.{avoids}
+use Rattle.word.specs.Vocabulary.{factorial}
 use Rattle.cell.specs.Cell.{total, free}
 use Rattle.cell.specs.BuiltCells.{cell-at-most}
 use Rattle.cell.specs.Child.{childAt, slot, split}
@@ -22,9 +23,9 @@ use Rattle.scheme.specs.SchemeMemory.{schemeIn}
 use Rattle.scheme.specs.declared.memory.Scheme.{Scheme}
 use Rattle.verdict.specs.Truth.{WellFormed, AllTrue}
 use Rattle.verdict.specs.Value.{ruleValue, entryValue}
-use Rattle.verdict.specs.Size.{size, HIGHEST}
-use Rattle.verdict.specs.ValueLaws.{factorial-at-most, entry-solves}
-use Rattle.count_step.specs.Step.{capped, childrenOf}
+use Rattle.verdict.specs.Size.{size, HIGHEST, VALUES}
+use Rattle.verdict.specs.ValueLaws.{at-most, stays-below, factorial-at-most, highest-fits, entry-solves}
+use Rattle.count_step.specs.Step.{LARGEST, capped, childrenOf}
 use Rattle.count_step.specs.StepLaws.{nextCell, child-sum, below-cap}
 use Rattle.count_plan.specs.Layout.{entryAt, prefixAt, lengthAt}
 use Rattle.count_plan.specs.LayoutLaws.{prefix-length, entry-member}
@@ -39,7 +40,7 @@ pub record SumFits (P : List (List ℕ)) (p g : List ℕ) (sum : ℕ) : Type 0 w
   pub cell : sum ≤ size P p g
   -- 20!
   pub most : sum ≤ HIGHEST
-  pub fits : sum < 18446744073709551616
+  pub fits : sum < VALUES
   -- so the sum with the cap is the sum
   pub same : capped sum ≡ sum
 
@@ -62,8 +63,14 @@ run-at-most f q n t low high =
 sum-fits : (P : List (List ℕ)) (p g : List ℕ) (sum : ℕ) → total g ≤ LENGTH → sum ≤ size P p g → SumFits P p g sum
 unfolding size
 sum-fits P p g sum h k =
-    let m : sum ≤ HIGHEST = omega (arith, cell-at-most P p g, factorial-at-most (total g) h) in
-    record { cell = k; most = m; fits = omega arith; same = below-cap sum (omega arith) }
+    let m : sum ≤ HIGHEST =
+    at-most sum (size P p g) HIGHEST k (at-most (size P p g) (factorial (total g)) HIGHEST (cell-at-most P p g) (factorial-at-most (total g) h)) in
+    record {
+      cell = k;
+      most = m;
+      fits = stays-below sum HIGHEST VALUES m highest-fits;
+      same = below-cap sum (at-most sum HIGHEST LARGEST m (leb-true HIGHEST LARGEST refl));
+    }
 
 -- A sum over next entries of the values of an accepted scheme, as the plain evaluation makes it
 module _ (P : List (List ℕ)) (E : List EntryList) (formed : WellFormed P E) (truth : AllTrue P E) (e : EntryList) (m : List·Memᴰ e E)

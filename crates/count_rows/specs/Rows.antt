@@ -46,8 +46,8 @@ pub record Fits (e : Entry) (t : Item) (j here before : ℕ) : Type 0 where
   pub few : e .«gap_count» ≤ GAPS
   pub wide : (i : ℕ) → i < e .«gap_count» → (getD (e .gaps) i noGap) .width ≡ e .length + 1
 
--- v solves the recursion of document 01 for the entries of s, and its values at totals up to LENGTH are
--- numbers of 64 bits
+-- v solves the recursion of document 01 for the entries of s, and its values at totals up to LENGTH
+-- are numbers of 64 bits
 pub record Solves (v : List ℕ → List ℕ → ℕ) (P : List (List ℕ)) (s : Scheme) : Type 0 where
   pub solves : (i : ℕ) → i < s .count → (g : List ℕ) → length g ≡ suc (length (prefixAt s i)) →
       v (prefixAt s i) g ≡ entryValue v P (some (entryAt s i)) g

@@ -22,8 +22,8 @@ use Rattle.verdict.specs.Value.{countOf}
 use Rattle.counting.specs.declared.answer.Counted.{Counted}
 use Rattle.counting.specs.declared.answer.Counted.the-variants.{Count, Refused as RefusedCount}
 
--- "the scheme before n, n before table" (01); a count is for n up to LENGTH, and a table is short with
--- fewer cells than needed
+-- "the scheme before n, n before table" (01); a count is for n up to LENGTH, and a table is short
+-- with fewer cells than needed
 abbrev pub tableTests : List EntryList → ℕ → ℕ → List Finding
 tableTests E n cells = test Oversize (ltb LENGTH n) ∷ test ShortTable (ltb cells (needOf n E)) ∷ []
 

@@ -7,7 +7,8 @@ use Rattle.word.specs.Ceilings.{COUNTS, COLUMNS}
 use Rattle.cell.specs.Binomial.{binomial}
 use Rattle.spacing.specs.Sizes.{BINOMIALS}
 
--- the binomials C(m, l) of the rows m below n, and those of row n for l below k; C(m, l) stands at COLUMNS m + l
+-- the binomials C(m, l) of the rows m below n, and those of row n for l below k; C(m, l) stands at
+-- COLUMNS m + l
 pub record PascalTo (n k : ℕ) (b : List ℕ) : Type 0 where
   pub size : length b ≡ BINOMIALS
   pub rows : (m l : ℕ) → m < n → l < COLUMNS → getD b (COLUMNS * m + l) 0 ≡ binomial m l

@@ -17,6 +17,10 @@ size P p g = length (cell P p g)
 abbrev pub HIGHEST : ℕ
 HIGHEST = 2432902008176640000
 
+-- values are numbers of 64 bits: below 2 ^ 64
+abbrev pub VALUES : ℕ
+VALUES = 18446744073709551616
+
 -- p is the prefix of an entry
 abbrev pub Listed : List EntryList → List ℕ → Type 0
 Listed E p = listed (map (λ (e : EntryList). e .prefix) E) p ≡ true

@@ -2,13 +2,13 @@
 use Prim.Native.Nat.{ℕ, zero, suc, _+_, _*_, _-_, _≤_, _<_}
 use native.Mathlib.Nat.{add-zero, suc-mul}
 use native.Mathlib.Omega.{arith}
-use mathlib.Core.Path.{_≡_, refl, sym, ap, _∙_}
+use mathlib.Core.Path.{_≡_, refl, sym, ap, _∙_, subst}
 use mathlib.Core.Bool.{Bool, true, false, not, _||_, cond}
 use mathlib.Core.List.{List, [], _∷_, map, map-id, List·Memᴰ, List·Memᴰ·head, List·Memᴰ·tail}
 use mathlib.Core.Option.{none, some}
 use lib.ListN.{length}
 use lib.Dec.{eqb, ltb}
-use borrow.Author.Tests.{eq-eqb, ne-eqb, ltb-false, not-false}
+use borrow.Author.Tests.{eq-eqb, ne-eqb, ltb-true, ltb-false, not-false}
 use Rattle.word.specs.Ceilings.{LENGTH}
 use Rattle.word.specs.Lists.{all, keep, oneTo}
 use Rattle.word.specs.Word.{avoids, isPerm, perms, avoiders}
@@ -34,7 +34,7 @@ use Rattle.scheme.specs.TestLaws.{or-right}
 use Rattle.verdict.specs.Truth.{WellFormed, RuleClaim, AllTrue}
 use Rattle.verdict.specs.FindingLaws.{clean-in, clean-test, first-out, none-out}
 use Rattle.verdict.specs.ProperLaws.{proper-entry, position-inside}
-use Rattle.verdict.specs.Size.{size, Listed, measure, HIGHEST}
+use Rattle.verdict.specs.Size.{size, Listed, measure, HIGHEST, VALUES}
 use Rattle.verdict.specs.Value.{entryFor, ruleValue, entryValue, value, countOf}
 
 -- the entry of a listed prefix
@@ -115,7 +115,7 @@ module _ (P : List (List ℕ)) (E : List EntryList) (formed : firstFault (scheme
     unfolding entryValue
     entry-agrees = ap (λ n. cond (free (e .gaps) g) n 0) (rule-agrees (e .rule) refl)
 
--- Factorials grow, and 20! is below 2 ^ 64.
+-- Factorials grow, and that of LENGTH is a value.
 
 factorial-step : (n : ℕ) → factorial n ≤ factorial (suc n)
 unfolding factorial
@@ -125,21 +125,30 @@ factorial-grows : (n d : ℕ) → factorial n ≤ factorial (n + d)
 factorial-grows n zero = rw (add-zero n) (omega arith)
 factorial-grows n (suc d) = let e : n + suc d ≡ suc (n + d) = omega arith in rw e (omega (arith, factorial-grows n d, factorial-step (n + d)))
 
+-- steps between numbers, so that no law has to count with the largest ones
+pub at-most : (a b c : ℕ) → a ≤ b → b ≤ c → a ≤ c
+at-most a b c h k = omega arith
+
+pub stays-below : (a b c : ℕ) → a ≤ b → b < c → a < c
+stays-below a b c h k = omega arith
+
 pub factorial-at-most : (n : ℕ) → n ≤ LENGTH → factorial n ≤ HIGHEST
 unfolding factorial
 factorial-at-most n h =
     let e : n + (LENGTH - n) ≡ LENGTH = omega arith in
-    let l : factorial (n + (LENGTH - n)) ≡ factorial LENGTH = ap factorial e in
     let t : factorial LENGTH ≡ HIGHEST = refl in
-    omega (arith, factorial-grows n (LENGTH - n))
+    subst (λ (m : ℕ). factorial n ≤ m) (ap factorial e ∙ t) (factorial-grows n (LENGTH - n))
 
-pub factorial-fits : (n : ℕ) → n ≤ LENGTH → factorial n < 18446744073709551616
-factorial-fits n h = omega (arith, factorial-at-most n h)
+pub highest-fits : HIGHEST < VALUES
+highest-fits = ltb-true HIGHEST VALUES refl
 
--- the size of a cell of at most LENGTH further entries fits 64 bits
-pub size-fits : (P : List (List ℕ)) (p g : List ℕ) → total g ≤ LENGTH → size P p g < 18446744073709551616
+pub factorial-fits : (n : ℕ) → n ≤ LENGTH → factorial n < VALUES
+factorial-fits n h = stays-below (factorial n) HIGHEST VALUES (factorial-at-most n h) highest-fits
+
+-- the size of a cell of at most LENGTH further entries is a value
+pub size-fits : (P : List (List ℕ)) (p g : List ℕ) → total g ≤ LENGTH → size P p g < VALUES
 unfolding size
-size-fits P p g h = omega (arith, cell-at-most P p g, factorial-fits (total g) h)
+size-fits P p g h = stays-below (size P p g) (factorial (total g)) VALUES (cell-at-most P p g) (factorial-fits (total g) h)
 
 -- Sizes solve the recursion
 
@@ -226,7 +235,8 @@ module _ (P : List (List ℕ)) (E : List EntryList) (formed : WellFormed P E) (t
   -- a length that is counted
   pub value-at-most-twenty-factorial : (f : ℕ) (p g : List ℕ) → Listed E p → length g ≡ suc (length p) → measure p g < f → length p + total g ≤ LENGTH →
       value f P E p g ≤ HIGHEST
-  value-at-most-twenty-factorial f p g l wide h few = omega (arith, value-at-most f p g l wide h, factorial-at-most (total g) (omega arith))
+  value-at-most-twenty-factorial f p g l wide h few =
+      at-most (value f P E p g) (factorial (total g)) HIGHEST (value-at-most f p g l wide h) (factorial-at-most (total g) (omega arith))
 
   -- The count for n is the size of the cell of ε with spacing (n).
   pub count-size : (n : ℕ) → countOf P E n ≡ size P [] (n ∷ [])
