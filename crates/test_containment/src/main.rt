@@ -1,9 +1,9 @@
-// A test program: containment against the direct search on listed permutations. It prints totals, a
-// line each.
-mod containment_tests;
+// A test program: containment against the direct search on listed permutations, and on the cases of
+// standard input. It prints totals and answers, a line each.
+mod cases;
+mod short_pairs;
 
 fn main() {
-    containment_tests::against_direct_search();
-    containment_tests::limits_and_bad_input();
-    containment_tests::examples();
+    short_pairs::lines();
+    cases::lines();
 }

@@ -1,15 +1,7 @@
-// Tests of reading on damaged texts, against the automaton of this program.
-use crate::automaton::Machine;
-use crate::automaton::is_end;
-use crate::automaton::run;
-use crate::flat::Flat;
-use crate::flat::of_patterns;
-use crate::flat::of_scheme;
-use crate::flat::same;
-use crate::rows::SCHEME;
-use crate::rows::SET;
+// Tests of reading on damaged texts, against the automaton.
+use crate::lists::of_patterns;
+use crate::lists::of_scheme;
 use crate::texts::Kind;
-use crate::texts::ROOM;
 use crate::texts::Text;
 use crate::texts::WAYS;
 use crate::texts::damaged;
@@ -17,6 +9,14 @@ use crate::texts::is_damage;
 use notation::patterns::read_patterns;
 use notation::schemes::read_scheme;
 use scheme::memory::Fault;
+use test_automaton::automaton::Machine;
+use test_automaton::automaton::is_end;
+use test_automaton::automaton::run;
+use test_automaton::flat::Flat;
+use test_automaton::flat::ROOM;
+use test_automaton::flat::same;
+use test_automaton::rows::SCHEME;
+use test_automaton::rows::SET;
 use test_support::counts::one_more_if;
 use test_support::parts::byte_at;
 use test_support::parts::prefix;

@@ -1,8 +1,7 @@
 // Texts with one byte damaged.
+use test_automaton::flat::ROOM;
 use test_support::parts::byte_at;
 
-// the most bytes of a damaged text
-pub const ROOM: usize = 160;
 // how many ways there are to damage a text at a byte: it is dropped, doubled, the text is cut there,
 // or the byte is changed to one of CHANGES
 pub const WAYS: usize = 20;

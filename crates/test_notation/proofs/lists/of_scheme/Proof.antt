@@ -1,8 +1,8 @@
--- `test_notation::flat::of_scheme` is safe and ends: it has 1,280 turns at most. Assumes nothing.
+-- `test_notation::lists::of_scheme` is safe and ends: it has 1,280 turns at most. Assumes nothing.
 use borrow.Author.Needs.{needs}
 use Prim.Native.Nat.{_-_}
-use Rattle.test_notation.proofs.flat.of_scheme.Statement.{statement}
-use Rattle.test_notation.proofs.flat.of_scheme.Tie as tie
+use Rattle.test_notation.proofs.lists.of_scheme.Statement.{statement}
+use Rattle.test_notation.proofs.lists.of_scheme.Tie as tie
 
 pub of-scheme-spec : {M : Type 1} → statement M
 of-scheme-spec = tie.close (tie.spec

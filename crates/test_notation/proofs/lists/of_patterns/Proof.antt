@@ -1,8 +1,8 @@
--- `test_notation::flat::of_patterns` is safe and ends: it has 24 turns. Assumes nothing.
+-- `test_notation::lists::of_patterns` is safe and ends: it has 24 turns. Assumes nothing.
 use borrow.Author.Needs.{needs}
 use Prim.Native.Nat.{_-_}
-use Rattle.test_notation.proofs.flat.of_patterns.Statement.{statement}
-use Rattle.test_notation.proofs.flat.of_patterns.Tie as tie
+use Rattle.test_notation.proofs.lists.of_patterns.Statement.{statement}
+use Rattle.test_notation.proofs.lists.of_patterns.Tie as tie
 
 pub of-patterns-spec : {M : Type 1} → statement M
 of-patterns-spec = tie.close (tie.spec

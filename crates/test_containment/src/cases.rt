@@ -1,0 +1,79 @@
+// The lines of standard input, each a call of `contains`: a label, a pattern and a permutation, with a
+// space between them. An entry is a digit, or a letter from A on for 10 and above; the byte before
+// the digits stands for 255. There are the ceilings, ε, lists that are no permutation, two arguments
+// at fault, and the examples of document 01.
+use test_support::lines::input;
+use test_support::lines::line_after;
+use test_support::lines::line_at;
+use test_support::parts::before;
+use test_support::parts::behind;
+use test_support::parts::byte_at;
+use test_support::parts::prefix;
+use test_support::print;
+use word::containment::Contained;
+use word::containment::contains;
+use word::limits::WORD;
+use word::refusal::number;
+
+// one entry more than a permutation may have
+const BEYOND: usize = WORD + 1;
+
+// A line for each line of the input.
+pub fn lines() {
+    let mut buffer = io::buffer();
+    let n = input(&mut buffer);
+    each(prefix(&buffer, n));
+}
+
+// A line for each line of a text.
+fn each(text: &[u8]) {
+    let mut at: usize = 0;
+    while at < text.len() {
+        one(line_at(text, at));
+        at = line_after(text, at);
+    }
+}
+
+// The line of one case: the label and the answer.
+fn one(case: &[u8]) {
+    let lists = behind(case, b' ');
+    let pattern = before(lists, b' ');
+    let permutation = behind(lists, b' ');
+    let p = entries(pattern);
+    let w = entries(permutation);
+    print::text(before(case, b' '));
+    answer(contains(prefix(&p, pattern.len()), prefix(&w, permutation.len())));
+    print::end();
+}
+
+// Prints what `contains` answers.
+fn answer(contained: Contained) {
+    match contained {
+        Contained::Yes => print::text(b" yes"),
+        Contained::No => print::text(b" no"),
+        Contained::Refused(why, at) => {
+            print::text(b" ");
+            print::refused(number(why), at);
+        }
+    }
+}
+
+// The entries that a word spells, in front.
+fn entries(word: &[u8]) -> [u8; BEYOND] {
+    let mut all = [0u8; BEYOND];
+    let mut i: usize = 0;
+    while i < BEYOND {
+        all[i] = entry(byte_at(word, i));
+        i += 1;
+    }
+    all
+}
+
+// The entry that a byte spells.
+fn entry(x: u8) -> u8 {
+    if x <= b'9' {
+        std::num::wrapping_sub_u8(x, b'0')
+    } else {
+        std::num::wrapping_sub_u8(x, 55)
+    }
+}
