@@ -1,3 +1,3 @@
--- The laws that the proofs of the crate plain use.
+-- The laws that the proofs of the crate count_plain use.
 pub mod SheetLaws
 pub mod CellLaws

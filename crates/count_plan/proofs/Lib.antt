@@ -1,2 +1,2 @@
--- The laws that the proofs of the crate plan use.
+-- The laws that the proofs of the crate count_plan use.
 pub mod PlanItemLaws

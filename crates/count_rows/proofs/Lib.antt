@@ -1,2 +1,2 @@
--- The laws that the proofs of the crate count use.
+-- The laws that the proofs of the crate count_rows use.
 pub mod EntryFillLaws

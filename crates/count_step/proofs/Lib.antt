@@ -1,3 +1,3 @@
--- The laws that the proofs of the crate step use.
+-- The laws that the proofs of the crate count_step use.
 pub mod SumLaws
 pub mod FillLaws

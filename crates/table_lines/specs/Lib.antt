@@ -1,4 +1,4 @@
--- The definitions and laws of the crate lines.
+-- The definitions and laws of the crate table_lines.
 pub mod Lines
 pub mod Kept
 pub mod KeptWalk

@@ -1,1 +1,1 @@
--- The laws that the proofs of the crate bfile use.
+-- The laws that the proofs of the crate table_print use.

@@ -1,4 +1,4 @@
--- The definitions of the crate gap_text.
+-- The definitions of the crate text_gaps.
 pub mod GapMemory
 pub mod PartReading
 pub mod ItemReading

@@ -1,2 +1,2 @@
--- The laws that the proofs of the crate grammar cite.
+-- The laws that the proofs of the crate text_grammar cite.
 pub mod CursorLaws

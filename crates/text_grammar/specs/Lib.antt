@@ -1,4 +1,4 @@
--- The definitions and laws of the crate grammar.
+-- The definitions and laws of the crate text_grammar.
 pub mod Spelling
 pub mod Tokens
 pub mod TokenLaws

@@ -1,4 +1,4 @@
--- The definitions and laws of the crate pattern_text.
+-- The definitions and laws of the crate text_patterns.
 pub mod PatternGrammar
 pub mod PatternMemory
 pub mod PatternReading

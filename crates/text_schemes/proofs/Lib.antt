@@ -1,3 +1,3 @@
--- The laws that the proofs of the crate scheme_text cite.
+-- The laws that the proofs of the crate text_schemes cite.
 pub mod EntryTextLaws
 pub mod EntryItemLaws

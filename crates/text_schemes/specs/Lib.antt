@@ -1,4 +1,4 @@
--- The definitions and laws of the crate scheme_text.
+-- The definitions and laws of the crate text_schemes.
 pub mod SchemeLoaded
 pub mod SchemeReading
 pub mod EntryReading

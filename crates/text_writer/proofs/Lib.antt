@@ -1,3 +1,3 @@
--- The laws that the proofs of the crate writer cite.
+-- The laws that the proofs of the crate text_writer cite.
 pub mod FitLaws
 pub mod SchemeFitLaws

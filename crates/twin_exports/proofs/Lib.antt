@@ -1,1 +1,1 @@
--- The laws that the proofs of the crate exports use.
+-- The laws that the proofs of the crate twin_exports use.
