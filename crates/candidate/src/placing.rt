@@ -13,11 +13,9 @@ ghost use Rattle.word.specs.Vocabulary.{fits};
 ghost use Rattle.cell.specs.Candidate.{place};
 ghost use Rattle.candidate.specs.Lookup.{entryOf, flagged};
 
-// How far the head of a pattern is placed: the values at which its first `placed` entries stand,
-// the index in the prefix from which the next one is sought, and whether a value among them is
-// deleted.
+// How far the head of a pattern is placed: how many of its entries are, the index in the prefix from
+// which the next one is sought, and whether a value among them is deleted.
 pub struct Placing {
-    pub chosen: [u8; DIGITS],
     pub placed: usize,
     pub from: usize,
     pub used: bool,
@@ -55,10 +53,16 @@ fn pairs_fit(chosen: [u8; DIGITS], head: &[u8], s: usize, x: u8, a: u8) -> bool
 }
 
 // Whether the entries of the head that are not placed yet can be placed in the prefix, behind those
-// that are.
-pub fn placed(state: Placing, head: &[u8], prefix: &[u8], tables: Tables) -> bool
+// that stand at the values `chosen`.
+pub fn placed(
+    chosen: [u8; DIGITS],
+    head: &[u8],
+    prefix: &[u8],
+    state: Placing,
+    tables: Tables,
+) -> bool
     requires { ⌜ length (now head) ≤ DIGITS ⌝ }
-    ensures { λ r. ⌜ r ≡ place (entryOf (tables .need)) (entryOf (tables .levels)) (flagged (tables .gone)) (state .used) (take (state .placed) (now (head .entry))) (take (state .placed) (state .chosen)) (drop (state .placed) (now (head .entry))) (drop (state .from) (now (prefix .entry))) ⌝ }
+    ensures { λ r. ⌜ r ≡ place (entryOf (tables .need)) (entryOf (tables .levels)) (flagged (tables .gone)) (state .used) (take (state .placed) (now (head .entry))) (take (state .placed) chosen) (drop (state .placed) (now (head .entry))) (drop (state .from) (now (prefix .entry))) ⌝ }
 {
     let s = state.placed;
     let used = state.used;
@@ -69,7 +73,6 @@ pub fn placed(state: Placing, head: &[u8], prefix: &[u8], tables: Tables) -> boo
     let need = tables.need;
     let levels = tables.levels;
     let gone = tables.gone;
-    let chosen = state.chosen;
     let level = told(need, x);
     let mut j = state.from;
     while j < prefix.len() {
@@ -86,12 +89,11 @@ pub fn placed(state: Placing, head: &[u8], prefix: &[u8], tables: Tables) -> boo
         let more = either(used, is_flagged(gone, a));
         let count = s + 1;
         let longer = Placing {
-            chosen: next,
             placed: count,
             from: j,
             used: more,
         };
-        if placed(longer, head, prefix, tables) {
+        if placed(next, head, prefix, longer, tables) {
             return true;
         }
     }

@@ -80,12 +80,11 @@ fn hits(
     }
     let head = len - t;
     let start = Placing {
-        chosen: [0u8; DIGITS],
         placed: 0,
         from: 0,
         used: false,
     };
-    placed(start, &row[..head], &prefix[..k], tables)
+    placed([0u8; DIGITS], &row[..head], &prefix[..k], start, tables)
 }
 
 // The levels that a pattern's head entries need, where its last t entries are the rest; for a

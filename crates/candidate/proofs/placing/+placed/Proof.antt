@@ -23,7 +23,7 @@ use Rattle.candidate.proofs.placing.+placed.{statement}
 use Rattle.candidate.proofs.placing.+placed.Tie.{close}
 
 abbrev μ-placed : Measures 2 placed-kinds.ps ℕ
-μ-placed κs a = length (a .1 .1 .0 .now) - a .0 .from
+μ-placed κs a = length (a .1 .1 .0 .now) - a .1 .1 .1 .0 .from
 
 abbrev placed-at : ℕ → In 2 placed-kinds.ps
 placed-at t = and 2 placed-kinds.ps (is 2 placed-kinds.ps μ-placed t) placed.Pre
@@ -32,13 +32,13 @@ abbrev placed-below : ℕ → In 2 placed-kinds.ps
 placed-below t = and 2 placed-kinds.ps (falls 2 placed-kinds.ps _<_ μ-placed t) placed.Pre
 
 abbrev placed-Inv-loop : placed-lts.InvT-loop
-placed-Inv-loop head prefix tables s used x levels gone chosen level j₀ j =
+placed-Inv-loop chosen head prefix tables s used x levels gone level j₀ j =
     (j₀ ≤ j) ×
     (state (entryOf (tables .need)) (entryOf levels) (flagged gone) head prefix used chosen s j₀ ≡
     state (entryOf (tables .need)) (entryOf levels) (flagged gone) head prefix used chosen s j)
 
 abbrev placed-μ-loop : placed-lts.MeasureT-loop
-placed-μ-loop head prefix tables s used x levels gone chosen level j₀ j = length prefix - j
+placed-μ-loop chosen head prefix tables s used x levels gone level j₀ j = length prefix - j
 
 placed-returns : (t : ℕ) → placed-lts.Need-returns (
   told-reads.Asked,
@@ -54,7 +54,7 @@ placed-returns : (t : ℕ) → placed-lts.Need-returns (
 ) (placed-at t) placed.Post placed-Inv-loop placed-μ-loop
 placed-returns t c =
     let a = c .before .before .before .args in
-    sym (placed-done (entryOf (a .tables .need)) (entryOf (a .tables .levels)) (flagged (a .tables .gone)) (a .head .now) (a .prefix .now) (a .state .used) (a .state .chosen) (a .state .placed) (a .state .from) (c .if1 .taken))
+    sym (placed-done (entryOf (a .tables .need)) (entryOf (a .tables .levels)) (flagged (a .tables .gone)) (a .head .now) (a .prefix .now) (a .state .used) (a .chosen) (a .state .placed) (a .state .from) (c .if1 .taken))
 
 placed-shared-slice-read-x : (t : ℕ) → placed-lts.Need-shared-slice-read-x (
   told-reads.Asked,
@@ -167,13 +167,13 @@ placed-loop-again : (t : ℕ) → placed-lts.Need-loop-again (
   placed.Post,
 ) (placed-at t) placed.Post placed-Inv-loop placed-μ-loop
 placed-loop-again t c =
-    let a = c .before .before .before .before .before .before .before .before .before .before .before .before .before .before .args in
+    let a = c .before .before .before .before .before .before .before .before .before .before .before .before .before .args in
     let l = c .before .before .before .before .loop in
-    let eight : length (a .state .chosen) ≡ 8 = (let o = c .before .before .before .before .before .before .before .before .before .before .before .before .before .before .good in search needs) in
-    let room : a .state .placed < length (a .state .chosen) = omega (arith, c .before .before .before .before .before .before .before .before .before .before .before .before .before .before .pre .1, c .before .before .before .before .before .before .before .before .before .before .before .if1 .left) in
+    let eight : length (a .chosen) ≡ 8 = (let o = c .before .before .before .before .before .before .before .before .before .before .before .before .before .good in search needs) in
+    let room : a .state .placed < length (a .chosen) = omega (arith, c .before .before .before .before .before .before .before .before .before .before .before .before .before .pre .1, c .before .before .before .before .before .before .before .before .before .before .if1 .left) in
     let other : entryOf (a .tables .levels) (getD (a .prefix .now) (l .j) 0) ≡ entryOf (a .tables .need) (getD (a .head .now) (a .state .placed) 0) → ⊥ =
     λ q. c .if2 .taken (c .before .told2 .ensures ∙ q ∙ sym (c .before .before .before .before .before .told .ensures)) in
-    (omega (arith, l .inv .0), l .inv .1 ∙ placed-level (entryOf (a .tables .need)) (entryOf (a .tables .levels)) (flagged (a .tables .gone)) (a .head .now) (a .prefix .now) (a .state .used) (a .state .chosen) (a .state .placed) (l .j) (c .before .before .before .before .before .before .before .before .before .before .before .if1 .left) (c .before .before .before .loop-test .taken) room other)
+    (omega (arith, l .inv .0), l .inv .1 ∙ placed-level (entryOf (a .tables .need)) (entryOf (a .tables .levels)) (flagged (a .tables .gone)) (a .head .now) (a .prefix .now) (a .state .used) (a .chosen) (a .state .placed) (l .j) (c .before .before .before .before .before .before .before .before .before .before .if1 .left) (c .before .before .before .loop-test .taken) room other)
 
 placed-pairs-fit-requires : (t : ℕ) → placed-lts.Need-pairs-fit-requires (
   told-reads.Asked,
@@ -216,14 +216,14 @@ placed-loop-again-2 : (t : ℕ) → placed-lts.Need-loop-again-2 (
   placed.Post,
 ) (placed-at t) placed.Post placed-Inv-loop placed-μ-loop
 placed-loop-again-2 t c =
-    let a = c .before .before .before .before .before .before .before .before .before .before .before .before .before .before .before .before .args in
+    let a = c .before .before .before .before .before .before .before .before .before .before .before .before .before .before .before .args in
     let l = c .before .before .before .before .before .before .loop in
-    let eight : length (a .state .chosen) ≡ 8 = (let o = c .before .before .before .before .before .before .before .before .before .before .before .before .before .before .before .before .good in search needs) in
-    let room : a .state .placed < length (a .state .chosen) = omega (arith, c .before .before .before .before .before .before .before .before .before .before .before .before .before .before .before .before .pre .1, c .before .before .before .before .before .before .before .before .before .before .before .before .before .if1 .left) in
+    let eight : length (a .chosen) ≡ 8 = (let o = c .before .before .before .before .before .before .before .before .before .before .before .before .before .before .before .good in search needs) in
+    let room : a .state .placed < length (a .chosen) = omega (arith, c .before .before .before .before .before .before .before .before .before .before .before .before .before .before .before .pre .1, c .before .before .before .before .before .before .before .before .before .before .before .before .if1 .left) in
     let level : entryOf (a .tables .levels) (getD (a .prefix .now) (l .j) 0) ≡ entryOf (a .tables .need) (getD (a .head .now) (a .state .placed) 0) =
     sym (c .before .before .before .told2 .ensures) ∙ c .before .before .if2 .left ∙ c .before .before .before .before .before .before .before .told .ensures in (
       omega (arith, l .inv .0),
-      l .inv .1 ∙ placed-pairs (entryOf (a .tables .need)) (entryOf (a .tables .levels)) (flagged (a .tables .gone)) (a .head .now) (a .prefix .now) (a .state .used) (a .state .chosen) (a .state .placed) (l .j) (c .before .before .before .before .before .before .before .before .before .before .before .before .before .if1 .left) (c .before .before .before .before .before .loop-test .taken) room level
+      l .inv .1 ∙ placed-pairs (entryOf (a .tables .need)) (entryOf (a .tables .levels)) (flagged (a .tables .gone)) (a .head .now) (a .prefix .now) (a .state .used) (a .chosen) (a .state .placed) (l .j) (c .before .before .before .before .before .before .before .before .before .before .before .before .if1 .left) (c .before .before .before .before .before .loop-test .taken) room level
           (sym (c .before .pairs-fit .ensures) ∙ not-true _ (c .if3 .taken)),
     )
 
@@ -295,7 +295,7 @@ placed-placed-requires : (t : ℕ) → placed-lts.Need-placed-requires (
   placed-below t,
   placed.Post,
 ) (placed-at t) placed.Post placed-Inv-loop placed-μ-loop
-placed-placed-requires t c κs = (omega (arith, c .before .before .before .before .before .before .before .before .before .before .before .before .before .before .before .before .before .before .pre .0, c .before .before .before .before .before .before .before .before .loop .inv .0, c .before .before .before .before .before .before .before .loop-test .taken), c .before .before .before .before .before .before .before .before .before .before .before .before .before .before .before .before .before .before .pre .1)
+placed-placed-requires t c κs = (omega (arith, c .before .before .before .before .before .before .before .before .before .before .before .before .before .before .before .before .before .pre .0, c .before .before .before .before .before .before .before .before .loop .inv .0, c .before .before .before .before .before .before .before .loop-test .taken), c .before .before .before .before .before .before .before .before .before .before .before .before .before .before .before .before .before .pre .1)
 
 placed-returns-2 : (t : ℕ) → placed-lts.Need-returns-2 (
   told-reads.Asked,
@@ -310,19 +310,19 @@ placed-returns-2 : (t : ℕ) → placed-lts.Need-returns-2 (
   placed.Post,
 ) (placed-at t) placed.Post placed-Inv-loop placed-μ-loop
 placed-returns-2 t c =
-    let a = c .before .before .before .before .before .before .before .before .before .before .before .before .before .before .before .before .before .before .before .before .args in
+    let a = c .before .before .before .before .before .before .before .before .before .before .before .before .before .before .before .before .before .before .before .args in
     let l = c .before .before .before .before .before .before .before .before .before .before .loop in
     let v : ℕ = getD (a .prefix .now) (l .j) 0 in
-    let eight : length (a .state .chosen) ≡ 8 = (let o = c .before .before .before .before .before .before .before .before .before .before .before .before .before .before .before .before .before .before .before .before .good in search needs) in
-    let room : a .state .placed < length (a .state .chosen) = omega (arith, c .before .before .before .before .before .before .before .before .before .before .before .before .before .before .before .before .before .before .before .before .pre .1, c .before .before .before .before .before .before .before .before .before .before .before .before .before .before .before .before .before .if1 .left) in
+    let eight : length (a .chosen) ≡ 8 = (let o = c .before .before .before .before .before .before .before .before .before .before .before .before .before .before .before .before .before .before .before .good in search needs) in
+    let room : a .state .placed < length (a .chosen) = omega (arith, c .before .before .before .before .before .before .before .before .before .before .before .before .before .before .before .before .before .before .before .pre .1, c .before .before .before .before .before .before .before .before .before .before .before .before .before .before .before .before .if1 .left) in
     let level : entryOf (a .tables .levels) v ≡ entryOf (a .tables .need) (getD (a .head .now) (a .state .placed) 0) =
     sym (c .before .before .before .before .before .before .before .told2 .ensures) ∙ c .before .before .before .before .before .before .if2 .left ∙ c .before .before .before .before .before .before .before .before .before .before .before .told .ensures in
     let more : c .before .before .either .result ≡ a .state .used || flagged (a .tables .gone) v =
     c .before .before .either .ensures ∙ ap (λ (b : Bool). a .state .used || b) (c .before .before .before .is-flagged .ensures) in
-    let tried : state (entryOf (a .tables .need)) (entryOf (a .tables .levels)) (flagged (a .tables .gone)) (a .head .now) (a .prefix .now) (a .state .used || flagged (a .tables .gone) v) (set (a .state .chosen) (a .state .placed) v) (a .state .placed + 1) (l .j + 1) ≡ true =
-    ap (λ (u : Bool). state (entryOf (a .tables .need)) (entryOf (a .tables .levels)) (flagged (a .tables .gone)) (a .head .now) (a .prefix .now) u (set (a .state .chosen) (a .state .placed) v) (a .state .placed + 1) (l .j + 1)) (sym more) ∙
+    let tried : state (entryOf (a .tables .need)) (entryOf (a .tables .levels)) (flagged (a .tables .gone)) (a .head .now) (a .prefix .now) (a .state .used || flagged (a .tables .gone) v) (set (a .chosen) (a .state .placed) v) (a .state .placed + 1) (l .j + 1) ≡ true =
+    ap (λ (u : Bool). state (entryOf (a .tables .need)) (entryOf (a .tables .levels)) (flagged (a .tables .gone)) (a .head .now) (a .prefix .now) u (set (a .chosen) (a .state .placed) v) (a .state .placed + 1) (l .j + 1)) (sym more) ∙
     sym (c .before .placed .ensures) ∙ c .if4 .taken in
-    sym (l .inv .1 ∙ placed-here (entryOf (a .tables .need)) (entryOf (a .tables .levels)) (flagged (a .tables .gone)) (a .head .now) (a .prefix .now) (a .state .used) (a .state .chosen) (a .state .placed) (l .j) (c .before .before .before .before .before .before .before .before .before .before .before .before .before .before .before .before .before .if1 .left) (c .before .before .before .before .before .before .before .before .before .loop-test .taken) room level (sym (c .before .before .before .before .before .pairs-fit .ensures) ∙ not-false _ (c .before .before .before .before .if3 .left)) tried)
+    sym (l .inv .1 ∙ placed-here (entryOf (a .tables .need)) (entryOf (a .tables .levels)) (flagged (a .tables .gone)) (a .head .now) (a .prefix .now) (a .state .used) (a .chosen) (a .state .placed) (l .j) (c .before .before .before .before .before .before .before .before .before .before .before .before .before .before .before .before .if1 .left) (c .before .before .before .before .before .before .before .before .before .loop-test .taken) room level (sym (c .before .before .before .before .before .pairs-fit .ensures) ∙ not-false _ (c .before .before .before .before .if3 .left)) tried)
 
 placed-loop-less-3 : (t : ℕ) → placed-lts.Need-loop-less-3 (
   told-reads.Asked,
@@ -351,19 +351,19 @@ placed-loop-again-3 : (t : ℕ) → placed-lts.Need-loop-again-3 (
   placed.Post,
 ) (placed-at t) placed.Post placed-Inv-loop placed-μ-loop
 placed-loop-again-3 t c =
-    let a = c .before .before .before .before .before .before .before .before .before .before .before .before .before .before .before .before .before .before .before .before .args in
+    let a = c .before .before .before .before .before .before .before .before .before .before .before .before .before .before .before .before .before .before .before .args in
     let l = c .before .before .before .before .before .before .before .before .before .before .loop in
     let v : ℕ = getD (a .prefix .now) (l .j) 0 in
-    let eight : length (a .state .chosen) ≡ 8 = (let o = c .before .before .before .before .before .before .before .before .before .before .before .before .before .before .before .before .before .before .before .before .good in search needs) in
-    let room : a .state .placed < length (a .state .chosen) = omega (arith, c .before .before .before .before .before .before .before .before .before .before .before .before .before .before .before .before .before .before .before .before .pre .1, c .before .before .before .before .before .before .before .before .before .before .before .before .before .before .before .before .before .if1 .left) in
+    let eight : length (a .chosen) ≡ 8 = (let o = c .before .before .before .before .before .before .before .before .before .before .before .before .before .before .before .before .before .before .before .good in search needs) in
+    let room : a .state .placed < length (a .chosen) = omega (arith, c .before .before .before .before .before .before .before .before .before .before .before .before .before .before .before .before .before .before .before .pre .1, c .before .before .before .before .before .before .before .before .before .before .before .before .before .before .before .before .if1 .left) in
     let level : entryOf (a .tables .levels) v ≡ entryOf (a .tables .need) (getD (a .head .now) (a .state .placed) 0) =
     sym (c .before .before .before .before .before .before .before .told2 .ensures) ∙ c .before .before .before .before .before .before .if2 .left ∙ c .before .before .before .before .before .before .before .before .before .before .before .told .ensures in
     let more : c .before .before .either .result ≡ a .state .used || flagged (a .tables .gone) v =
     c .before .before .either .ensures ∙ ap (λ (b : Bool). a .state .used || b) (c .before .before .before .is-flagged .ensures) in
-    let tried : state (entryOf (a .tables .need)) (entryOf (a .tables .levels)) (flagged (a .tables .gone)) (a .head .now) (a .prefix .now) (a .state .used || flagged (a .tables .gone) v) (set (a .state .chosen) (a .state .placed) v) (a .state .placed + 1) (l .j + 1) ≡ false =
-    ap (λ (u : Bool). state (entryOf (a .tables .need)) (entryOf (a .tables .levels)) (flagged (a .tables .gone)) (a .head .now) (a .prefix .now) u (set (a .state .chosen) (a .state .placed) v) (a .state .placed + 1) (l .j + 1)) (sym more) ∙
+    let tried : state (entryOf (a .tables .need)) (entryOf (a .tables .levels)) (flagged (a .tables .gone)) (a .head .now) (a .prefix .now) (a .state .used || flagged (a .tables .gone) v) (set (a .chosen) (a .state .placed) v) (a .state .placed + 1) (l .j + 1) ≡ false =
+    ap (λ (u : Bool). state (entryOf (a .tables .need)) (entryOf (a .tables .levels)) (flagged (a .tables .gone)) (a .head .now) (a .prefix .now) u (set (a .chosen) (a .state .placed) v) (a .state .placed + 1) (l .j + 1)) (sym more) ∙
     sym (c .before .placed .ensures) ∙ c .if4 .left in
-    (omega (arith, l .inv .0), l .inv .1 ∙ placed-later (entryOf (a .tables .need)) (entryOf (a .tables .levels)) (flagged (a .tables .gone)) (a .head .now) (a .prefix .now) (a .state .used) (a .state .chosen) (a .state .placed) (l .j) (c .before .before .before .before .before .before .before .before .before .before .before .before .before .before .before .before .before .if1 .left) (c .before .before .before .before .before .before .before .before .before .loop-test .taken) room level (sym (c .before .before .before .before .before .pairs-fit .ensures) ∙ not-false _ (c .before .before .before .before .if3 .left)) tried)
+    (omega (arith, l .inv .0), l .inv .1 ∙ placed-later (entryOf (a .tables .need)) (entryOf (a .tables .levels)) (flagged (a .tables .gone)) (a .head .now) (a .prefix .now) (a .state .used) (a .chosen) (a .state .placed) (l .j) (c .before .before .before .before .before .before .before .before .before .before .before .before .before .before .before .before .if1 .left) (c .before .before .before .before .before .before .before .before .before .loop-test .taken) room level (sym (c .before .before .before .before .before .pairs-fit .ensures) ∙ not-false _ (c .before .before .before .before .if3 .left)) tried)
 
 placed-returns-3 : (t : ℕ) → placed-lts.Need-returns-3 (
   told-reads.Asked,
@@ -378,9 +378,9 @@ placed-returns-3 : (t : ℕ) → placed-lts.Need-returns-3 (
   placed.Post,
 ) (placed-at t) placed.Post placed-Inv-loop placed-μ-loop
 placed-returns-3 t c =
-    let a = c .before .before .before .before .before .before .before .before .before .before .before .args in
+    let a = c .before .before .before .before .before .before .before .before .before .before .args in
     let l = c .before .loop in
-    sym (l .inv .1 ∙ placed-none (entryOf (a .tables .need)) (entryOf (a .tables .levels)) (flagged (a .tables .gone)) (a .head .now) (a .prefix .now) (a .state .used) (a .state .chosen) (a .state .placed) (l .j) (c .before .before .before .before .before .before .before .before .if1 .left) (c .loop-test .left))
+    sym (l .inv .1 ∙ placed-none (entryOf (a .tables .need)) (entryOf (a .tables .levels)) (flagged (a .tables .gone)) (a .head .now) (a .prefix .now) (a .state .used) (a .chosen) (a .state .placed) (l .j) (c .before .before .before .before .before .before .before .if1 .left) (c .loop-test .left))
 
 pub +placed-spec : {M : Type 1} → statement M
 +placed-spec = close μ-placed λ t. placed-lts.spec (
