@@ -1,6 +1,6 @@
-// Reading by a finite automaton over the bytes, given by the table of rows.rt. It shares no code with
-// the crate `notation`: it has no cursor, no tokens and no parts, and no memory beside its state, one
-// number and the list read so far.
+// Reading by a finite automaton over the bytes, given by the table of rows.rt. It shares no code
+// with the crate `notation`: it has no cursor, no tokens and no parts, and no memory beside its
+// state, one number and the list read so far.
 use crate::flat::Flat;
 use crate::flat::STOP;
 use crate::flat::nothing;

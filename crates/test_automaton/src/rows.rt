@@ -1,5 +1,6 @@
 // The automaton's states, what it does at a byte, and its table. A row is: from a state, at a byte
-// from one to another, to a state, what is done. The rows stand in four tables, which are quicker to check than one.
+// from one to another, to a state, what is done. The rows stand in four tables, which are quicker
+// to check than one.
 
 // reading of a pattern set begins
 pub const SET: u8 = 0;

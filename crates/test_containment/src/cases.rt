@@ -1,7 +1,7 @@
-// The lines of standard input, each a call of `contains`: a label, a pattern and a permutation, with a
-// space between them. An entry is a digit, or a letter from A on for 10 and above; the byte before
-// the digits stands for 255. There are the ceilings, ε, lists that are no permutation, two arguments
-// at fault, and the examples of document 01.
+// The lines of standard input, each a call of `contains`: a label, a pattern and a permutation,
+// with a space between them. An entry is a digit, or a letter from A on for 10 and above; the byte
+// before the digits stands for 255. There are the ceilings, ε, lists that are no permutation, two
+// arguments at fault, and the examples of document 01.
 use test_support::lines::input;
 use test_support::lines::line_after;
 use test_support::lines::line_at;

@@ -36,8 +36,8 @@ fn subsets(n: usize) -> usize {
 }
 
 // Whether the entries of w at the positions of a set are a copy of the first k entries of p. The
-// index i is in the set if the binary digit of weight 2 to the i is 1. A set of another size is left
-// at once.
+// index i is in the set if the binary digit of weight 2 to the i is 1. A set of another size is
+// left at once.
 fn is_copy(p: [u8; LONGEST], k: usize, w: [u8; LONGEST], subset: usize) -> bool {
     if size(subset) != k {
         return false;

@@ -102,8 +102,8 @@ fn with_answers(t: Tally, a: Answer, m: Machine) -> Tally {
     }
 }
 
-// Whether both find the text spelt or both do not, and where there is no fault whether the lists are
-// the same.
+// Whether both find the text spelt or both do not, and where there is no fault whether the lists
+// are the same.
 fn agree(a: Answer, m: Machine) -> bool {
     let refusal = a.refusal;
     let spelt = is_end(m);

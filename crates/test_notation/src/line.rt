@@ -1,8 +1,8 @@
-// The line of one text: the label, and either the refusal or the number of items read and what came
-// of writing them to three pages: one with room, one of just the bytes needed, and one of a byte
-// fewer. Of the first two it says the number of bytes, whether they are the text without its spaces,
-// and whether the page behind them is still 7; of the last the refusal, and whether all of that page
-// is still 7.
+// The line of one text: the label, and either the refusal or the number of items read and what
+// came of writing them to three pages: one with room, one of just the bytes needed, and one of a
+// byte fewer. Of the first two it says the number of bytes, whether they are the text without its
+// spaces, and whether the page behind them is still 7; of the last the refusal, and whether all of
+// that page is still 7.
 use crate::page::Filled;
 use crate::page::PAGE;
 use crate::page::begins_as;

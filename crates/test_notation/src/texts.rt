@@ -2,8 +2,8 @@
 use test_automaton::flat::ROOM;
 use test_support::parts::byte_at;
 
-// how many ways there are to damage a text at a byte: it is dropped, doubled, the text is cut there,
-// or the byte is changed to one of CHANGES
+// how many ways there are to damage a text at a byte: it is dropped, doubled, the text is cut
+// there, or the byte is changed to one of CHANGES
 pub const WAYS: usize = 20;
 // a space, digits, marks, bytes of marks, and a byte that the notation does not have
 const CHANGES: [u8; 17] = *b" 012{},()\xCE\xE2\x88\x85\x9F\xA8\xA9\xFF";
@@ -53,8 +53,8 @@ fn damaged_length(n: usize, at: usize, way: usize) -> usize {
     }
 }
 
-// The byte of the damaged text at the index i. Behind the damage each stands one place further where
-// the byte is doubled, and one place before where it is dropped.
+// The byte of the damaged text at the index i. Behind the damage each stands one place further
+// where the byte is doubled, and one place before where it is dropped.
 fn damaged_byte(text: &[u8], at: usize, way: usize, i: usize) -> u8 {
     if i < at {
         return byte_at(text, i);

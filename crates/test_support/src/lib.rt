@@ -1,5 +1,5 @@
-// For test programs only: printing, the lines of standard input, parts of byte lists, and counts. It
-// shares no code with the crates that are tested.
+// For test programs only: printing, the lines of standard input, parts of byte lists, and counts.
+// It shares no code with the crates that are tested.
 pub mod counts;
 pub mod lines;
 pub mod parts;

@@ -1,4 +1,5 @@
--- `test_automaton::automaton::row_for` is safe and ends: the rows that are left fall in number. Assumes nothing.
+-- `test_automaton::automaton::row_for` is safe and ends: the rows that are left fall in number.
+-- Assumes nothing.
 use borrow.Author.Needs.{needs}
 use Prim.Native.Nat.{_-_}
 use Rattle.test_automaton.proofs.automaton.row_for.Statement.{statement}

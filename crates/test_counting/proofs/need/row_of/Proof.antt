@@ -1,4 +1,5 @@
--- `test_counting::need::row_of` is safe and ends: what is left of the length falls. Assumes nothing.
+-- `test_counting::need::row_of` is safe and ends: what is left of the length falls. Assumes
+-- nothing.
 use borrow.Author.Needs.{needs}
 use Prim.Native.Nat.{_-_}
 use Rattle.test_counting.proofs.need.row_of.Statement.{statement}
