@@ -20,9 +20,9 @@ use Rattle.word.specs.Containment.{patternsOf}
 use Rattle.word.specs.ListLaws.{below-or-not, same-or-not}
 use Rattle.cell.specs.Cell.{same}
 use Rattle.cell.specs.Basis.{basic, basis}
-use Rattle.scheme.specs.SchemeMemory.{padded, noPattern, patternIn}
-use Rattle.scheme.specs.MemoryLaws.{padded-within}
-use Rattle.scheme.specs.declared.memory.Pattern.{Pattern}
+use Rattle.forms.specs.SchemeMemory.{padded, noPattern, patternIn}
+use Rattle.forms.specs.MemoryLaws.{padded-within}
+use Rattle.forms.specs.declared.memory.Pattern.{Pattern}
 use Rattle.candidate.specs.BasisSet.{IsBasis}
 
 -- a part that is cut again at its own length

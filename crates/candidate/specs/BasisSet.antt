@@ -6,8 +6,8 @@ use lib.ListN.{getD}
 use Rattle.word.specs.Ceilings.{DIGITS, PATTERNS}
 use Rattle.word.specs.Containment.{patternsOf}
 use Rattle.cell.specs.Basis.{basis}
-use Rattle.scheme.specs.SchemeMemory.{noPattern, patternsIn}
-use Rattle.scheme.specs.declared.memory.Patterns.{Patterns}
+use Rattle.forms.specs.SchemeMemory.{noPattern, patternsIn}
+use Rattle.forms.specs.declared.memory.Patterns.{Patterns}
 
 -- it holds the basis of the patterns, and is within the ceilings
 pub record IsBasis (set : List (List ℕ)) (lengths : List ℕ) (count : ℕ) (r : Patterns) : Type 0 where

@@ -1,7 +1,7 @@
 // The basis of a pattern set in memory: the patterns that contain no other pattern of the set; and
 // the length of the longest pattern.
-use scheme::memory::Pattern;
-use scheme::memory::Patterns;
+use forms::memory::Pattern;
+use forms::memory::Patterns;
 use word::copy::first_copy;
 use word::limits::DIGITS;
 use word::limits::PATTERNS;

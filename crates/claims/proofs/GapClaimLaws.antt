@@ -22,11 +22,11 @@ use Rattle.candidate.specs.Lookup.{entryOf, flagged, Says}
 use Rattle.candidate.specs.Tabled.{keptValues}
 use Rattle.candidate.proofs.LookupLaws.{level-more, flag-none}
 use Rattle.completion.specs.Completion.{completable}
-use Rattle.scheme.specs.SchemeMemory.{padded, noGap, gapIn, entryIn}
-use Rattle.scheme.specs.MemoryLaws.{padded-within}
+use Rattle.forms.specs.SchemeMemory.{padded, noGap, gapIn, entryIn}
+use Rattle.forms.specs.MemoryLaws.{padded-within}
 use Rattle.scheme.specs.TestLaws.{or-left, from, any-start}
-use Rattle.scheme.specs.declared.memory.Gap.{Gap}
-use Rattle.scheme.specs.declared.memory.Entry.{Entry}
+use Rattle.forms.specs.declared.memory.Gap.{Gap}
+use Rattle.forms.specs.declared.memory.Entry.{Entry}
 use Rattle.verdict.specs.Verdict.{isEmpty, liveGap}
 use Rattle.verdict.specs.VerdictLaws.{empty-out}
 use Rattle.claims.specs.EmptyBelow.{showsEmpty, emptyBelow}

@@ -20,13 +20,13 @@ use Rattle.cell.specs.Claim.{DeletionClaim}
 use Rattle.spacing.specs.GapRows.{gapsOf}
 use Rattle.candidate.specs.Ready.{patternAt, Given, EntryAnswer}
 use Rattle.candidate.specs.BasisMemory.{pattern-member}
-use Rattle.scheme.specs.SchemeList.{Does, expands, deletes, EntryList}
+use Rattle.forms.specs.SchemeList.{Does, expands, deletes, EntryList}
 use Rattle.scheme.specs.WellFormed.{outside}
-use Rattle.scheme.specs.SchemeMemory.{doesOf, entryIn}
-use Rattle.scheme.specs.MemoryLaws.{length-padded}
-use Rattle.scheme.specs.declared.memory.Entry.{Entry}
-use Rattle.scheme.specs.declared.memory.Rule.{Rule}
-use Rattle.scheme.specs.declared.memory.Rule.the-variants.{Expand, Delete}
+use Rattle.forms.specs.SchemeMemory.{doesOf, entryIn}
+use Rattle.forms.specs.MemoryLaws.{length-padded}
+use Rattle.forms.specs.declared.memory.Entry.{Entry}
+use Rattle.forms.specs.declared.memory.Rule.{Rule}
+use Rattle.forms.specs.declared.memory.Rule.the-variants.{Expand, Delete}
 use Rattle.verdict.specs.Verdict.{differs, comparedWith}
 use Rattle.verdict.specs.Truth.{RuleClaim}
 use Rattle.verdict.specs.FindingLaws.{same-failure}

@@ -8,11 +8,11 @@ use Rattle.word.specs.Ceilings.{PATTERNS, COMPONENTS, GAPS}
 use Rattle.word.specs.Word.{isPerm}
 use Rattle.word.specs.Containment.{patternsOf}
 use Rattle.cell.specs.Cell.{mOf}
-use Rattle.scheme.specs.SchemeList.{EntryList}
-use Rattle.scheme.specs.SchemeMemory.{noGap}
-use Rattle.scheme.specs.declared.memory.Gap.{Gap}
-use Rattle.scheme.specs.declared.memory.Rule.the-variants.{Delete}
-use Rattle.scheme.specs.declared.memory.Entry.{Entry}
+use Rattle.forms.specs.SchemeList.{EntryList}
+use Rattle.forms.specs.SchemeMemory.{noGap}
+use Rattle.forms.specs.declared.memory.Gap.{Gap}
+use Rattle.forms.specs.declared.memory.Rule.the-variants.{Delete}
+use Rattle.forms.specs.declared.memory.Entry.{Entry}
 use Rattle.verdict.specs.Verdict.{comparedWith}
 
 -- each row has the components of a gap vector

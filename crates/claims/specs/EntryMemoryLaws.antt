@@ -15,11 +15,11 @@ use Rattle.word.specs.ListLaws.{same-or-not, map-same, row-out, row-in}
 use Rattle.word.specs.Containment.{patternsOf}
 use Rattle.cell.specs.Cell.{total}
 use Rattle.spacing.specs.GapRows.{gapsOf}
-use Rattle.scheme.specs.SchemeMemory.{padded, noGap, gapIn, entryIn}
-use Rattle.scheme.specs.MemoryLaws.{padded-within, length-padded}
+use Rattle.forms.specs.SchemeMemory.{padded, noGap, gapIn, entryIn}
+use Rattle.forms.specs.MemoryLaws.{padded-within, length-padded}
 use Rattle.scheme.specs.TestLaws.{length-items}
-use Rattle.scheme.specs.declared.memory.Gap.{Gap}
-use Rattle.scheme.specs.declared.memory.Entry.{Entry}
+use Rattle.forms.specs.declared.memory.Gap.{Gap}
+use Rattle.forms.specs.declared.memory.Entry.{Entry}
 use Rattle.verdict.specs.Proper.{ProperEntry}
 use Rattle.claims.specs.EntryMemory.{HasRows}
 

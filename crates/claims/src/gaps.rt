@@ -2,7 +2,7 @@
 use candidate::tables::kept;
 use candidate::tables::levels_of;
 use completion::completable;
-use scheme::memory::Gap;
+use forms::memory::Gap;
 use spacing::at_least;
 use spacing::first_spacing;
 use spacing::next_spacing;
@@ -21,7 +21,7 @@ ghost use Rattle.word.specs.Ceilings.{PREFIX, COMPONENTS, TOTAL};
 ghost use Rattle.word.specs.Word.{isPerm};
 ghost use Rattle.word.specs.Containment.{patternsOf};
 ghost use Rattle.cell.specs.Cell.{total, cell};
-ghost use Rattle.scheme.specs.SchemeMemory.{gapIn};
+ghost use Rattle.forms.specs.SchemeMemory.{gapIn};
 ghost use Rattle.verdict.specs.Verdict.{isEmpty};
 ghost use Rattle.claims.specs.EntryMemory.{HasRows};
 ghost use Rattle.claims.specs.EmptyBelow.{showsEmpty, emptyAt, emptyBelow};

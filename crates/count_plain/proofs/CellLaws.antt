@@ -17,11 +17,11 @@ use Rattle.cell.specs.Cell.{total, atLeast, free, deleted, merged, mergeValues}
 use Rattle.cell.specs.Child.{slot, childAt, split}
 use Rattle.cell.specs.ChildLaws.{split-total, child-length}
 use Rattle.cell.specs.MergeLaws.{merged-total}
-use Rattle.scheme.specs.SchemeList.{Does, expands, deletes}
+use Rattle.forms.specs.SchemeList.{Does, expands, deletes}
 use Rattle.scheme.specs.TestLaws.{row-next, row-end}
 use Rattle.scheme.proofs.PrefixLaws.{deleted-size}
 use Rattle.verdict.specs.Value.{ruleValue, entryValue}
-use Rattle.scheme.specs.declared.memory.Scheme.{Scheme}
+use Rattle.forms.specs.declared.memory.Scheme.{Scheme}
 use Rattle.count_plan.specs.Plan.{Proper}
 use Rattle.count_plan.specs.Layout.{entryAt, prefixAt, lengthAt}
 use Rattle.count_plan.specs.LayoutLaws.{prefix-length, entry-proper, entry-short, count-few}

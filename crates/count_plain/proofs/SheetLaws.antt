@@ -9,10 +9,10 @@ use lib.ListN.{length, getD, set, replicate, length-set, length-replicate}
 use lib.Seq.{getD-set-same, getD-set-other}
 use Rattle.word.specs.Ceilings.{ENTRIES, COMPONENTS, GAPS}
 use Rattle.word.specs.ListLaws.{below-or-not}
-use Rattle.scheme.specs.SchemeMemory.{noGap, noEntry}
-use Rattle.scheme.specs.declared.memory.Gap.{Gap}
-use Rattle.scheme.specs.declared.memory.Entry.{Entry}
-use Rattle.scheme.specs.declared.memory.Scheme.{Scheme}
+use Rattle.forms.specs.SchemeMemory.{noGap, noEntry}
+use Rattle.forms.specs.declared.memory.Gap.{Gap}
+use Rattle.forms.specs.declared.memory.Entry.{Entry}
+use Rattle.forms.specs.declared.memory.Scheme.{Scheme}
 use Rattle.count_plan.specs.Layout.{entryAt}
 use Rattle.count_plan.specs.Plan.{EntryItem}
 use Rattle.count_plan.specs.declared.items.Item.{Item}

@@ -9,8 +9,8 @@ use Rattle.word.specs.Lists.{row}
 use Rattle.word.specs.Word.{avoids, entry}
 use Rattle.cell.specs.Cell.{total, deleted}
 use Rattle.cell.specs.Child.{childAt, slot, split}
-use Rattle.scheme.specs.SchemeList.{Does, expands, deletes}
-use Rattle.scheme.specs.declared.memory.Scheme.{Scheme}
+use Rattle.forms.specs.SchemeList.{Does, expands, deletes}
+use Rattle.forms.specs.declared.memory.Scheme.{Scheme}
 use Rattle.scheme.specs.declared.links.Found.{Found}
 use Rattle.scheme.specs.declared.links.Found.the-variants.{At, Nothing}
 use Rattle.count_plan.specs.Layout.{entryAt, prefixAt, lengthAt}

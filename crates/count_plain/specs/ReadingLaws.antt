@@ -15,12 +15,12 @@ use Rattle.word.specs.ListLaws.{true-not-false, map-same, row-out, getD-mem}
 use Rattle.word.specs.PermLaws.{perm-bounds}
 use Rattle.cell.specs.Cell.{total, deleted}
 use Rattle.cell.specs.Child.{childAt}
-use Rattle.scheme.specs.SchemeList.{Does, expands, deletes}
-use Rattle.scheme.specs.SchemeMemory.{noGap, noEntry, padded, gapIn, schemeIn}
-use Rattle.scheme.specs.MemoryLaws.{length-padded}
+use Rattle.forms.specs.SchemeList.{Does, expands, deletes}
+use Rattle.forms.specs.SchemeMemory.{noGap, noEntry, padded, gapIn, schemeIn}
+use Rattle.forms.specs.MemoryLaws.{length-padded}
 use Rattle.scheme.specs.WellFormed.{listed}
 use Rattle.scheme.specs.Links.{findIn, foundOf, present, prefixesIn}
-use Rattle.scheme.specs.declared.memory.Scheme.{Scheme}
+use Rattle.forms.specs.declared.memory.Scheme.{Scheme}
 use Rattle.scheme.proofs.LookupLaws.{listed-found, prefixes-at}
 use Rattle.verdict.specs.Truth.{WellFormed, AllTrue}
 use Rattle.verdict.specs.Value.{countOf}

@@ -9,11 +9,11 @@ use Rattle.word.specs.Lists.{row}
 use Rattle.word.specs.Word.{entry}
 use Rattle.cell.specs.Cell.{total, deleted}
 use Rattle.spacing.specs.Sizes.{NEAR}
-use Rattle.scheme.specs.SchemeList.{deletes}
-use Rattle.scheme.specs.SchemeMemory.{noGap, noEntry}
-use Rattle.scheme.specs.declared.memory.Gap.{Gap}
-use Rattle.scheme.specs.declared.memory.Entry.{Entry}
-use Rattle.scheme.specs.declared.memory.Scheme.{Scheme}
+use Rattle.forms.specs.SchemeList.{deletes}
+use Rattle.forms.specs.SchemeMemory.{noGap, noEntry}
+use Rattle.forms.specs.declared.memory.Gap.{Gap}
+use Rattle.forms.specs.declared.memory.Entry.{Entry}
+use Rattle.forms.specs.declared.memory.Scheme.{Scheme}
 use Rattle.count_plan.specs.Layout.{entryAt}
 use Rattle.count_plan.specs.Plan.{EntryItem}
 use Rattle.count_plan.specs.declared.items.Item.{Item}

@@ -1,9 +1,9 @@
 // The sheet of a scheme: what the plain evaluation has to know of each entry.
 use count_plan::items::Item;
 use count_plan::items::entry_item;
-use scheme::memory::Entry;
-use scheme::memory::Gap;
-use scheme::memory::Scheme;
+use forms::memory::Entry;
+use forms::memory::Gap;
+use forms::memory::Scheme;
 use word::limits::COMPONENTS;
 use word::limits::DIGITS;
 use word::limits::ENTRIES;

@@ -21,14 +21,14 @@ use Rattle.cell.specs.BuiltCells.{same-out}
 use Rattle.cell.specs.Child.{childAt}
 use Rattle.cell.specs.ChildLaws.{child-length}
 use Rattle.spacing.specs.Sizes.{NEAR}
-use Rattle.scheme.specs.SchemeList.{Does, expands, deletes}
-use Rattle.scheme.specs.SchemeMemory.{noEntry, padded, doesOf, schemeIn}
+use Rattle.forms.specs.SchemeList.{Does, expands, deletes}
+use Rattle.forms.specs.SchemeMemory.{noEntry, padded, doesOf, schemeIn}
 use Rattle.scheme.specs.WellFormed.{listed, outside}
 use Rattle.scheme.specs.Links.{findFrom, findIn, foundOf, present, prefixesIn, LinkedEntry}
-use Rattle.scheme.specs.MemoryLaws.{padded-within}
-use Rattle.scheme.specs.declared.memory.Rule.{Rule}
-use Rattle.scheme.specs.declared.memory.Rule.the-variants.{Expand, Delete}
-use Rattle.scheme.specs.declared.memory.Scheme.{Scheme}
+use Rattle.forms.specs.MemoryLaws.{padded-within}
+use Rattle.forms.specs.declared.memory.Rule.{Rule}
+use Rattle.forms.specs.declared.memory.Rule.the-variants.{Expand, Delete}
+use Rattle.forms.specs.declared.memory.Scheme.{Scheme}
 use Rattle.scheme.specs.declared.links.Found.{Found}
 use Rattle.scheme.specs.declared.links.Found.the-variants.{At, Nothing}
 use Rattle.scheme.proofs.LookupLaws.{listed-found, prefixes-at}

@@ -5,9 +5,9 @@ use lib.ListN.{length, getD}
 use Rattle.cell.specs.Cell.{total}
 use Rattle.cell.specs.Binomial.{binomial}
 use Rattle.spacing.specs.Rank.{rankOf}
-use Rattle.scheme.specs.SchemeList.{EntryList}
-use Rattle.scheme.specs.SchemeMemory.{noEntry, entryIn}
-use Rattle.scheme.specs.declared.memory.Scheme.{Scheme}
+use Rattle.forms.specs.SchemeList.{EntryList}
+use Rattle.forms.specs.SchemeMemory.{noEntry, entryIn}
+use Rattle.forms.specs.declared.memory.Scheme.{Scheme}
 
 -- the entry with index i
 abbrev pub entryAt : Scheme → ℕ → EntryList

@@ -15,10 +15,10 @@ use Rattle.cell.specs.Binomial.{binomial}
 use Rattle.spacing.specs.Sizes.{CHOICES, NEAR}
 use Rattle.spacing.specs.TotalLaws.{total-append, row-cut}
 use Rattle.spacing.specs.PascalLaws.{binomial-small}
-use Rattle.scheme.specs.SchemeList.{EntryList}
-use Rattle.scheme.specs.SchemeMemory.{noGap, noEntry, gapIn, schemeIn}
-use Rattle.scheme.specs.MemoryLaws.{length-padded}
-use Rattle.scheme.specs.declared.memory.Scheme.{Scheme}
+use Rattle.forms.specs.SchemeList.{EntryList}
+use Rattle.forms.specs.SchemeMemory.{noGap, noEntry, gapIn, schemeIn}
+use Rattle.forms.specs.MemoryLaws.{length-padded}
+use Rattle.forms.specs.declared.memory.Scheme.{Scheme}
 use Rattle.verdict.specs.Proper.{ProperEntry}
 use Rattle.verdict.specs.ProperLaws.{proper-entry, few-entries}
 use Rattle.count_plan.specs.Layout.{entryAt, prefixAt, lengthAt, placeAt, widthOf}

@@ -10,14 +10,14 @@ use Rattle.word.specs.Finding.{clean, firstFault}
 use Rattle.cell.specs.Cell.{deleted}
 use Rattle.cell.specs.Child.{childAt}
 use Rattle.spacing.specs.Sizes.{NEAR}
-use Rattle.scheme.specs.SchemeList.{Does, expands, deletes, EntryList}
-use Rattle.scheme.specs.SchemeMemory.{doesOf, schemeIn}
-use Rattle.scheme.specs.declared.memory.Entry.{Entry}
+use Rattle.forms.specs.SchemeList.{Does, expands, deletes, EntryList}
+use Rattle.forms.specs.SchemeMemory.{doesOf, schemeIn}
+use Rattle.forms.specs.declared.memory.Entry.{Entry}
 use Rattle.scheme.specs.WellFormed.{schemeTests}
 use Rattle.scheme.specs.Links.{findIn, foundOf, prefixesIn}
 use Rattle.scheme.specs.declared.links.Found.{Found}
 use Rattle.scheme.specs.declared.links.Found.the-variants.{At, Nothing}
-use Rattle.scheme.specs.declared.memory.Scheme.{Scheme}
+use Rattle.forms.specs.declared.memory.Scheme.{Scheme}
 use Rattle.count_plan.specs.Layout.{entryAt, prefixAt, lengthAt, placeAt}
 use Rattle.count_plan.specs.declared.items.Item.{Item}
 

@@ -4,9 +4,9 @@ use scheme::links::Found;
 use scheme::links::child;
 use scheme::links::find;
 use scheme::links::shorter;
-use scheme::memory::Entry;
-use scheme::memory::Rule;
-use scheme::memory::Scheme;
+use forms::memory::Entry;
+use forms::memory::Rule;
+use forms::memory::Scheme;
 use spacing::walk::wide;
 use word::containment::any_in;
 use word::limits::DIGITS;
@@ -26,7 +26,7 @@ ghost use Rattle.cell.specs.Child.{childAt};
 ghost use Rattle.spacing.specs.Sizes.{NEAR};
 ghost use Rattle.spacing.specs.Pascal.{Pascal};
 ghost use Rattle.scheme.specs.Links.{findIn, foundOf, prefixesIn, LinkedEntry};
-ghost use Rattle.scheme.specs.SchemeMemory.{entryIn};
+ghost use Rattle.forms.specs.SchemeMemory.{entryIn};
 ghost use Rattle.count_plan.specs.Plan.{Proper, LeadsTo, NearPlaces, placeFound, ChildLinks, Expands, Deletes, Shorter, EntryItem, ItemFor, Plan};
 
 // What a count has to know of an entry: its length; where in a row its cells begin; the value that it deletes, or 0; what it has at total 0 where it

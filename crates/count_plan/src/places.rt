@@ -1,5 +1,5 @@
 // The places of the entries in a row of the table, and the table that a count needs.
-use scheme::memory::Scheme;
+use forms::memory::Scheme;
 use spacing::binomials::choose;
 use word::limits::ENTRIES;
 ghost use mathlib.Core.Path.{_≡_};

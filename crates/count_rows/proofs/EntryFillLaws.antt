@@ -15,10 +15,10 @@ use Rattle.word.specs.ListLaws.{below-or-not, map-same, row-out}
 use Rattle.cell.specs.BuiltLaws.{getD-map}
 use Rattle.spacing.specs.Sizes.{NEAR, FAR}
 use Rattle.spacing.specs.GapRows.{gapsOf}
-use Rattle.scheme.specs.SchemeMemory.{noGap, padded, gapIn, entryIn}
-use Rattle.scheme.specs.MemoryLaws.{padded-within}
-use Rattle.scheme.specs.declared.memory.Gap.{Gap}
-use Rattle.scheme.specs.declared.memory.Entry.{Entry}
+use Rattle.forms.specs.SchemeMemory.{noGap, padded, gapIn, entryIn}
+use Rattle.forms.specs.MemoryLaws.{padded-within}
+use Rattle.forms.specs.declared.memory.Gap.{Gap}
+use Rattle.forms.specs.declared.memory.Entry.{Entry}
 use Rattle.count_step.specs.Step.{stepOf}
 use Rattle.count_step.specs.Task.{Filled}
 use Rattle.count_rows.specs.Rows.{Components}

@@ -18,9 +18,9 @@ use Rattle.cell.specs.Cell.{total, free}
 use Rattle.cell.specs.BuiltCells.{cell-at-most}
 use Rattle.cell.specs.Child.{childAt, slot, split}
 use Rattle.spacing.specs.TotalLaws.{total-append, row-cut}
-use Rattle.scheme.specs.SchemeList.{EntryList, expands}
-use Rattle.scheme.specs.SchemeMemory.{schemeIn}
-use Rattle.scheme.specs.declared.memory.Scheme.{Scheme}
+use Rattle.forms.specs.SchemeList.{EntryList, expands}
+use Rattle.forms.specs.SchemeMemory.{schemeIn}
+use Rattle.forms.specs.declared.memory.Scheme.{Scheme}
 use Rattle.verdict.specs.Truth.{WellFormed, AllTrue}
 use Rattle.verdict.specs.Value.{ruleValue, entryValue}
 use Rattle.verdict.specs.Size.{size, HIGHEST, VALUES}

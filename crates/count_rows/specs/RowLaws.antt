@@ -21,9 +21,9 @@ use Rattle.cell.specs.ChildLaws.{slot-bounds, split-length, split-total, child-
 use Rattle.cell.specs.MergeLaws.{merged-length, merged-total}
 use Rattle.spacing.specs.Rank.{rankOf}
 use Rattle.spacing.specs.RankLaws.{rank-bound, binomial-mono}
-use Rattle.scheme.specs.SchemeList.{Does, expands, deletes}
+use Rattle.forms.specs.SchemeList.{Does, expands, deletes}
 use Rattle.scheme.specs.WellFormed.{outside}
-use Rattle.scheme.specs.declared.memory.Scheme.{Scheme}
+use Rattle.forms.specs.declared.memory.Scheme.{Scheme}
 use Rattle.scheme.proofs.PrefixLaws.{deleted-size}
 use Rattle.verdict.specs.ProperLaws.{position-inside}
 use Rattle.verdict.specs.Value.{ruleValue, entryValue}

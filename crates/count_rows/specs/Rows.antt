@@ -13,11 +13,11 @@ use Rattle.cell.specs.Cell.{total}
 use Rattle.cell.specs.Child.{childAt, slot, split}
 use Rattle.cell.specs.Binomial.{binomial}
 use Rattle.spacing.specs.Sizes.{NEAR}
-use Rattle.scheme.specs.SchemeList.{EntryList}
-use Rattle.scheme.specs.SchemeMemory.{noGap, entryIn}
-use Rattle.scheme.specs.declared.memory.Gap.{Gap}
-use Rattle.scheme.specs.declared.memory.Entry.{Entry}
-use Rattle.scheme.specs.declared.memory.Scheme.{Scheme}
+use Rattle.forms.specs.SchemeList.{EntryList}
+use Rattle.forms.specs.SchemeMemory.{noGap, entryIn}
+use Rattle.forms.specs.declared.memory.Gap.{Gap}
+use Rattle.forms.specs.declared.memory.Entry.{Entry}
+use Rattle.forms.specs.declared.memory.Scheme.{Scheme}
 use Rattle.verdict.specs.Value.{entryValue}
 use Rattle.count_step.specs.Step.{LARGEST, stepOf}
 use Rattle.count_step.specs.Task.{Filled}

@@ -5,8 +5,8 @@ use mathlib.Core.List.{List, [], _∷_, _++_}
 use lib.ListN.{length, getD, drop, replicate}
 use Rattle.word.specs.Ceilings.{LENGTH, COUNTS}
 use Rattle.spacing.specs.Sizes.{NEAR}
-use Rattle.scheme.specs.SchemeList.{EntryList}
-use Rattle.scheme.specs.declared.memory.Scheme.{Scheme}
+use Rattle.forms.specs.SchemeList.{EntryList}
+use Rattle.forms.specs.declared.memory.Scheme.{Scheme}
 use Rattle.verdict.specs.Value.{countOf}
 use Rattle.count_plan.specs.Layout.{widthOf}
 use Rattle.count_plan.specs.Plan.{Proper, LeadsTo, Plan}

@@ -12,8 +12,8 @@ use Rattle.word.specs.Ceilings.{LENGTH, COUNTS}
 use Rattle.word.specs.ListLaws.{below-or-not}
 use Rattle.cell.specs.Cell.{total}
 use Rattle.spacing.specs.Rank.{rankFrom, rankAfter, rankOf}
-use Rattle.scheme.specs.SchemeMemory.{schemeIn}
-use Rattle.scheme.specs.declared.memory.Scheme.{Scheme}
+use Rattle.forms.specs.SchemeMemory.{schemeIn}
+use Rattle.forms.specs.declared.memory.Scheme.{Scheme}
 use Rattle.verdict.specs.Truth.{WellFormed, AllTrue}
 use Rattle.verdict.specs.Size.{size}
 use Rattle.verdict.specs.ValueLaws.{size-fits, entry-solves, count-size}

@@ -11,8 +11,8 @@ use Rattle.word.specs.ListLaws.{same-or-not}
 use Rattle.cell.specs.Binomial.{binomial}
 use Rattle.spacing.specs.Rank.{rankOf}
 use Rattle.spacing.specs.RankLaws.{rank-bound, binomial-mono}
-use Rattle.scheme.specs.SchemeMemory.{noEntry}
-use Rattle.scheme.specs.declared.memory.Scheme.{Scheme}
+use Rattle.forms.specs.SchemeMemory.{noEntry}
+use Rattle.forms.specs.declared.memory.Scheme.{Scheme}
 use Rattle.count_step.specs.Task.{Outside, Steady}
 use Rattle.count_plan.specs.Layout.{entryAt, prefixAt, lengthAt, placeAt, widthOf, blockOf, cellAt}
 use Rattle.count_plan.specs.LayoutLaws.{count-few, entry-short, gaps-few, gap-width, place-small}

@@ -2,8 +2,8 @@
 use count_plan::items::Item;
 use count_step::cells::Task;
 use count_step::filling::fill_cells;
-use scheme::memory::Entry;
-use scheme::memory::Gap;
+use forms::memory::Entry;
+use forms::memory::Gap;
 use spacing::binomials::choose;
 use word::limits::COMPONENTS;
 use word::limits::GAPS;

@@ -3,7 +3,7 @@
 // Longer entries come first, so that children are there before their parents; targets stand in the row before.
 use crate::entry::fill_entry;
 use count_plan::items::Item;
-use scheme::memory::Scheme;
+use forms::memory::Scheme;
 use word::limits::ENTRIES;
 use word::limits::PREFIX;
 ghost use Prim.Native.Nat.{_≤_};

@@ -13,11 +13,11 @@ use Rattle.word.specs.ListLaws.{true-not-false}
 use Rattle.word.specs.Finding.{Finding, clean, fault, test, firstFault}
 use Rattle.word.specs.Told.{toldBy}
 use Rattle.word.specs.declared.refusal.Refusal.the-variants.{Oversize, ShortTable}
-use Rattle.scheme.specs.SchemeList.{EntryList}
-use Rattle.scheme.specs.SchemeMemory.{faultOf, orElse, faulty, toldOr}
-use Rattle.scheme.specs.ToldLaws.{told-found}
-use Rattle.scheme.specs.declared.memory.Fault.{Fault}
-use Rattle.scheme.specs.declared.memory.Fault.the-variants.{Clean, At}
+use Rattle.forms.specs.SchemeList.{EntryList}
+use Rattle.forms.specs.SchemeMemory.{faultOf, orElse, faulty, toldOr}
+use Rattle.forms.specs.ToldLaws.{told-found}
+use Rattle.forms.specs.declared.memory.Fault.{Fault}
+use Rattle.forms.specs.declared.memory.Fault.the-variants.{Clean, At}
 use Rattle.wellformed.proofs.OrderLaws.{or-else-fault, or-else-clean, not-faulty, faults-append}
 use Rattle.verdict.specs.Verdict.{comparedCells, judgeTests, answered, verdictOf, accepted}
 use Rattle.verdict.specs.Truth.{WellFormed, AllTrue}

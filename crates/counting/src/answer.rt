@@ -1,5 +1,5 @@
 // The answer of counting: the count, or a refusal with its index.
-use scheme::memory::Fault;
+use forms::memory::Fault;
 use verdict::answer::Verdict;
 use word::refusal::Refusal;
 ghost use mathlib.Core.Path.{_≡_};

@@ -7,11 +7,11 @@ use mathlib.Core.Path.{_≡_, refl, sym, ap, _∙_}
 use mathlib.Core.Bool.{Bool}
 use mathlib.Core.List.{List, [], _∷_, map}
 use Rattle.cell.specs.Cell.{total}
-use Rattle.scheme.specs.SchemeList.{EntryList}
-use Rattle.scheme.specs.SchemeMemory.{schemeIn}
+use Rattle.forms.specs.SchemeList.{EntryList}
+use Rattle.forms.specs.SchemeMemory.{schemeIn}
 use Rattle.scheme.specs.TestLaws.{from, from-start, from-cons, from-end}
-use Rattle.scheme.specs.declared.memory.Scheme.{Scheme}
-use Rattle.scheme.specs.SchemeMemory.{entryAt}
+use Rattle.forms.specs.declared.memory.Scheme.{Scheme}
+use Rattle.forms.specs.SchemeMemory.{entryAt}
 use Rattle.verdict.specs.Verdict.{liveGap, differs, comparedWith, comparedCells}
 
 -- the tests 10 and 11 of one entry

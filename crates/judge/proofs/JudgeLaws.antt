@@ -14,13 +14,13 @@ use Rattle.cell.specs.Cell.{mOf}
 use Rattle.cell.specs.Basis.{basis}
 use Rattle.cell.specs.BasisLaws.{basis-in}
 use Rattle.candidate.specs.BasisSet.{IsBasis}
-use Rattle.scheme.specs.SchemeList.{EntryList}
+use Rattle.forms.specs.SchemeList.{EntryList}
 use Rattle.scheme.specs.WellFormed.{firstAt, patternTests, schemeTests}
-use Rattle.scheme.specs.SchemeMemory.{patternsIn, schemeIn, faultOf, orElse, faulty}
-use Rattle.scheme.specs.declared.memory.Patterns.{Patterns}
-use Rattle.scheme.specs.declared.memory.Scheme.{Scheme}
-use Rattle.scheme.specs.declared.memory.Fault.{Fault}
-use Rattle.scheme.specs.declared.memory.Fault.the-variants.{Clean, At}
+use Rattle.forms.specs.SchemeMemory.{patternsIn, schemeIn, faultOf, orElse, faulty}
+use Rattle.forms.specs.declared.memory.Patterns.{Patterns}
+use Rattle.forms.specs.declared.memory.Scheme.{Scheme}
+use Rattle.forms.specs.declared.memory.Fault.{Fault}
+use Rattle.forms.specs.declared.memory.Fault.the-variants.{Clean, At}
 use Rattle.scheme.specs.TestLaws.{clean-of}
 use Rattle.wellformed.proofs.OrderLaws.{or-else-fault, or-else-clean, not-faulty, two-faults}
 use Rattle.verdict.specs.Verdict.{claimTests, comparedCells, answered, verdictOf}

@@ -6,7 +6,7 @@ use mathlib.Core.List.{List, [], _∷_}
 use mathlib.Core.Logic.{_↔_}
 use Rattle.word.specs.Finding.{firstFault}
 use Rattle.word.specs.Told.{toldBy}
-use Rattle.scheme.specs.SchemeList.{EntryList}
+use Rattle.forms.specs.SchemeList.{EntryList}
 use Rattle.verdict.specs.Verdict.{comparedCells, judgeTests, verdictOf, toldVerdict, accepted}
 use Rattle.verdict.specs.Truth.{WellFormed, AllTrue}
 use Rattle.verdict.specs.declared.answer.Verdict.{Verdict}

@@ -16,13 +16,13 @@ use Rattle.word.specs.Containment.{patternsOf}
 use Rattle.cell.specs.Cell.{cell}
 use Rattle.cell.specs.Basis.{basis}
 use Rattle.cell.specs.BasisLaws.{basis-in, basis-cell, basis-deletion}
-use Rattle.scheme.specs.SchemeList.{Does, expands, deletes, EntryList}
+use Rattle.forms.specs.SchemeList.{Does, expands, deletes, EntryList}
 use Rattle.scheme.specs.WellFormed.{firstAt, outside, patternTests, schemeTests}
-use Rattle.scheme.specs.SchemeMemory.{noEntry, entryIn, schemeIn, faultOf, orElse, faulty, toldOr}
-use Rattle.scheme.specs.ToldLaws.{told-found}
-use Rattle.scheme.specs.declared.memory.Scheme.{Scheme}
-use Rattle.scheme.specs.declared.memory.Fault.{Fault}
-use Rattle.scheme.specs.declared.memory.Fault.the-variants.{Clean, At}
+use Rattle.forms.specs.SchemeMemory.{noEntry, entryIn, schemeIn, faultOf, orElse, faulty, toldOr}
+use Rattle.forms.specs.ToldLaws.{told-found}
+use Rattle.forms.specs.declared.memory.Scheme.{Scheme}
+use Rattle.forms.specs.declared.memory.Fault.{Fault}
+use Rattle.forms.specs.declared.memory.Fault.the-variants.{Clean, At}
 use Rattle.wellformed.proofs.OrderLaws.{faults-append}
 use Rattle.verdict.specs.Verdict.{isEmpty, liveGap, differs, claimTests, comparedCells, judgeTests, answered, verdictOf, toldVerdict, accepted}
 use Rattle.verdict.specs.Truth.{WellFormed, RuleClaim, AllTrue}

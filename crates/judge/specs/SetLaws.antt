@@ -13,11 +13,11 @@ use Rattle.word.specs.Finding.{clean, firstFault}
 use Rattle.word.specs.Containment.{patternsOf}
 use Rattle.candidate.specs.Ready.{patternAt}
 use Rattle.scheme.specs.WellFormed.{patternTests, schemeTests}
-use Rattle.scheme.specs.SchemeMemory.{padded, noPattern, noEntry, patternIn, patternsIn, entryIn, schemeIn}
-use Rattle.scheme.specs.MemoryLaws.{padded-within, length-padded}
+use Rattle.forms.specs.SchemeMemory.{padded, noPattern, noEntry, patternIn, patternsIn, entryIn, schemeIn}
+use Rattle.forms.specs.MemoryLaws.{padded-within, length-padded}
 use Rattle.scheme.specs.TestLaws.{length-items}
-use Rattle.scheme.specs.declared.memory.Patterns.{Patterns}
-use Rattle.scheme.specs.declared.memory.Scheme.{Scheme}
+use Rattle.forms.specs.declared.memory.Patterns.{Patterns}
+use Rattle.forms.specs.declared.memory.Scheme.{Scheme}
 use Rattle.verdict.specs.Proper.{ProperPattern}
 use Rattle.verdict.specs.ProperLaws.{few-patterns, proper-pattern, few-entries, proper-entry}
 use Rattle.claims.specs.EntryMemory.{ProperSet}

@@ -5,9 +5,9 @@ use mathlib.Core.List.{List, []}
 use lib.ListN.{length, getD}
 use Rattle.word.specs.Ceilings.{DIGITS, PATTERNS, ENTRIES}
 use Rattle.cell.specs.Cell.{mOf}
-use Rattle.scheme.specs.SchemeMemory.{noPattern, noEntry, entryIn, schemeIn}
-use Rattle.scheme.specs.declared.memory.Pattern.{Pattern}
-use Rattle.scheme.specs.declared.memory.Scheme.{Scheme}
+use Rattle.forms.specs.SchemeMemory.{noPattern, noEntry, entryIn, schemeIn}
+use Rattle.forms.specs.declared.memory.Pattern.{Pattern}
+use Rattle.forms.specs.declared.memory.Scheme.{Scheme}
 use Rattle.verdict.specs.Verdict.{comparedCells}
 use Rattle.verdict.specs.Proper.{ProperEntry}
 

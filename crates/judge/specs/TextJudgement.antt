@@ -7,9 +7,9 @@ use mathlib.Core.Logic.{_↔_}
 use lib.ListN.{length}
 use Rattle.word.specs.Ceilings.{PATTERN_TEXT, SCHEME_TEXT}
 use Rattle.word.specs.Finding.{firstFault}
-use Rattle.scheme.specs.SchemeList.{EntryList}
-use Rattle.scheme.specs.SchemeMemory.{patternsIn, schemeIn, faultOf, orElse, toldOr}
-use Rattle.scheme.specs.declared.memory.Fault.{Fault}
+use Rattle.forms.specs.SchemeList.{EntryList}
+use Rattle.forms.specs.SchemeMemory.{patternsIn, schemeIn, faultOf, orElse, toldOr}
+use Rattle.forms.specs.declared.memory.Fault.{Fault}
 use Rattle.text_grammar.specs.Spelling.{SpellsPatterns, SpellsScheme}
 use Rattle.notation.specs.PatternAnswers.{patternsAnswer}
 use Rattle.notation.specs.SchemeAnswers.{schemeAnswer}

@@ -13,13 +13,13 @@ use Rattle.word.specs.Ceilings.{PATTERN_TEXT, SCHEME_TEXT}
 use Rattle.word.specs.ListLaws.{true-not-false}
 use Rattle.word.specs.Finding.{clean, firstFault}
 use Rattle.word.specs.declared.refusal.Refusal.the-variants.{Oversize}
-use Rattle.scheme.specs.SchemeList.{EntryList}
+use Rattle.forms.specs.SchemeList.{EntryList}
 use Rattle.scheme.specs.WellFormed.{patternTests, schemeTests}
-use Rattle.scheme.specs.SchemeMemory.{patternsIn, schemeIn, faultOf, orElse, faulty, toldOr}
-use Rattle.scheme.specs.declared.memory.Patterns.{Patterns}
-use Rattle.scheme.specs.declared.memory.Scheme.{Scheme}
-use Rattle.scheme.specs.declared.memory.Fault.{Fault}
-use Rattle.scheme.specs.declared.memory.Fault.the-variants.{Clean, At}
+use Rattle.forms.specs.SchemeMemory.{patternsIn, schemeIn, faultOf, orElse, faulty, toldOr}
+use Rattle.forms.specs.declared.memory.Patterns.{Patterns}
+use Rattle.forms.specs.declared.memory.Scheme.{Scheme}
+use Rattle.forms.specs.declared.memory.Fault.{Fault}
+use Rattle.forms.specs.declared.memory.Fault.the-variants.{Clean, At}
 use Rattle.wellformed.proofs.OrderLaws.{or-else-fault}
 use Rattle.text_grammar.specs.Spelling.{SpellsPatterns, SpellsScheme}
 use Rattle.text_grammar.specs.Tokens.{tokens}

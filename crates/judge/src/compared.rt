@@ -1,6 +1,6 @@
 // The number of compared cells of all entries.
 use claims::entries::compared_with;
-use scheme::memory::Scheme;
+use forms::memory::Scheme;
 ghost use Prim.Native.Nat.{_≤_};
 ghost use Rattle.word.specs.Ceilings.{DIGITS};
 ghost use Rattle.judge.specs.SetMemory.{ProperScheme, ComparesCells};

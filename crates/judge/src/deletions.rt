@@ -1,8 +1,8 @@
 // Test 11 over all entries, one entry at a time.
 use candidate::basis::longest_length;
 use claims::entries::is_irreversible;
-use scheme::memory::Fault;
-use scheme::memory::Scheme;
+use forms::memory::Fault;
+use forms::memory::Scheme;
 use word::limits::DIGITS;
 use word::limits::PATTERNS;
 use word::refusal::Refusal;
@@ -10,7 +10,7 @@ ghost use mathlib.Core.Path.{_≡_};
 ghost use Rattle.word.specs.Containment.{patternsOf};
 ghost use Rattle.word.specs.declared.refusal.Refusal.the-variants.{Irreversible};
 ghost use Rattle.scheme.specs.WellFormed.{firstAt};
-ghost use Rattle.scheme.specs.SchemeMemory.{schemeIn, faultOf};
+ghost use Rattle.forms.specs.SchemeMemory.{schemeIn, faultOf};
 ghost use Rattle.verdict.specs.Verdict.{differs};
 ghost use Rattle.claims.specs.EntryMemory.{ProperSet};
 ghost use Rattle.judge.specs.SetMemory.{ProperScheme};

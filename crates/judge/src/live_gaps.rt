@@ -1,7 +1,7 @@
 // Test 10 over all entries, one entry at a time.
 use claims::entries::has_live_gap;
-use scheme::memory::Fault;
-use scheme::memory::Scheme;
+use forms::memory::Fault;
+use forms::memory::Scheme;
 use word::limits::DIGITS;
 use word::limits::PATTERNS;
 use word::refusal::Refusal;
@@ -9,7 +9,7 @@ ghost use mathlib.Core.Path.{_≡_};
 ghost use Rattle.word.specs.Containment.{patternsOf};
 ghost use Rattle.word.specs.declared.refusal.Refusal.the-variants.{LiveGap};
 ghost use Rattle.scheme.specs.WellFormed.{firstAt};
-ghost use Rattle.scheme.specs.SchemeMemory.{schemeIn, faultOf};
+ghost use Rattle.forms.specs.SchemeMemory.{schemeIn, faultOf};
 ghost use Rattle.verdict.specs.Verdict.{liveGap};
 ghost use Rattle.judge.specs.SetMemory.{ProperScheme};
 

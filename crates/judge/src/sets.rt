@@ -1,6 +1,6 @@
 // A set of patterns as containment takes it: an array of arrays of digits, with lengths beside it.
-use scheme::memory::Pattern;
-use scheme::memory::Patterns;
+use forms::memory::Pattern;
+use forms::memory::Patterns;
 use word::limits::DIGITS;
 use word::limits::PATTERNS;
 ghost use mathlib.Core.Path.{_≡_};

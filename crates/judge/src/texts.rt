@@ -2,10 +2,10 @@
 use crate::judging::judge_claims;
 use notation::patterns::read_patterns;
 use notation::schemes::read_scheme;
-use scheme::memory::Patterns;
-use scheme::memory::Scheme;
-use scheme::order::earlier;
-use scheme::order::is_fault;
+use forms::memory::Patterns;
+use forms::memory::Scheme;
+use forms::order::earlier;
+use forms::order::is_fault;
 use verdict::answer::Verdict;
 use verdict::answer::answer;
 ghost use Rattle.judge.specs.TextJudgement.{JudgesTexts, JudgesAndReads};

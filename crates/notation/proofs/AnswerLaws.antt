@@ -16,10 +16,10 @@ use Rattle.word.specs.Finding.{Finding, clean, fault, firstFault}
 use Rattle.word.specs.Told.{toldBy}
 use Rattle.word.specs.declared.refusal.Refusal.{Refusal}
 use Rattle.word.specs.declared.refusal.Refusal.the-variants.{Misspelt, Oversize, ShortPage}
-use Rattle.scheme.specs.SchemeMemory.{faultOf, faulty, toldOr}
-use Rattle.scheme.specs.ToldLaws.{told-found}
-use Rattle.scheme.specs.declared.memory.Fault.{Fault}
-use Rattle.scheme.specs.declared.memory.Fault.the-variants.{Clean, At}
+use Rattle.forms.specs.SchemeMemory.{faultOf, faulty, toldOr}
+use Rattle.forms.specs.ToldLaws.{told-found}
+use Rattle.forms.specs.declared.memory.Fault.{Fault}
+use Rattle.forms.specs.declared.memory.Fault.the-variants.{Clean, At}
 use Rattle.text_grammar.specs.Spelling.{Token, spaceless}
 use Rattle.text_grammar.specs.Tokens.{tokens}
 use Rattle.text_page.specs.Page.{overlay, Writes}

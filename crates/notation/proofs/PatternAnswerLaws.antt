@@ -12,10 +12,10 @@ use Rattle.word.specs.Finding.{Finding, clean, fault, firstFault}
 use Rattle.word.specs.declared.refusal.Refusal.{Refusal}
 use Rattle.word.specs.declared.refusal.Refusal.the-variants.{Misspelt, Oversize, NoPermutation}
 use Rattle.scheme.specs.WellFormed.{listed, patternTests}
-use Rattle.scheme.specs.SchemeMemory.{patternsIn, faultOf, faulty}
-use Rattle.scheme.specs.declared.memory.Patterns.{Patterns}
-use Rattle.scheme.specs.declared.memory.Fault.{Fault}
-use Rattle.scheme.specs.declared.memory.Fault.the-variants.{Clean, At}
+use Rattle.forms.specs.SchemeMemory.{patternsIn, faultOf, faulty}
+use Rattle.forms.specs.declared.memory.Patterns.{Patterns}
+use Rattle.forms.specs.declared.memory.Fault.{Fault}
+use Rattle.forms.specs.declared.memory.Fault.the-variants.{Clean, At}
 use Rattle.word.specs.Containment.{isPattern}
 use Rattle.text_grammar.specs.Tokens.{tokens}
 use Rattle.text_grammar.specs.Spelling.{SpellsPatterns, writtenPatterns}

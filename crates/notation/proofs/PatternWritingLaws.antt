@@ -9,9 +9,9 @@ use Rattle.word.specs.Ceilings.{PATTERN_TEXT}
 use Rattle.word.specs.Finding.{clean, firstFault}
 use Rattle.word.specs.declared.refusal.Refusal.the-variants.{ShortPage}
 use Rattle.scheme.specs.WellFormed.{patternTests}
-use Rattle.scheme.specs.SchemeMemory.{patternsIn, faultOf, faulty}
-use Rattle.scheme.specs.declared.memory.Fault.{Fault}
-use Rattle.scheme.specs.declared.memory.Fault.the-variants.{Clean}
+use Rattle.forms.specs.SchemeMemory.{patternsIn, faultOf, faulty}
+use Rattle.forms.specs.declared.memory.Fault.{Fault}
+use Rattle.forms.specs.declared.memory.Fault.the-variants.{Clean}
 use Rattle.text_grammar.specs.Spelling.{SpellsPatterns, writtenPatterns}
 use Rattle.text_grammar.specs.SpellingLaws.{patterns-written-spells, patterns-read-written}
 use Rattle.text_patterns.specs.PatternMemory.{loadedPatterns}

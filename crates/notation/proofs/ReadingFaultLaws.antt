@@ -13,9 +13,9 @@ use Rattle.word.specs.Finding.{Finding, clean, fault, test, firstFault}
 use Rattle.word.specs.declared.refusal.Refusal.{Refusal}
 use Rattle.word.specs.declared.refusal.Refusal.the-variants.{Misspelt}
 use Rattle.scheme.specs.WellFormed.{firstAt, firstTwin}
-use Rattle.scheme.specs.SchemeMemory.{faultOf}
-use Rattle.scheme.specs.declared.memory.Fault.{Fault}
-use Rattle.scheme.specs.declared.memory.Fault.the-variants.{Clean, At}
+use Rattle.forms.specs.SchemeMemory.{faultOf}
+use Rattle.forms.specs.declared.memory.Fault.{Fault}
+use Rattle.forms.specs.declared.memory.Fault.the-variants.{Clean, At}
 
 -- the number of a refusal, 0 where there is none
 abbrev pub numberIn : Fault → ℕ

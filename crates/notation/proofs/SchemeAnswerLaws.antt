@@ -12,11 +12,11 @@ use Rattle.word.specs.Finding.{Finding, clean, fault, firstFault}
 use Rattle.word.specs.declared.refusal.Refusal.{Refusal}
 use Rattle.word.specs.declared.refusal.Refusal.the-variants.{Misspelt, Oversize, NoPermutation, Rootless, Width, NoPosition, Childless, NoTarget}
 use Rattle.scheme.specs.WellFormed.{listed, largeEntry, twinEntry, wrongWidth, outside, lacksChild, lacksTarget, schemeTests}
-use Rattle.scheme.specs.SchemeList.{EntryList}
-use Rattle.scheme.specs.SchemeMemory.{schemeIn, faultOf, faulty}
-use Rattle.scheme.specs.declared.memory.Scheme.{Scheme}
-use Rattle.scheme.specs.declared.memory.Fault.{Fault}
-use Rattle.scheme.specs.declared.memory.Fault.the-variants.{Clean, At}
+use Rattle.forms.specs.SchemeList.{EntryList}
+use Rattle.forms.specs.SchemeMemory.{schemeIn, faultOf, faulty}
+use Rattle.forms.specs.declared.memory.Scheme.{Scheme}
+use Rattle.forms.specs.declared.memory.Fault.{Fault}
+use Rattle.forms.specs.declared.memory.Fault.the-variants.{Clean, At}
 use Rattle.word.specs.Word.{isPerm}
 use Rattle.text_grammar.specs.Tokens.{tokens}
 use Rattle.text_grammar.specs.Spelling.{SpellsScheme, writtenScheme}

@@ -9,10 +9,10 @@ use Rattle.word.specs.Ceilings.{SCHEME_TEXT}
 use Rattle.word.specs.Finding.{clean, firstFault}
 use Rattle.word.specs.declared.refusal.Refusal.the-variants.{ShortPage}
 use Rattle.scheme.specs.WellFormed.{schemeTests}
-use Rattle.scheme.specs.SchemeList.{EntryList}
-use Rattle.scheme.specs.SchemeMemory.{schemeIn, faultOf, faulty}
-use Rattle.scheme.specs.declared.memory.Fault.{Fault}
-use Rattle.scheme.specs.declared.memory.Fault.the-variants.{Clean}
+use Rattle.forms.specs.SchemeList.{EntryList}
+use Rattle.forms.specs.SchemeMemory.{schemeIn, faultOf, faulty}
+use Rattle.forms.specs.declared.memory.Fault.{Fault}
+use Rattle.forms.specs.declared.memory.Fault.the-variants.{Clean}
 use Rattle.text_grammar.specs.Spelling.{SpellsScheme, writtenScheme}
 use Rattle.text_grammar.specs.SpellingLaws.{scheme-written-spells, scheme-read-written}
 use Rattle.text_schemes.specs.SchemeLoaded.{loadedScheme}

@@ -14,9 +14,9 @@ use Rattle.word.specs.Finding.{Finding, clean, fault, test, firstFault}
 use Rattle.word.specs.Told.{toldBy}
 use Rattle.word.specs.declared.refusal.Refusal.{Refusal}
 use Rattle.word.specs.declared.refusal.Refusal.the-variants.{ShortPage}
-use Rattle.scheme.specs.SchemeMemory.{faultOf, faulty}
-use Rattle.scheme.specs.declared.memory.Fault.{Fault}
-use Rattle.scheme.specs.declared.memory.Fault.the-variants.{Clean, At}
+use Rattle.forms.specs.SchemeMemory.{faultOf, faulty}
+use Rattle.forms.specs.declared.memory.Fault.{Fault}
+use Rattle.forms.specs.declared.memory.Fault.the-variants.{Clean, At}
 use Rattle.text_page.specs.Page.{overlay}
 use Rattle.text_page.specs.PageLaws.{overlay-whole}
 use Rattle.notation.specs.Written.{writtenOr, toldWritten, writing, Writing}

@@ -5,10 +5,10 @@ use Rattle.word.specs.Ceilings.{PATTERN_TEXT}
 use Rattle.word.specs.Finding.{firstFault}
 use Rattle.word.specs.declared.refusal.Refusal.{Refusal}
 use Rattle.scheme.specs.WellFormed.{patternTests}
-use Rattle.scheme.specs.SchemeMemory.{patternsIn, faultOf}
-use Rattle.scheme.specs.declared.memory.Patterns.{Patterns}
-use Rattle.scheme.specs.declared.memory.Fault.{Fault}
-use Rattle.scheme.specs.declared.memory.Fault.the-variants.{Clean, At}
+use Rattle.forms.specs.SchemeMemory.{patternsIn, faultOf}
+use Rattle.forms.specs.declared.memory.Patterns.{Patterns}
+use Rattle.forms.specs.declared.memory.Fault.{Fault}
+use Rattle.forms.specs.declared.memory.Fault.the-variants.{Clean, At}
 use Rattle.text_grammar.specs.Spelling.{SpellsPatterns, writtenPatterns}
 use Rattle.text_grammar.specs.Grammar.{readPatterns}
 use Rattle.text_patterns.specs.PatternMemory.{loadedPatterns}

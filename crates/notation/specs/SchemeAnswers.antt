@@ -5,11 +5,11 @@ use Rattle.word.specs.Ceilings.{SCHEME_TEXT}
 use Rattle.word.specs.Finding.{firstFault}
 use Rattle.word.specs.declared.refusal.Refusal.{Refusal}
 use Rattle.scheme.specs.WellFormed.{schemeTests}
-use Rattle.scheme.specs.SchemeList.{EntryList}
-use Rattle.scheme.specs.SchemeMemory.{schemeIn, faultOf}
-use Rattle.scheme.specs.declared.memory.Scheme.{Scheme}
-use Rattle.scheme.specs.declared.memory.Fault.{Fault}
-use Rattle.scheme.specs.declared.memory.Fault.the-variants.{Clean, At}
+use Rattle.forms.specs.SchemeList.{EntryList}
+use Rattle.forms.specs.SchemeMemory.{schemeIn, faultOf}
+use Rattle.forms.specs.declared.memory.Scheme.{Scheme}
+use Rattle.forms.specs.declared.memory.Fault.{Fault}
+use Rattle.forms.specs.declared.memory.Fault.the-variants.{Clean, At}
 use Rattle.text_grammar.specs.Spelling.{SpellsScheme, writtenScheme}
 use Rattle.text_grammar.specs.Grammar.{readEntries}
 use Rattle.text_schemes.specs.SchemeLoaded.{loadedScheme}

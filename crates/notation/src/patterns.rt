@@ -1,9 +1,9 @@
 // Reading and writing a set of patterns.
 use crate::written::Written;
 use crate::written::written_or;
-use scheme::memory::Fault;
-use scheme::memory::Patterns;
-use scheme::order::is_fault;
+use forms::memory::Fault;
+use forms::memory::Patterns;
+use forms::order::is_fault;
 use text_patterns::pattern_reader::load_patterns;
 use text_patterns::pattern_reader::no_patterns;
 use text_writer::writing::put_patterns;
@@ -11,7 +11,7 @@ use wellformed::pattern_tests::patterns_fault;
 use word::limits::PATTERN_TEXT;
 use word::refusal::Refusal;
 ghost use mathlib.Core.Path.{_≡_};
-ghost use Rattle.scheme.specs.SchemeMemory.{patternsIn};
+ghost use Rattle.forms.specs.SchemeMemory.{patternsIn};
 ghost use Rattle.notation.specs.PatternAnswers.{nonePatterns, patternsAnswer, ReadsPatterns, WritesPatterns};
 
 // What reading a set of patterns answers: the set where there is no fault, or a refusal with its index beside a set of none.

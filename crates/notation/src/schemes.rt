@@ -1,9 +1,9 @@
 // Reading and writing a scheme.
 use crate::written::Written;
 use crate::written::written_or;
-use scheme::memory::Fault;
-use scheme::memory::Scheme;
-use scheme::order::is_fault;
+use forms::memory::Fault;
+use forms::memory::Scheme;
+use forms::order::is_fault;
 use text_schemes::scheme_reader::load_scheme;
 use text_schemes::scheme_reader::no_entries;
 use text_writer::writing::put_scheme;
@@ -11,7 +11,7 @@ use wellformed::scheme_tests::scheme_fault;
 use word::limits::SCHEME_TEXT;
 use word::refusal::Refusal;
 ghost use mathlib.Core.Path.{_≡_};
-ghost use Rattle.scheme.specs.SchemeMemory.{schemeIn};
+ghost use Rattle.forms.specs.SchemeMemory.{schemeIn};
 ghost use Rattle.notation.specs.SchemeAnswers.{noScheme, schemeAnswer, ReadsScheme, WritesScheme};
 
 // What reading a scheme answers: the scheme where there is no fault, or a refusal with its index beside a scheme of no entries.

@@ -1,5 +1,5 @@
 // What writing answers: the number of bytes, or a refusal with its index.
-use scheme::memory::Fault;
+use forms::memory::Fault;
 use word::refusal::Refusal;
 ghost use mathlib.Core.Path.{_≡_};
 ghost use Rattle.notation.specs.Written.{writtenOr};

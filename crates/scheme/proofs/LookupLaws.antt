@@ -22,17 +22,17 @@ use Rattle.cell.specs.Cell.{same, deleted, children}
 use Rattle.cell.specs.BuiltCells.{same-out}
 use Rattle.cell.specs.Child.{childAt}
 use Rattle.cell.specs.ChildLaws.{child-length, children-all}
-use Rattle.scheme.specs.SchemeList.{EntryList}
-use Rattle.scheme.specs.SchemeMemory.{padded, noEntry, entryIn, doesOf, schemeIn}
+use Rattle.forms.specs.SchemeList.{EntryList}
+use Rattle.forms.specs.SchemeMemory.{padded, noEntry, entryIn, doesOf, schemeIn}
 use Rattle.scheme.specs.WellFormed.{firstAt, listed, largeEntry, outside, lacksChild, lacksTarget}
 use Rattle.scheme.specs.Links.{findFrom, findIn, foundOf, present, prefixesIn, Linked}
-use Rattle.scheme.specs.declared.memory.Rule.{Rule}
-use Rattle.scheme.specs.declared.memory.Rule.the-variants.{Expand, Delete}
-use Rattle.scheme.specs.declared.memory.Scheme.{Scheme}
+use Rattle.forms.specs.declared.memory.Rule.{Rule}
+use Rattle.forms.specs.declared.memory.Rule.the-variants.{Expand, Delete}
+use Rattle.forms.specs.declared.memory.Scheme.{Scheme}
 use Rattle.scheme.specs.declared.links.Found.{Found}
 use Rattle.scheme.specs.declared.links.Found.the-variants.{At, Nothing}
 use Rattle.scheme.specs.TestLaws.{row-next, row-end, first-clean, anyFrom, or-left}
-use Rattle.scheme.specs.MemoryLaws.{padded-within, length-padded}
+use Rattle.forms.specs.MemoryLaws.{padded-within, length-padded}
 use Rattle.scheme.proofs.PrefixLaws.{any-child}
 
 -- Looking up

@@ -23,9 +23,9 @@ use Rattle.cell.specs.Child.{childAt}
 use Rattle.cell.specs.ChildLaws.{children-all, children-are}
 use Rattle.cell.specs.WithoutLaws.{withoutFrom, without-from}
 use Rattle.cell.specs.MergeLaws.{kept-bounds}
-use Rattle.scheme.specs.SchemeMemory.{padded}
+use Rattle.forms.specs.SchemeMemory.{padded}
 use Rattle.scheme.specs.TestLaws.{any-members}
-use Rattle.scheme.specs.MemoryLaws.{padded-within, length-padded}
+use Rattle.forms.specs.MemoryLaws.{padded-within, length-padded}
 
 -- the digits of a permutation in an array
 pub digit-bounds : (l : List ℕ) (k i : ℕ) → isPerm (take k l) ≡ true → k ≤ length l → i < k → (1 ≤ getD l i 0) × (getD l i 0 ≤ k)

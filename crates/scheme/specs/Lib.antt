@@ -1,10 +1,6 @@
 -- The definitions of the crate scheme, and laws of the tests that crates above cite.
-pub mod SchemeList
 pub mod WellFormed
-pub mod SchemeMemory
 pub mod TestOrder
 pub mod Sized
 pub mod Links
 pub mod TestLaws
-pub mod MemoryLaws
-pub mod ToldLaws

@@ -8,10 +8,10 @@ use lib.ListN.{getD}
 use Rattle.word.specs.Ceilings.{ENTRIES, PREFIX}
 use Rattle.word.specs.Word.{isPerm}
 use Rattle.cell.specs.Cell.{same}
-use Rattle.scheme.specs.SchemeMemory.{padded, noEntry, doesOf, schemeIn}
+use Rattle.forms.specs.SchemeMemory.{padded, noEntry, doesOf, schemeIn}
 use Rattle.scheme.specs.WellFormed.{outside}
-use Rattle.scheme.specs.declared.memory.Entry.{Entry}
-use Rattle.scheme.specs.declared.memory.Scheme.{Scheme}
+use Rattle.forms.specs.declared.memory.Entry.{Entry}
+use Rattle.forms.specs.declared.memory.Scheme.{Scheme}
 use Rattle.scheme.specs.declared.links.Found.{Found}
 use Rattle.scheme.specs.declared.links.Found.the-variants.{At, Nothing}
 

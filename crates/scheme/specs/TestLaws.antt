@@ -15,9 +15,9 @@ use Rattle.word.specs.Finding.{Finding, clean, fault, firstFault}
 use Rattle.word.specs.declared.refusal.Refusal.{Refusal}
 use Rattle.word.specs.declared.refusal.Refusal.the-variants.{Repeated}
 use Rattle.scheme.specs.WellFormed.{firstAt, firstTwin, listed, repeats}
-use Rattle.scheme.specs.SchemeMemory.{faultOf, orElse}
+use Rattle.forms.specs.SchemeMemory.{faultOf, orElse}
 use Rattle.scheme.specs.TestOrder.{seen}
-use Rattle.scheme.specs.declared.memory.Fault.the-variants.{Clean}
+use Rattle.forms.specs.declared.memory.Fault.the-variants.{Clean}
 
 -- the items g i to g (n - 1)
 unfoldable pub from : {A : Type 0} → (ℕ → A) → ℕ → ℕ → List A

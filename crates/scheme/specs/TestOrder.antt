@@ -8,10 +8,10 @@ use Rattle.word.specs.Ceilings.{ENTRIES}
 use Rattle.word.specs.Word.{isPerm}
 use Rattle.word.specs.Finding.{Finding, test}
 use Rattle.word.specs.declared.refusal.Refusal.the-variants.{Oversize, NoPermutation, Rootless, Width, NoPosition, Childless, NoTarget}
-use Rattle.scheme.specs.SchemeList.{EntryList}
+use Rattle.forms.specs.SchemeList.{EntryList}
 use Rattle.scheme.specs.WellFormed.{firstAt, firstTwin, listed, largeEntry, twinEntry, wrongWidth, outside, lacksChild, lacksTarget}
-use Rattle.scheme.specs.SchemeMemory.{patternIn, noPattern}
-use Rattle.scheme.specs.declared.memory.Patterns.{Patterns}
+use Rattle.forms.specs.SchemeMemory.{patternIn, noPattern}
+use Rattle.forms.specs.declared.memory.Patterns.{Patterns}
 
 -- the pattern at a place
 abbrev pub placeIn : Patterns → ℕ → List ℕ

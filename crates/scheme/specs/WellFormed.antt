@@ -12,7 +12,7 @@ use Rattle.word.specs.Finding.{Finding, clean, fault, test}
 use Rattle.word.specs.declared.refusal.Refusal.{Refusal}
 use Rattle.word.specs.declared.refusal.Refusal.the-variants.{Oversize, NoPermutation, Repeated, Rootless, Width, NoPosition, Childless, NoTarget}
 use Rattle.cell.specs.Cell.{same, total, deleted, children}
-use Rattle.scheme.specs.SchemeList.{Does, expands, deletes, EntryList}
+use Rattle.forms.specs.SchemeList.{Does, expands, deletes, EntryList}
 
 -- the first item at fault refuses, with its index counted from i
 abbrev pub firstAt : {A : Type 0} → Refusal → (A → Bool) → ℕ → List A → Finding

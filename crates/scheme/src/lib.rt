@@ -1,4 +1,2 @@
-// Patterns and schemes in memory, and the lookup of entries by their prefix.
+// The definition of well-formedness, and the lookup of entries by their prefix.
 pub mod links;
-pub mod memory;
-pub mod order;

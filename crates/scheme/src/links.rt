@@ -1,8 +1,8 @@
 // Looking entries up by their prefix, and the tests 8 and 9 of a scheme list in memory.
-use crate::memory::Entry;
-use crate::memory::Fault;
-use crate::memory::Rule;
-use crate::memory::Scheme;
+use forms::memory::Entry;
+use forms::memory::Fault;
+use forms::memory::Rule;
+use forms::memory::Scheme;
 use word::limits::PREFIX;
 use word::refusal::Refusal;
 ghost use Prim.Native.Nat.{_+_, _-_, _≤_, _<_};
@@ -17,7 +17,7 @@ ghost use Rattle.word.specs.Vocabulary.{unbump};
 ghost use Rattle.word.specs.declared.refusal.Refusal.the-variants.{Childless, NoTarget};
 ghost use Rattle.cell.specs.Cell.{same, deleted, children};
 ghost use Rattle.cell.specs.Child.{childAt};
-ghost use Rattle.scheme.specs.SchemeMemory.{padded, doesOf, schemeIn, faultOf};
+ghost use Rattle.forms.specs.SchemeMemory.{padded, doesOf, schemeIn, faultOf};
 ghost use Rattle.scheme.specs.WellFormed.{firstAt, listed, lacksChild, lacksTarget};
 ghost use Rattle.scheme.specs.Links.{findIn, foundOf, prefixesIn, LinkedEntry, Linked};
 

@@ -14,10 +14,10 @@ use Rattle.word.specs.declared.containment.Contained.{Contained}
 use Rattle.word.specs.declared.containment.Contained.the-variants.{Yes, No}
 use Rattle.word.specs.declared.refusal.Refusal.the-variants.{Rootless, LiveGap, Irreversible}
 use Rattle.cell.specs.Cell.{spacing, cell, deleted, merged, vectors, free, same, total, children, compared}
-use Rattle.scheme.specs.SchemeList.{Does, expands, deletes, EntryList}
-use Rattle.scheme.specs.SchemeMemory.{patternsIn, schemeIn}
-use Rattle.scheme.specs.declared.memory.Fault.{Fault}
-use Rattle.scheme.specs.declared.memory.Fault.the-variants.{At}
+use Rattle.forms.specs.SchemeList.{Does, expands, deletes, EntryList}
+use Rattle.forms.specs.SchemeMemory.{patternsIn, schemeIn}
+use Rattle.forms.specs.declared.memory.Fault.{Fault}
+use Rattle.forms.specs.declared.memory.Fault.the-variants.{At}
 use Rattle.text_grammar.specs.Tokens.{tokens, tokensAfter, tokenAt}
 use Rattle.text_grammar.specs.Grammar.{itemsOf, readPatterns, readEntries}
 use Rattle.text_patterns.specs.PatternMemory.{loadedPatterns}

@@ -15,12 +15,12 @@ use Rattle.word.specs.Word.{avoiders}
 use Rattle.word.specs.ListLaws.{true-not-false, below-or-not, map-same, row-out}
 use Rattle.word.specs.Ceilings.{LENGTH, PATTERN_TEXT, SCHEME_TEXT, CELLS}
 use Rattle.word.specs.Finding.{firstFault}
-use Rattle.scheme.specs.SchemeList.{EntryList}
-use Rattle.scheme.specs.SchemeMemory.{patternsIn, schemeIn, faultOf, orElse, faulty}
-use Rattle.scheme.specs.declared.memory.Patterns.{Patterns}
-use Rattle.scheme.specs.declared.memory.Scheme.{Scheme}
-use Rattle.scheme.specs.declared.memory.Fault.{Fault}
-use Rattle.scheme.specs.declared.memory.Fault.the-variants.{Clean, At}
+use Rattle.forms.specs.SchemeList.{EntryList}
+use Rattle.forms.specs.SchemeMemory.{patternsIn, schemeIn, faultOf, orElse, faulty}
+use Rattle.forms.specs.declared.memory.Patterns.{Patterns}
+use Rattle.forms.specs.declared.memory.Scheme.{Scheme}
+use Rattle.forms.specs.declared.memory.Fault.{Fault}
+use Rattle.forms.specs.declared.memory.Fault.the-variants.{Clean, At}
 use Rattle.text_grammar.specs.Grammar.{readPatterns, readEntries}
 use Rattle.text_page.specs.Page.{Writes}
 use Rattle.text_page.specs.PageLaws.{writes-as}

@@ -1,7 +1,7 @@
 // The number of permutations that avoid a set, by listing all of them and trying every set of
 // positions. It shares no code with the crates that count.
-use scheme::memory::Pattern;
-use scheme::memory::Patterns;
+use forms::memory::Pattern;
+use forms::memory::Patterns;
 use test_listing::direct::has_copy;
 use test_listing::permutations::LONGEST;
 use test_listing::permutations::count;

@@ -1,6 +1,6 @@
 // The cells that counting needs, found by addition: "2 times the sum of C(n, k) over all entries, k
 // being the entry's length" (01).
-use scheme::memory::Scheme;
+use forms::memory::Scheme;
 use word::limits::ENTRIES;
 use word::limits::PREFIX;
 

@@ -2,8 +2,8 @@
 use crate::need::need;
 use counting::answer::Counted;
 use counting::by_table::count;
-use scheme::memory::Patterns;
-use scheme::memory::Scheme;
+use forms::memory::Patterns;
+use forms::memory::Scheme;
 
 // the cells of the page
 pub const CELLS: usize = 32768;

@@ -8,7 +8,7 @@ use crate::texts::damaged;
 use crate::texts::is_damage;
 use notation::patterns::read_patterns;
 use notation::schemes::read_scheme;
-use scheme::memory::Fault;
+use forms::memory::Fault;
 use test_automaton::automaton::Machine;
 use test_automaton::automaton::is_end;
 use test_automaton::automaton::run;

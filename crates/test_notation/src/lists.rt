@@ -1,10 +1,10 @@
 // The lists that the reader under test gives, as the numbers of test_automaton::flat.
-use scheme::memory::Entry;
-use scheme::memory::Gap;
-use scheme::memory::Pattern;
-use scheme::memory::Patterns;
-use scheme::memory::Rule;
-use scheme::memory::Scheme;
+use forms::memory::Entry;
+use forms::memory::Gap;
+use forms::memory::Pattern;
+use forms::memory::Patterns;
+use forms::memory::Rule;
+use forms::memory::Scheme;
 use test_automaton::flat::Flat;
 use test_automaton::flat::STOP;
 use test_automaton::flat::nothing;

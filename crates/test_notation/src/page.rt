@@ -2,8 +2,8 @@
 use notation::patterns::write_patterns;
 use notation::schemes::write_scheme;
 use notation::written::Written;
-use scheme::memory::Patterns;
-use scheme::memory::Scheme;
+use forms::memory::Patterns;
+use forms::memory::Scheme;
 use test_support::parts::byte_at;
 use test_support::parts::lent;
 use test_support::parts::same;

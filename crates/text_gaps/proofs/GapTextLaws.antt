@@ -12,7 +12,7 @@ use lib.Seq.{set-out}
 use lib.Dec.{leb}
 use borrow.Author.Tests.{le-leb, lt-leb, ne-eqb}
 use Rattle.word.specs.ListLaws.{below-or-not}
-use Rattle.scheme.specs.declared.memory.Gap.{Gap}
+use Rattle.forms.specs.declared.memory.Gap.{Gap}
 use Rattle.text_grammar.specs.declared.cursor.Cursor.{Cursor}
 use Rattle.text_grammar.specs.declared.cursor.Kind.{Kind}
 use Rattle.text_grammar.specs.declared.cursor.Kind.the-variants.{End, Digits, Epsilon, Empty, Left, Right, Byte}

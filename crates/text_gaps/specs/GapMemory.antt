@@ -5,7 +5,7 @@ use mathlib.Core.List.{List, map}
 use lib.ListN.{length}
 use lib.Dec.{leb}
 use Rattle.word.specs.Ceilings.{COMPONENTS}
-use Rattle.scheme.specs.declared.memory.Gap.{Gap}
+use Rattle.forms.specs.declared.memory.Gap.{Gap}
 use Rattle.text_patterns.specs.PatternMemory.{filled}
 
 -- a component as a byte: 255 stands for every number beyond, which no total admits

@@ -5,7 +5,7 @@ use mathlib.Core.Bool.{Bool, true, false}
 use mathlib.Core.List.{List}
 use mathlib.Core.Option.{Option, none, some}
 use lib.ListN.{length, drop, getD, set}
-use Rattle.scheme.specs.declared.memory.Gap.{Gap}
+use Rattle.forms.specs.declared.memory.Gap.{Gap}
 use Rattle.text_grammar.specs.Spelling.{Token, right, byte}
 use Rattle.text_grammar.specs.Tokens.{tokens}
 use Rattle.text_grammar.specs.Grammar.{Read, items, numberOf, readNumber, readVector}

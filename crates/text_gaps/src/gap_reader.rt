@@ -3,7 +3,7 @@ use crate::parts::GapRead;
 use crate::parts::Gaps;
 use crate::parts::GapsRead;
 use crate::parts::NumberRead;
-use scheme::memory::Gap;
+use forms::memory::Gap;
 use text_grammar::cursor::Cursor;
 use text_grammar::cursor::Kind;
 use text_grammar::kinds::is_byte;

@@ -11,7 +11,7 @@ use lib.Dec.{leb, eqb}
 use borrow.Author.Tests.{leb-true, eqb-true, le-leb, eq-eqb, ne-eqb, lt-ltb, le-ltb}
 use Rattle.word.specs.Lists.{all}
 use Rattle.word.specs.ListLaws.{and-left, and-right, and-in, below-or-not}
-use Rattle.scheme.specs.SchemeList.{Does, expands, deletes, EntryList}
+use Rattle.forms.specs.SchemeList.{Does, expands, deletes, EntryList}
 use Rattle.text_grammar.specs.Spelling.{Token, digits, epsilon, empty, left, right, byte, comma, separated, braced, permPiece, patternPieces, numeral}
 use Rattle.text_grammar.specs.Spelling.{vectorPieces, rulePieces, entryPieces, schemePieces, digitRun, writableVector, writableRule, writableEntry}
 use Rattle.text_grammar.specs.Tokens.{isRun}

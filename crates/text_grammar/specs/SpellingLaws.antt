@@ -11,7 +11,7 @@ use lib.Dec.{leb, eqb}
 use borrow.Author.Tests.{leb-true, le-leb, ne-eqb}
 use Rattle.word.specs.Lists.{all, each}
 use Rattle.word.specs.ListLaws.{and-left, and-right, and-in, below-or-not}
-use Rattle.scheme.specs.SchemeList.{Does, expands, deletes, EntryList}
+use Rattle.forms.specs.SchemeList.{Does, expands, deletes, EntryList}
 use Rattle.text_grammar.specs.Spelling.{Token, digits, epsilon, empty, left, right, byte, bytesOf, Holds, done, next}
 use Rattle.text_grammar.specs.Spelling.{comma, separated, braced, permPiece, patternPieces, numeral, vectorPieces, rulePieces, entryPieces, schemePieces}
 use Rattle.text_grammar.specs.Spelling.{digitRun, writableVector, writableRule, writableEntry, SpellsPatterns, SpellsScheme}

@@ -9,8 +9,8 @@ use mathlib.Core.List.{List, [], _∷_, _++_, map, map-append, append-nil, appen
 use mathlib.Core.Option.{Option, none, some}
 use lib.ListN.{length, getD, take, drop, set, length-map, length-drop}
 use lib.Seq.{length-take-le, take-suc, take-all, getD-drop, set-out}
-use Rattle.scheme.specs.declared.memory.Pattern.{Pattern}
-use Rattle.scheme.specs.declared.memory.Patterns.{Patterns}
+use Rattle.forms.specs.declared.memory.Pattern.{Pattern}
+use Rattle.forms.specs.declared.memory.Patterns.{Patterns}
 use Rattle.text_grammar.specs.Tokens.{isDigit, run}
 use Rattle.text_grammar.specs.TokenLaws.{digit-value}
 use Rattle.text_patterns.specs.PatternMemory.{filled, patternOf, loadedPatterns, storedIn, added, patternText}

@@ -10,7 +10,7 @@ use lib.ListN.{length, drop, take, length-drop}
 use lib.Seq.{drop-drop}
 use lib.Dec.{eqb}
 use Rattle.word.specs.Ceilings.{DIGITS}
-use Rattle.scheme.specs.declared.memory.Patterns.{Patterns}
+use Rattle.forms.specs.declared.memory.Patterns.{Patterns}
 use Rattle.text_grammar.specs.declared.cursor.Kind.{Kind}
 use Rattle.text_grammar.specs.declared.cursor.Kind.the-variants.{End, Digits, Epsilon, Empty, Left, Right, Byte}
 use Rattle.text_grammar.specs.declared.cursor.Step.{Step}

@@ -5,8 +5,8 @@ use mathlib.Core.List.{List, [], _∷_, map}
 use mathlib.Core.Option.{Option, none, some}
 use lib.ListN.{length, set}
 use Rattle.word.specs.Ceilings.{DIGITS, PATTERNS}
-use Rattle.scheme.specs.declared.memory.Pattern.{Pattern}
-use Rattle.scheme.specs.declared.memory.Patterns.{Patterns}
+use Rattle.forms.specs.declared.memory.Pattern.{Pattern}
+use Rattle.forms.specs.declared.memory.Patterns.{Patterns}
 use Rattle.text_patterns.specs.declared.pattern_reader.PatternText.{PatternText}
 
 -- the first n elements of a list, and z at the places behind its end

@@ -1,6 +1,6 @@
 // A pattern set read from a text into memory, in one pass.
-use scheme::memory::Pattern;
-use scheme::memory::Patterns;
+use forms::memory::Pattern;
+use forms::memory::Patterns;
 use text_grammar::cursor::Cursor;
 use text_grammar::cursor::Kind;
 use text_grammar::cursor::Step;

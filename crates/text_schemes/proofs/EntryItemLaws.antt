@@ -9,9 +9,9 @@ use mathlib.Core.Option.{none}
 use lib.ListN.{length, drop, take, set, length-drop, length-set}
 use lib.Seq.{drop-drop}
 use Rattle.word.specs.ListLaws.{and-left, and-right}
-use Rattle.scheme.specs.SchemeList.{EntryList}
-use Rattle.scheme.specs.declared.memory.Entry.{Entry}
-use Rattle.scheme.specs.declared.memory.Scheme.{Scheme}
+use Rattle.forms.specs.SchemeList.{EntryList}
+use Rattle.forms.specs.declared.memory.Entry.{Entry}
+use Rattle.forms.specs.declared.memory.Scheme.{Scheme}
 use Rattle.text_grammar.specs.declared.cursor.Kind.{Kind}
 use Rattle.text_grammar.specs.declared.cursor.Kind.the-variants.{End, Digits, Epsilon, Empty, Left, Right, Byte}
 use Rattle.text_grammar.specs.declared.cursor.Step.{Step}

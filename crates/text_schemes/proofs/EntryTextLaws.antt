@@ -13,11 +13,11 @@ use borrow.Author.Tests.{ne-eqb}
 use Rattle.word.specs.Ceilings.{PREFIX}
 use Rattle.word.specs.Lists.{all}
 use Rattle.word.specs.ListLaws.{and-left, and-right}
-use Rattle.scheme.specs.SchemeList.{Does, expands, deletes, EntryList}
-use Rattle.scheme.specs.declared.memory.Rule.{Rule}
-use Rattle.scheme.specs.declared.memory.Rule.the-variants.{Expand, Delete}
-use Rattle.scheme.specs.declared.memory.Entry.{Entry}
-use Rattle.scheme.specs.declared.memory.Scheme.{Scheme}
+use Rattle.forms.specs.SchemeList.{Does, expands, deletes, EntryList}
+use Rattle.forms.specs.declared.memory.Rule.{Rule}
+use Rattle.forms.specs.declared.memory.Rule.the-variants.{Expand, Delete}
+use Rattle.forms.specs.declared.memory.Entry.{Entry}
+use Rattle.forms.specs.declared.memory.Scheme.{Scheme}
 use Rattle.text_grammar.specs.declared.cursor.Kind.{Kind}
 use Rattle.text_grammar.specs.declared.cursor.Kind.the-variants.{End, Digits, Epsilon, Empty, Left, Right, Byte}
 use Rattle.text_grammar.specs.declared.cursor.Step.{Step}

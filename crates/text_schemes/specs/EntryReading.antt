@@ -7,9 +7,9 @@ use mathlib.Core.List.{List, [], _∷_}
 use mathlib.Core.Option.{none}
 use lib.ListN.{length, drop, set}
 use Rattle.word.specs.Ceilings.{PREFIX}
-use Rattle.scheme.specs.SchemeList.{Does, EntryList}
-use Rattle.scheme.specs.declared.memory.Entry.{Entry}
-use Rattle.scheme.specs.declared.memory.Scheme.{Scheme}
+use Rattle.forms.specs.SchemeList.{Does, EntryList}
+use Rattle.forms.specs.declared.memory.Entry.{Entry}
+use Rattle.forms.specs.declared.memory.Scheme.{Scheme}
 use Rattle.text_gaps.specs.declared.parts.GapsRead.{GapsRead}
 use Rattle.text_schemes.specs.declared.parts.RuleRead.{RuleRead}
 use Rattle.text_schemes.specs.declared.parts.ItemRead.{ItemRead}

@@ -3,11 +3,11 @@
 use mathlib.Core.List.{List, [], map}
 use lib.ListN.{length}
 use Rattle.word.specs.Ceilings.{ENTRIES, PREFIX, GAPS}
-use Rattle.scheme.specs.SchemeList.{Does, expands, deletes, EntryList}
-use Rattle.scheme.specs.declared.memory.Rule.{Rule}
-use Rattle.scheme.specs.declared.memory.Rule.the-variants.{Expand, Delete}
-use Rattle.scheme.specs.declared.memory.Entry.{Entry}
-use Rattle.scheme.specs.declared.memory.Scheme.{Scheme}
+use Rattle.forms.specs.SchemeList.{Does, expands, deletes, EntryList}
+use Rattle.forms.specs.declared.memory.Rule.{Rule}
+use Rattle.forms.specs.declared.memory.Rule.the-variants.{Expand, Delete}
+use Rattle.forms.specs.declared.memory.Entry.{Entry}
+use Rattle.forms.specs.declared.memory.Scheme.{Scheme}
 use Rattle.text_patterns.specs.PatternMemory.{filled}
 use Rattle.text_gaps.specs.GapMemory.{gapOf}
 

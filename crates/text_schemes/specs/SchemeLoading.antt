@@ -15,14 +15,14 @@ use Rattle.word.specs.Word.{isPerm}
 use Rattle.word.specs.Finding.{Finding, clean, test, firstFault}
 use Rattle.word.specs.declared.refusal.Refusal.the-variants.{NoPermutation, Rootless, Width, NoPosition, Childless, NoTarget}
 use Rattle.cell.specs.Cell.{total}
-use Rattle.scheme.specs.SchemeList.{Does, expands, deletes, EntryList}
+use Rattle.forms.specs.SchemeList.{Does, expands, deletes, EntryList}
 use Rattle.scheme.specs.WellFormed.{firstAt, firstTwin, listed, largeGap, largeEntry, twinEntry, wrongWidth, outside, lacksChild, lacksTarget, schemeTests}
-use Rattle.scheme.specs.SchemeMemory.{padded, noGap, noEntry, gapIn, doesOf, entryIn, schemeIn}
+use Rattle.forms.specs.SchemeMemory.{padded, noGap, noEntry, gapIn, doesOf, entryIn, schemeIn}
 use Rattle.text_patterns.specs.PatternMemory.{filled}
 use Rattle.text_patterns.specs.PatternLoading.{places-length, places-kept, take-filled, sized-faults, sized-same}
 use Rattle.text_gaps.specs.GapMemory.{partOf, gapOf}
 use Rattle.text_schemes.specs.SchemeLoaded.{ruleOf, entryOf, plainEntry, loadedScheme}
-use Rattle.scheme.specs.MemoryLaws.{length-padded}
+use Rattle.forms.specs.MemoryLaws.{length-padded}
 use Rattle.scheme.specs.TestLaws.{or-left, or-right}
 
 -- a disjunction that is false, and its parts

@@ -1,7 +1,7 @@
 // What the readers of the parts of a scheme give: whether the part is spelt, the part in memory, and the cursor behind it.
-use scheme::memory::Entry;
-use scheme::memory::Rule;
-use scheme::memory::Scheme;
+use forms::memory::Entry;
+use forms::memory::Rule;
+use forms::memory::Scheme;
 use text_grammar::cursor::Cursor;
 
 // The third part of an entry.

@@ -18,11 +18,11 @@ use Rattle.word.specs.Finding.{clean, fault, test, firstFault}
 use Rattle.word.specs.declared.refusal.Refusal.{Refusal}
 use Rattle.word.specs.declared.refusal.Refusal.the-variants.{Oversize, NoPermutation}
 use Rattle.scheme.specs.WellFormed.{firstAt, firstTwin, listed, patternTests}
-use Rattle.scheme.specs.SchemeMemory.{padded, noPattern, patternIn, patternsIn}
-use Rattle.scheme.specs.MemoryLaws.{length-padded, getD-padded}
+use Rattle.forms.specs.SchemeMemory.{padded, noPattern, patternIn, patternsIn}
+use Rattle.forms.specs.MemoryLaws.{length-padded, getD-padded}
 use Rattle.scheme.specs.TestLaws.{length-items, clean-cons}
 use Rattle.scheme.specs.TestOrder.{placeIn}
-use Rattle.scheme.specs.declared.memory.Patterns.{Patterns}
+use Rattle.forms.specs.declared.memory.Patterns.{Patterns}
 use Rattle.text_grammar.specs.Spelling.{permPiece, digitRun, writtenPatterns}
 use Rattle.text_writer.specs.Writable.{PatternsFit}
 use Rattle.text_writer.specs.WrittenLaws.{text-one}

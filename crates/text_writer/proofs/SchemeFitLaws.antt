@@ -14,16 +14,16 @@ use Rattle.word.specs.Word.{isPerm}
 use Rattle.word.specs.Finding.{clean, test, firstFault}
 use Rattle.word.specs.declared.refusal.Refusal.the-variants.{Oversize, NoPermutation, Width, NoPosition}
 use Rattle.cell.specs.Cell.{total}
-use Rattle.scheme.specs.SchemeList.{Does, expands, deletes, EntryList}
+use Rattle.forms.specs.SchemeList.{Does, expands, deletes, EntryList}
 use Rattle.scheme.specs.WellFormed.{firstAt, largeGap, largeEntry, wrongWidth, outside, schemeTests}
 use Rattle.scheme.specs.TestOrder.{permutationTest, twinTest, rootTest, widthTest, positionTest, childTest, targetTest}
-use Rattle.scheme.specs.SchemeMemory.{noGap, noEntry, gapIn, entryIn, schemeIn}
-use Rattle.scheme.specs.MemoryLaws.{length-padded}
+use Rattle.forms.specs.SchemeMemory.{noGap, noEntry, gapIn, entryIn, schemeIn}
+use Rattle.forms.specs.MemoryLaws.{length-padded}
 use Rattle.scheme.specs.TestLaws.{or-left, or-right, length-items, clean-cons}
-use Rattle.scheme.specs.declared.memory.Rule.the-variants.{Delete}
-use Rattle.scheme.specs.declared.memory.Entry.{Entry}
-use Rattle.scheme.specs.declared.memory.Scheme.{Scheme}
-use Rattle.scheme.specs.SchemeMemory.{gapAt, entryAt}
+use Rattle.forms.specs.declared.memory.Rule.the-variants.{Delete}
+use Rattle.forms.specs.declared.memory.Entry.{Entry}
+use Rattle.forms.specs.declared.memory.Scheme.{Scheme}
+use Rattle.forms.specs.SchemeMemory.{gapAt, entryAt}
 use Rattle.scheme.proofs.LookupLaws.{position-inside}
 use Rattle.text_grammar.specs.Spelling.{right, digits, numeral, separated, vectorPieces, entryPieces}
 use Rattle.text_grammar.specs.Spelling.{digitRun, writableVector, writableRule, writableEntry, writtenScheme}

@@ -9,11 +9,11 @@ use lib.ListN.{length, getD, replicate, length-append, length-map, length-take}
 use lib.Dec.{ltb}
 use Rattle.word.specs.Lists.{row}
 use Rattle.word.specs.ListLaws.{length-row, row-out}
-use Rattle.scheme.specs.SchemeList.{Does, expands, deletes}
-use Rattle.scheme.specs.SchemeMemory.{padded, patternIn, patternsIn, gapIn, entryIn, schemeIn, noPattern, noGap, noEntry}
-use Rattle.scheme.specs.declared.memory.Patterns.{Patterns}
-use Rattle.scheme.specs.declared.memory.Entry.{Entry}
-use Rattle.scheme.specs.declared.memory.Scheme.{Scheme}
+use Rattle.forms.specs.SchemeList.{Does, expands, deletes}
+use Rattle.forms.specs.SchemeMemory.{padded, patternIn, patternsIn, gapIn, entryIn, schemeIn, noPattern, noGap, noEntry}
+use Rattle.forms.specs.declared.memory.Patterns.{Patterns}
+use Rattle.forms.specs.declared.memory.Entry.{Entry}
+use Rattle.forms.specs.declared.memory.Scheme.{Scheme}
 use Rattle.text_grammar.specs.Spelling.{Token, bytesOf, byte, digits, right, comma, separated, braced, permPiece, numeral, vectorPieces, rulePieces}
 use Rattle.text_grammar.specs.Spelling.{entryPieces, writtenPatterns, writtenScheme}
 use Rattle.text_page.specs.Page.{Room}

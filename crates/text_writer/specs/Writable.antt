@@ -5,14 +5,14 @@ use mathlib.Core.List.{List, [], _∷_, _++_, map}
 use lib.ListN.{length, getD}
 use Rattle.word.specs.Ceilings.{DIGITS, PATTERNS, ENTRIES, PREFIX, COMPONENTS, GAPS}
 use Rattle.word.specs.Lists.{each}
-use Rattle.scheme.specs.SchemeMemory.{patternIn, gapIn, entryIn, noPattern, noGap, noEntry}
-use Rattle.scheme.specs.declared.memory.Pattern.{Pattern}
-use Rattle.scheme.specs.declared.memory.Patterns.{Patterns}
-use Rattle.scheme.specs.declared.memory.Gap.{Gap}
-use Rattle.scheme.specs.declared.memory.Rule.{Rule}
-use Rattle.scheme.specs.declared.memory.Rule.the-variants.{Delete}
-use Rattle.scheme.specs.declared.memory.Entry.{Entry}
-use Rattle.scheme.specs.declared.memory.Scheme.{Scheme}
+use Rattle.forms.specs.SchemeMemory.{patternIn, gapIn, entryIn, noPattern, noGap, noEntry}
+use Rattle.forms.specs.declared.memory.Pattern.{Pattern}
+use Rattle.forms.specs.declared.memory.Patterns.{Patterns}
+use Rattle.forms.specs.declared.memory.Gap.{Gap}
+use Rattle.forms.specs.declared.memory.Rule.{Rule}
+use Rattle.forms.specs.declared.memory.Rule.the-variants.{Delete}
+use Rattle.forms.specs.declared.memory.Entry.{Entry}
+use Rattle.forms.specs.declared.memory.Scheme.{Scheme}
 use Rattle.text_grammar.specs.Spelling.{Token, bytesOf, digits, permPiece, numeral, vectorPieces, braced, entryPieces}
 
 -- the first n places of an array are in it, and hold digits 0 to 9

@@ -9,11 +9,11 @@ use lib.ListN.{length, getD, take, drop, replicate}
 use lib.Seq.{drop-cons, take-append-le}
 use Rattle.word.specs.Lists.{each, row}
 use Rattle.word.specs.ListLaws.{below-or-not}
-use Rattle.scheme.specs.SchemeMemory.{padded, patternIn, patternsIn, gapIn, entryIn, schemeIn, noPattern, noGap, noEntry}
-use Rattle.scheme.specs.SchemeList.{EntryList, deletes}
-use Rattle.scheme.specs.declared.memory.Patterns.{Patterns}
-use Rattle.scheme.specs.declared.memory.Entry.{Entry}
-use Rattle.scheme.specs.declared.memory.Scheme.{Scheme}
+use Rattle.forms.specs.SchemeMemory.{padded, patternIn, patternsIn, gapIn, entryIn, schemeIn, noPattern, noGap, noEntry}
+use Rattle.forms.specs.SchemeList.{EntryList, deletes}
+use Rattle.forms.specs.declared.memory.Patterns.{Patterns}
+use Rattle.forms.specs.declared.memory.Entry.{Entry}
+use Rattle.forms.specs.declared.memory.Scheme.{Scheme}
 use Rattle.text_grammar.specs.Spelling.{Token, bytesOf, byte, digits, epsilon, empty, left, right, comma, separated, braced, permPiece, numeral, vectorPieces, rulePieces, entryPieces}
 use Rattle.text_grammar.specs.Spelling.{writtenPatterns, writtenScheme}
 use Rattle.text_grammar.specs.GrammarLaws.{numeral-one, numeral-two, numeral-three}

@@ -1,10 +1,10 @@
 // Writing pattern sets and schemes over a lent page. Bytes behind the end of the page are dropped, so that a run on an empty page gives the length.
-use scheme::memory::Entry;
-use scheme::memory::Gap;
-use scheme::memory::Pattern;
-use scheme::memory::Patterns;
-use scheme::memory::Rule;
-use scheme::memory::Scheme;
+use forms::memory::Entry;
+use forms::memory::Gap;
+use forms::memory::Pattern;
+use forms::memory::Patterns;
+use forms::memory::Rule;
+use forms::memory::Scheme;
 use text_grammar::marks::EMPTY;
 use text_grammar::marks::EPSILON;
 use text_grammar::marks::LEFT;
@@ -15,8 +15,8 @@ use text_page::bytes::put_decimal;
 ghost use mathlib.Core.Path.{_≡_};
 ghost use mathlib.Core.List.{[], _∷_};
 ghost use Prim.Native.Nat.{_-_, _≤_};
-ghost use Rattle.scheme.specs.SchemeList.{deletes};
-ghost use Rattle.scheme.specs.SchemeMemory.{padded, patternIn, patternsIn, gapIn, doesOf, entryIn, schemeIn};
+ghost use Rattle.forms.specs.SchemeList.{deletes};
+ghost use Rattle.forms.specs.SchemeMemory.{padded, patternIn, patternsIn, gapIn, doesOf, entryIn, schemeIn};
 ghost use Rattle.text_grammar.specs.Spelling.{bytesOf, permPiece, digits, numeral, vectorPieces, rulePieces, entryPieces};
 ghost use Rattle.text_grammar.specs.Spelling.{writtenPatterns, writtenScheme};
 ghost use Rattle.text_page.specs.Page.{Writes, Room};

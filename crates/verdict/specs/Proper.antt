@@ -7,7 +7,7 @@ use lib.ListN.{length}
 use Rattle.word.specs.Ceilings.{DIGITS, PREFIX, GAPS, TOTAL}
 use Rattle.word.specs.Word.{isPerm}
 use Rattle.cell.specs.Cell.{total}
-use Rattle.scheme.specs.SchemeList.{EntryList}
+use Rattle.forms.specs.SchemeList.{EntryList}
 use Rattle.scheme.specs.WellFormed.{outside}
 
 -- a pattern that went through the tests 2 and 3

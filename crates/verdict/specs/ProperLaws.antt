@@ -16,7 +16,7 @@ use Rattle.word.specs.Containment.{isPattern}
 use Rattle.word.specs.Finding.{Finding, clean, test, firstFault}
 use Rattle.word.specs.declared.refusal.Refusal.the-variants.{Oversize, NoPermutation, Width, NoPosition}
 use Rattle.cell.specs.Cell.{total}
-use Rattle.scheme.specs.SchemeList.{Does, expands, deletes, EntryList}
+use Rattle.forms.specs.SchemeList.{Does, expands, deletes, EntryList}
 use Rattle.scheme.specs.WellFormed.{firstAt, listed, largeGap, largeEntry, wrongWidth, outside, patternTests, schemeTests}
 use Rattle.scheme.specs.TestLaws.{or-left, or-right}
 use Rattle.verdict.specs.Proper.{ProperPattern, ProperEntry}

@@ -4,7 +4,7 @@ use mathlib.Core.Path.{_≡_}
 use mathlib.Core.List.{List, [], _∷_, List·Memᴰ}
 use Rattle.word.specs.Finding.{clean, firstFault}
 use Rattle.cell.specs.Claim.{GapClaim, DeletionClaim}
-use Rattle.scheme.specs.SchemeList.{Does, expands, deletes, EntryList}
+use Rattle.forms.specs.SchemeList.{Does, expands, deletes, EntryList}
 use Rattle.scheme.specs.WellFormed.{patternTests, schemeTests}
 
 -- "A scheme is well-formed if none of 1 to 9 applies to it or to its pattern set" (01); lists are spelt already

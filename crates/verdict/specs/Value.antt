@@ -9,7 +9,7 @@ use Rattle.word.specs.Lists.{first, oneTo}
 use Rattle.word.specs.Word.{avoids}
 use Rattle.cell.specs.Cell.{same, total, deleted, merged, free}
 use Rattle.cell.specs.Child.{slot, childAt, split}
-use Rattle.scheme.specs.SchemeList.{Does, expands, deletes, EntryList}
+use Rattle.forms.specs.SchemeList.{Does, expands, deletes, EntryList}
 
 -- the entry with the prefix p
 unfoldable pub entryFor : List EntryList → List ℕ → Option EntryList

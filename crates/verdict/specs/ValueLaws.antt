@@ -27,7 +27,7 @@ use Rattle.cell.specs.BuiltCells.{same-out, cell-size, cell-at-most}
 use Rattle.cell.specs.ChildLaws.{slot-bounds, split-length, split-total, child-length, children-all, size-children, cell-zero}
 use Rattle.cell.specs.MergeLaws.{merged-length, merged-total}
 use Rattle.cell.specs.Theorems.{agrees-of-claim, sizes-of-agrees}
-use Rattle.scheme.specs.SchemeList.{Does, expands, deletes, EntryList}
+use Rattle.forms.specs.SchemeList.{Does, expands, deletes, EntryList}
 use Rattle.scheme.proofs.PrefixLaws.{deleted-size}
 use Rattle.scheme.specs.WellFormed.{listed, outside, lacksChild, lacksTarget, schemeTests}
 use Rattle.scheme.specs.TestLaws.{or-right}

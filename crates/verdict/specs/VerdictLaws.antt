@@ -15,9 +15,9 @@ use Rattle.word.specs.declared.refusal.Refusal.the-variants.{LiveGap, Irreversi
 use Rattle.cell.specs.Cell.{cell, deleted, merged, compared}
 use Rattle.cell.specs.Claim.{GapClaim, DeletionClaim, SizesAgree}
 use Rattle.cell.specs.Theorems.{gap-law, finite-law}
-use Rattle.scheme.specs.SchemeList.{Does, expands, deletes, EntryList}
+use Rattle.forms.specs.SchemeList.{Does, expands, deletes, EntryList}
 use Rattle.scheme.specs.WellFormed.{firstAt, outside, patternTests, schemeTests}
-use Rattle.scheme.specs.SchemeMemory.{faultOf}
+use Rattle.forms.specs.SchemeMemory.{faultOf}
 use Rattle.verdict.specs.Verdict.{isEmpty, liveGap, sizesDiffer, differs, claimTests, comparedCells, judgeTests, answered, verdictOf, accepted}
 use Rattle.verdict.specs.Truth.{WellFormed, RuleClaim, EntryTrue, AllTrue}
 use Rattle.verdict.specs.FindingLaws.{clean-in, clean-left, clean-right, clean-append, clean-two, first-out, first-in, none-out, none-in}

@@ -1,5 +1,5 @@
 // The answer of judging: an acceptance with the number of compared cells, or a refusal with its index.
-use scheme::memory::Fault;
+use forms::memory::Fault;
 use word::refusal::Refusal;
 ghost use mathlib.Core.Path.{_≡_};
 ghost use Rattle.verdict.specs.Verdict.{answered};

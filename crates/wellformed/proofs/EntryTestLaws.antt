@@ -17,19 +17,19 @@ use Rattle.word.specs.Finding.{Finding, clean, fault, test, firstFault}
 use Rattle.word.specs.declared.refusal.Refusal.the-variants.{Oversize}
 use Rattle.word.specs.Word.{isPerm}
 use Rattle.cell.specs.Cell.{same, total}
-use Rattle.scheme.specs.SchemeList.{Does, EntryList}
+use Rattle.forms.specs.SchemeList.{Does, EntryList}
 use Rattle.scheme.specs.WellFormed.{firstAt, listed, repeats, largeGap, largeEntry, twinEntry, wrongWidth, outside}
-use Rattle.scheme.specs.SchemeMemory.{padded, noGap, noEntry, gapIn, doesOf, entryIn, gapAt, entryAt, schemeIn, faultOf}
+use Rattle.forms.specs.SchemeMemory.{padded, noGap, noEntry, gapIn, doesOf, entryIn, gapAt, entryAt, schemeIn, faultOf}
 use Rattle.scheme.specs.Sized.{SizedEntry, Sized}
 use Rattle.scheme.specs.TestOrder.{seen}
-use Rattle.scheme.specs.declared.memory.Gap.{Gap}
-use Rattle.scheme.specs.declared.memory.Rule.{Rule}
-use Rattle.scheme.specs.declared.memory.Rule.the-variants.{Delete}
-use Rattle.scheme.specs.declared.memory.Entry.{Entry}
-use Rattle.scheme.specs.declared.memory.Scheme.{Scheme}
-use Rattle.scheme.specs.declared.memory.Fault.the-variants.{Clean}
+use Rattle.forms.specs.declared.memory.Gap.{Gap}
+use Rattle.forms.specs.declared.memory.Rule.{Rule}
+use Rattle.forms.specs.declared.memory.Rule.the-variants.{Delete}
+use Rattle.forms.specs.declared.memory.Entry.{Entry}
+use Rattle.forms.specs.declared.memory.Scheme.{Scheme}
+use Rattle.forms.specs.declared.memory.Fault.the-variants.{Clean}
 use Rattle.scheme.specs.TestLaws.{from, first-clean, any-clean, or-left, or-right, length-items, first-start, any-start, single, clean-of}
-use Rattle.scheme.specs.MemoryLaws.{padded-within, length-padded}
+use Rattle.forms.specs.MemoryLaws.{padded-within, length-padded}
 use Rattle.wellformed.specs.Twin.{nearestTwin}
 use Rattle.wellformed.specs.TwinLaws.{nearest-seen}
 

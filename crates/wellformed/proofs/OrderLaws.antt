@@ -8,16 +8,16 @@ use lib.Dec.{ltb}
 use Rattle.word.specs.Ceilings.{ENTRIES}
 use Rattle.word.specs.Finding.{Finding, clean, fault, test, firstFault}
 use Rattle.word.specs.declared.refusal.Refusal.the-variants.{Oversize}
-use Rattle.scheme.specs.SchemeList.{EntryList}
+use Rattle.forms.specs.SchemeList.{EntryList}
 use Rattle.scheme.specs.WellFormed.{firstAt, largeEntry, schemeTests}
-use Rattle.scheme.specs.SchemeMemory.{schemeIn, faultOf, orElse, faulty}
+use Rattle.forms.specs.SchemeMemory.{schemeIn, faultOf, orElse, faulty}
 use Rattle.scheme.specs.TestOrder.{sizeTests, permutationTest, twinTest, rootTest, widthTest, positionTest, entryTests, linkTests}
 use Rattle.scheme.specs.Sized.{Sized}
 use Rattle.scheme.specs.TestLaws.{single, clean-cons, clean-of}
 use Rattle.scheme.specs.Links.{Linked}
-use Rattle.scheme.specs.declared.memory.Fault.{Fault}
-use Rattle.scheme.specs.declared.memory.Fault.the-variants.{Clean, At}
-use Rattle.scheme.specs.declared.memory.Scheme.{Scheme}
+use Rattle.forms.specs.declared.memory.Fault.{Fault}
+use Rattle.forms.specs.declared.memory.Fault.the-variants.{Clean, At}
+use Rattle.forms.specs.declared.memory.Scheme.{Scheme}
 use Rattle.scheme.proofs.LookupLaws.{linked-clean}
 
 pub or-else-fault : (a b : Fault) → faulty a ≡ true → orElse a b ≡ a

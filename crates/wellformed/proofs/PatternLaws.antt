@@ -14,12 +14,12 @@ use Rattle.word.specs.Containment.{isPattern}
 use Rattle.word.specs.Finding.{firstFault}
 use Rattle.word.specs.declared.refusal.Refusal.the-variants.{Oversize, NoPermutation}
 use Rattle.scheme.specs.WellFormed.{firstAt, firstTwin, listed, patternTests}
-use Rattle.scheme.specs.SchemeMemory.{padded, patternsIn, faultOf, orElse}
+use Rattle.forms.specs.SchemeMemory.{padded, patternsIn, faultOf, orElse}
 use Rattle.scheme.specs.TestOrder.{placeIn}
-use Rattle.scheme.specs.declared.memory.Patterns.{Patterns}
-use Rattle.scheme.specs.declared.memory.Fault.the-variants.{At}
+use Rattle.forms.specs.declared.memory.Patterns.{Patterns}
+use Rattle.forms.specs.declared.memory.Fault.the-variants.{At}
 use Rattle.scheme.specs.TestLaws.{length-items, three-faults}
-use Rattle.scheme.specs.MemoryLaws.{length-padded, padded-within, padded-no-perm}
+use Rattle.forms.specs.MemoryLaws.{length-padded, padded-within, padded-no-perm}
 
 -- whether the first n digits of an array are a pattern
 module _ (l : List ℕ) (n : ℕ) where

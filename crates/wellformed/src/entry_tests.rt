@@ -1,9 +1,9 @@
 // The tests 2 to 7 of a scheme list in memory, each over the whole list: the first entry at fault.
-use scheme::memory::Entry;
-use scheme::memory::Fault;
-use scheme::memory::Gap;
-use scheme::memory::Rule;
-use scheme::memory::Scheme;
+use forms::memory::Entry;
+use forms::memory::Fault;
+use forms::memory::Gap;
+use forms::memory::Rule;
+use forms::memory::Scheme;
 use word::limits::COMPONENTS;
 use word::limits::ENTRIES;
 use word::limits::GAPS;
@@ -24,7 +24,7 @@ ghost use Rattle.word.specs.Finding.{test, firstFault};
 ghost use Rattle.word.specs.declared.refusal.Refusal.the-variants.{Oversize, NoPermutation, Rootless, Width, NoPosition};
 ghost use Rattle.cell.specs.Cell.{same};
 ghost use Rattle.scheme.specs.WellFormed.{firstAt, firstTwin, listed, repeats, largeGap, largeEntry, twinEntry, wrongWidth, outside};
-ghost use Rattle.scheme.specs.SchemeMemory.{padded, noGap, noEntry, gapIn, doesOf, entryIn, schemeIn, faultOf};
+ghost use Rattle.forms.specs.SchemeMemory.{padded, noGap, noEntry, gapIn, doesOf, entryIn, schemeIn, faultOf};
 ghost use Rattle.scheme.specs.Sized.{SizedEntry, Sized};
 ghost use Rattle.wellformed.specs.Twin.{nearestTwin};
 

@@ -1,8 +1,8 @@
 // The tests 2 to 4 of a pattern list in memory.
-use scheme::memory::Fault;
-use scheme::memory::Pattern;
-use scheme::memory::Patterns;
-use scheme::order::earlier;
+use forms::memory::Fault;
+use forms::memory::Pattern;
+use forms::memory::Patterns;
+use forms::order::earlier;
 use word::limits::DIGITS;
 use word::limits::PATTERNS;
 use word::permutation::is_permutation;
@@ -19,7 +19,7 @@ ghost use Rattle.word.specs.Finding.{firstFault};
 ghost use Rattle.word.specs.declared.refusal.Refusal.the-variants.{Oversize, NoPermutation};
 ghost use Rattle.cell.specs.Cell.{same};
 ghost use Rattle.scheme.specs.WellFormed.{firstAt, firstTwin, listed, patternTests};
-ghost use Rattle.scheme.specs.SchemeMemory.{patternIn, patternsIn, faultOf};
+ghost use Rattle.forms.specs.SchemeMemory.{patternIn, patternsIn, faultOf};
 ghost use Rattle.scheme.specs.TestOrder.{placeIn};
 ghost use Rattle.wellformed.specs.Twin.{nearestTwin};
 

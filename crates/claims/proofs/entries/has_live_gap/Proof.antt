@@ -9,7 +9,7 @@ use lib.ListN.{length, getD, take}
 use Rattle.word.specs.Ceilings.{PREFIX, GAPS}
 use Rattle.word.specs.Lists.{any}
 use Rattle.word.specs.Containment.{patternsOf}
-use Rattle.scheme.specs.SchemeMemory.{entryIn}
+use Rattle.forms.specs.SchemeMemory.{entryIn}
 use Rattle.scheme.specs.TestLaws.{from, any-here, any-later, any-end}
 use Rattle.verdict.specs.Verdict.{liveGap}
 use Rattle.claims.specs.EntryMemoryLaws.{entry-short, entry-few, gap-width, gap-total, prefix-is, prefix-perm}

@@ -7,7 +7,7 @@ use mathlib.Core.List.{List, []}
 use native.Mathlib.Omega.{arith}
 use lib.ListN.{length, getD, length-set}
 use Rattle.word.specs.Ceilings.{COMPONENTS, GAPS}
-use Rattle.scheme.specs.SchemeMemory.{noGap}
+use Rattle.forms.specs.SchemeMemory.{noGap}
 use Rattle.claims.specs.EntryMemoryLaws.{rows-more}
 use Rattle.claims.proofs.gaps.gap_rows.Statement.{statement}
 use Rattle.claims.proofs.gaps.gap_rows.Tie as tie

@@ -7,7 +7,7 @@ use mathlib.Core.List.{List}
 use lib.ListN.{take}
 use Rattle.word.specs.Containment.{patternsOf}
 use Rattle.cell.specs.Cell.{cell}
-use Rattle.scheme.specs.SchemeMemory.{gapIn}
+use Rattle.forms.specs.SchemeMemory.{gapIn}
 use Rattle.verdict.specs.Verdict.{isEmpty}
 use Rattle.verdict.specs.VerdictLaws.{empty-in}
 use Rattle.claims.proofs.GapClaimLaws.{gap-is, below-empty}

@@ -7,7 +7,7 @@ use Prim.Native.Nat.{_-_, _≤_}
 use mathlib.Core.Path.{_≡_, refl}
 use lib.ListN.{getD}
 use Rattle.word.specs.Ceilings.{GAPS}
-use Rattle.scheme.specs.SchemeMemory.{noGap}
+use Rattle.forms.specs.SchemeMemory.{noGap}
 use Rattle.count_plain.specs.SheetForm.{GapsIn}
 use Rattle.count_plain.proofs.SheetLaws.{gaps-more}
 use Rattle.count_plain.proofs.sheet.put_gaps.Statement.{statement}

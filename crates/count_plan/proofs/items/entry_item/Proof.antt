@@ -5,7 +5,7 @@ use mathlib.Core.Path.{_≡_, ap}
 use lib.ListN.{length}
 use Rattle.word.specs.Ceilings.{PREFIX}
 use Rattle.word.specs.Containment.{patternsOf}
-use Rattle.scheme.specs.SchemeMemory.{doesOf}
+use Rattle.forms.specs.SchemeMemory.{doesOf}
 use Rattle.scheme.proofs.LookupLaws.{position-inside}
 use Rattle.count_plan.proofs.PlanItemLaws.{rule-expands, rule-deletes, perm-memory}
 use borrow.Author.Needs.{needs}

@@ -4,7 +4,7 @@ use native.Mathlib.Omega.{arith}
 use Prim.Native.Nat.{ℕ}
 use mathlib.Core.Path.{sym, ap, _∙_, subst}
 use mathlib.Core.List.{[]}
-use Rattle.scheme.specs.SchemeMemory.{schemeIn}
+use Rattle.forms.specs.SchemeMemory.{schemeIn}
 use Rattle.scheme.specs.declared.links.Found.{Found}
 use Rattle.verdict.specs.ValueLaws.{root-listed}
 use Rattle.count_plan.specs.Plan.{placeFound, LeadsTo}

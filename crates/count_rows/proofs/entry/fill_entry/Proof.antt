@@ -9,7 +9,7 @@ use lib.ListN.{getD}
 use Rattle.cell.specs.Binomial.{binomial}
 use Rattle.spacing.specs.Sizes.{FAR}
 use Rattle.spacing.specs.GapRows.{gapsOf}
-use Rattle.scheme.specs.SchemeMemory.{entryIn}
+use Rattle.forms.specs.SchemeMemory.{entryIn}
 use Rattle.count_step.specs.Step.{stepOf}
 use Rattle.count_rows.specs.Rows.{readsFrom}
 use Rattle.count_rows.proofs.EntryFillLaws.{gaps-memory, shifted-near, filled-as, filled-sized, cond-near}

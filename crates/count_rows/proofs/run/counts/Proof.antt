@@ -6,7 +6,7 @@ use Prim.Native.Nat.{ℕ, _*_}
 use mathlib.Core.Path.{_≡_, ap, _∙_}
 use lib.ListN.{length}
 use Rattle.word.specs.Containment.{patternsOf}
-use Rattle.scheme.specs.SchemeMemory.{schemeIn}
+use Rattle.forms.specs.SchemeMemory.{schemeIn}
 use Rattle.verdict.specs.Size.{size}
 use Rattle.count_plan.specs.Layout.{widthOf, needOf}
 use Rattle.count_plan.specs.LayoutLaws.{width-sum, count-few, place-small}

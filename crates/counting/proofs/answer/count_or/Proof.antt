@@ -1,7 +1,7 @@
 -- `counting::answer::count_or` meets its contract: by the cases of the fault.
 -- Assumes nothing.
 use mathlib.Core.Path.{sym, ap}
-use Rattle.scheme.specs.declared.memory.Fault.{Fault}
+use Rattle.forms.specs.declared.memory.Fault.{Fault}
 use Rattle.counting.specs.Counting.{countedOr}
 use borrow.Author.Needs.{needs}
 use Rattle.counting.proofs.answer.count_or.Statement.{statement}

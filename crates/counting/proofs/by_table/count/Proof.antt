@@ -4,7 +4,7 @@ use denote.Ref.{now}
 use mathlib.Core.Path.{_≡_, sym, ap, _∙_}
 use native.Mathlib.Omega.{arith}
 use lib.ListN.{length, getD}
-use Rattle.scheme.specs.SchemeMemory.{patternsIn, schemeIn}
+use Rattle.forms.specs.SchemeMemory.{patternsIn, schemeIn}
 use Rattle.wellformed.proofs.OrderLaws.{not-faulty}
 use Rattle.counting.specs.CountLaws.{verdict-fault, clean-accepts, refused-judging, refused-n-or-table, served, done}
 use borrow.Author.Needs.{needs}

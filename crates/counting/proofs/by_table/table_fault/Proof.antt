@@ -2,7 +2,7 @@
 -- Assumes nothing.
 use mathlib.Core.Path.{sym}
 use native.Mathlib.Omega.{arith}
-use Rattle.scheme.specs.SchemeMemory.{schemeIn}
+use Rattle.forms.specs.SchemeMemory.{schemeIn}
 use Rattle.counting.specs.CountLaws.{length-refused, table-refused, table-serves}
 use borrow.Author.Needs.{needs}
 use Rattle.counting.proofs.by_table.table_fault.Statement.{statement}

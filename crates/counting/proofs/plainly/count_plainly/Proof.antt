@@ -1,7 +1,7 @@
 -- `counting::plainly::count_plainly` meets its contract: judging, then n, then the evaluation.
 -- Assumes nothing.
 use mathlib.Core.Path.{sym, _∙_}
-use Rattle.scheme.specs.SchemeMemory.{patternsIn, schemeIn}
+use Rattle.forms.specs.SchemeMemory.{patternsIn, schemeIn}
 use Rattle.wellformed.proofs.OrderLaws.{not-faulty}
 use Rattle.counting.specs.CountLaws.{verdict-fault, clean-accepts, length-good, plain-refused, plain-long, plain-done}
 use borrow.Author.Needs.{needs}

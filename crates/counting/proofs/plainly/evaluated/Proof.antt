@@ -5,7 +5,7 @@ use mathlib.Core.Path.{_≡_, ap, _∙_}
 use mathlib.Core.List.{List}
 use lib.ListN.{length}
 use Rattle.word.specs.Ceilings.{PATTERNS}
-use Rattle.scheme.specs.SchemeMemory.{schemeIn}
+use Rattle.forms.specs.SchemeMemory.{schemeIn}
 use Rattle.judge.specs.SetLaws.{set-holds}
 use Rattle.verdict.specs.Value.{countOf}
 use borrow.Author.Needs.{needs}

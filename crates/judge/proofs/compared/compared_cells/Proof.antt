@@ -7,7 +7,7 @@ use mathlib.Core.List.{List}
 use native.Mathlib.Omega.{arith}
 use Rattle.word.specs.Ceilings.{ENTRIES}
 use Rattle.cell.specs.Cell.{mOf}
-use Rattle.scheme.specs.SchemeMemory.{schemeIn}
+use Rattle.forms.specs.SchemeMemory.{schemeIn}
 use Rattle.verdict.specs.Verdict.{comparedCells}
 use Rattle.claims.specs.EntryMemory.{COMPARED}
 use Rattle.judge.proofs.EntryWalkLaws.{cellsFrom, cells-start, cells-next, cells-end}

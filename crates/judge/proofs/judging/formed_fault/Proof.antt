@@ -1,7 +1,7 @@
 -- `judge::judging::formed_fault` meets its contract: the patterns are judged before the scheme.
 -- Assumes nothing.
 use mathlib.Core.Path.{ap₂, _∙_}
-use Rattle.scheme.specs.SchemeMemory.{orElse}
+use Rattle.forms.specs.SchemeMemory.{orElse}
 use borrow.Author.Needs.{needs}
 use Rattle.judge.proofs.judging.formed_fault.Statement.{statement}
 use Rattle.judge.proofs.judging.formed_fault.Tie as tie

@@ -1,8 +1,8 @@
 -- `judge::judging::irreversible_unless` meets its contract: behind a fault nothing counts.
 -- Assumes nothing.
 use mathlib.Core.Path.{sym, ap, _∙_}
-use Rattle.scheme.specs.SchemeMemory.{orElse}
-use Rattle.scheme.specs.declared.memory.Fault.the-variants.{Clean}
+use Rattle.forms.specs.SchemeMemory.{orElse}
+use Rattle.forms.specs.declared.memory.Fault.the-variants.{Clean}
 use Rattle.wellformed.proofs.OrderLaws.{or-else-fault}
 use borrow.Author.Needs.{needs}
 use Rattle.judge.proofs.judging.irreversible_unless.Statement.{statement}

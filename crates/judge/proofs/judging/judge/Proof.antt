@@ -1,7 +1,7 @@
 -- `judge::judging::judge` meets its contract: the verdict by its parts, and the theorem on it.
 -- Assumes nothing.
 use mathlib.Core.Path.{sym, _∙_}
-use Rattle.scheme.specs.SchemeMemory.{patternsIn, schemeIn}
+use Rattle.forms.specs.SchemeMemory.{patternsIn, schemeIn}
 use Rattle.judge.specs.JudgementLaws.{judges}
 use Rattle.judge.proofs.JudgeLaws.{verdict-refused, formed-well, verdict-claims}
 use borrow.Author.Needs.{needs}

@@ -7,8 +7,8 @@ use lib.ListN.{length}
 use Rattle.word.specs.Ceilings.{PATTERNS}
 use Rattle.word.specs.Finding.{firstFault}
 use Rattle.word.specs.Containment.{patternsOf}
-use Rattle.scheme.specs.SchemeMemory.{patternsIn, schemeIn, faultOf}
-use Rattle.scheme.specs.declared.memory.Fault.{Fault}
+use Rattle.forms.specs.SchemeMemory.{patternsIn, schemeIn, faultOf}
+use Rattle.forms.specs.declared.memory.Fault.{Fault}
 use Rattle.verdict.specs.Verdict.{claimTests, comparedCells, answered}
 use Rattle.judge.specs.SetLaws.{set-holds, proper-set, proper-scheme}
 use Rattle.judge.proofs.JudgeLaws.{claims-answer}

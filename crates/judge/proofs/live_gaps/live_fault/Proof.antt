@@ -8,9 +8,9 @@ use Rattle.word.specs.Ceilings.{ENTRIES}
 use Rattle.word.specs.Containment.{patternsOf}
 use Rattle.word.specs.declared.refusal.Refusal.the-variants.{LiveGap}
 use Rattle.scheme.specs.WellFormed.{firstAt}
-use Rattle.scheme.specs.SchemeMemory.{schemeIn, faultOf}
+use Rattle.forms.specs.SchemeMemory.{schemeIn, faultOf}
 use Rattle.scheme.specs.TestLaws.{from, first-start, first-here, first-later, first-end}
-use Rattle.scheme.specs.SchemeMemory.{entryAt}
+use Rattle.forms.specs.SchemeMemory.{entryAt}
 use Rattle.judge.proofs.EntryWalkLaws.{liveEntry}
 use Rattle.judge.proofs.live_gaps.live_fault.Statement.{statement}
 use Rattle.judge.proofs.live_gaps.live_fault.Tie as tie

@@ -6,7 +6,7 @@ use mathlib.Core.Path.{_≡_, refl, _∙_}
 use native.Mathlib.Omega.{arith}
 use lib.ListN.{length, getD, length-set}
 use Rattle.word.specs.Ceilings.{PATTERNS}
-use Rattle.scheme.specs.SchemeMemory.{noPattern}
+use Rattle.forms.specs.SchemeMemory.{noPattern}
 use Rattle.claims.specs.EntryMemoryLaws.{rows-more}
 use Rattle.judge.proofs.sets.lengths_of.Statement.{statement}
 use Rattle.judge.proofs.sets.lengths_of.Tie as tie

@@ -7,7 +7,7 @@ use mathlib.Core.List.{List, []}
 use native.Mathlib.Omega.{arith}
 use lib.ListN.{length, getD, length-set}
 use Rattle.word.specs.Ceilings.{DIGITS, PATTERNS}
-use Rattle.scheme.specs.SchemeMemory.{noPattern}
+use Rattle.forms.specs.SchemeMemory.{noPattern}
 use Rattle.claims.specs.EntryMemoryLaws.{rows-more}
 use Rattle.judge.proofs.sets.rows_of.Statement.{statement}
 use Rattle.judge.proofs.sets.rows_of.Tie as tie

@@ -1,7 +1,7 @@
 -- `notation::patterns::refused_patterns` meets its contract.
 -- Assumes nothing.
 use mathlib.Core.Path.{ap}
-use Rattle.scheme.specs.declared.memory.Patterns.{Patterns}
+use Rattle.forms.specs.declared.memory.Patterns.{Patterns}
 use Rattle.notation.specs.declared.patterns.PatternsRead.{PatternsRead}
 use borrow.Author.Needs.{needs}
 use Rattle.notation.proofs.patterns.refused_patterns.Statement.{statement}

@@ -4,7 +4,7 @@ use mathlib.Core.Path.{sym, ap, _∙_}
 use borrow.Author.Tests.{not-true, not-false}
 use native.Mathlib.Omega.{arith}
 use Rattle.notation.specs.SchemeAnswers.{readSchemeOr}
-use Rattle.scheme.specs.declared.memory.Fault.{Fault}
+use Rattle.forms.specs.declared.memory.Fault.{Fault}
 use Rattle.notation.proofs.SchemeAnswerLaws.{answer-long, answer-misspelt, answer-tested, or-read, or-refused, answered}
 use borrow.Author.Needs.{needs}
 use Rattle.notation.proofs.schemes.read_scheme.Statement.{statement}

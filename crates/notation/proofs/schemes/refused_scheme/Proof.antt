@@ -1,7 +1,7 @@
 -- `notation::schemes::refused_scheme` meets its contract.
 -- Assumes nothing.
 use mathlib.Core.Path.{ap}
-use Rattle.scheme.specs.declared.memory.Scheme.{Scheme}
+use Rattle.forms.specs.declared.memory.Scheme.{Scheme}
 use Rattle.notation.specs.declared.schemes.SchemeRead.{SchemeRead}
 use borrow.Author.Needs.{needs}
 use Rattle.notation.proofs.schemes.refused_scheme.Statement.{statement}

@@ -4,7 +4,7 @@ use mathlib.Core.Path.{sym, _∙_}
 use native.Mathlib.Omega.{arith}
 use Rattle.word.specs.Finding.{firstFault}
 use Rattle.scheme.specs.WellFormed.{schemeTests}
-use Rattle.scheme.specs.SchemeMemory.{schemeIn}
+use Rattle.forms.specs.SchemeMemory.{schemeIn}
 use Rattle.text_writer.proofs.SchemeFitLaws.{scheme-fit}
 use Rattle.notation.proofs.WritingLaws.{clean-finding}
 use Rattle.notation.proofs.SchemeWritingLaws.{scheme-refused, scheme-page-short, scheme-done}

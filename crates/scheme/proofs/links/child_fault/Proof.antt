@@ -5,7 +5,7 @@ use mathlib.Core.Path.{_≡_, sym, ap, _∙_}
 use native.Mathlib.Omega.{arith}
 use borrow.Author.Needs.{needs}
 use Rattle.word.specs.declared.refusal.Refusal.the-variants.{Childless}
-use Rattle.scheme.specs.SchemeMemory.{schemeIn, faultOf}
+use Rattle.forms.specs.SchemeMemory.{schemeIn, faultOf}
 use Rattle.scheme.specs.WellFormed.{firstAt}
 use Rattle.scheme.specs.TestLaws.{first-from, first-start, first-here, first-later, first-end}
 use Rattle.scheme.proofs.LookupLaws.{entryAt, childTest}

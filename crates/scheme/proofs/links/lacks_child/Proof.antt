@@ -9,7 +9,7 @@ use lib.ListN.{length, take}
 use Rattle.word.specs.Ceilings.{PREFIX}
 use Rattle.word.specs.Word.{isPerm}
 use Rattle.scheme.specs.Links.{prefixesIn}
-use Rattle.scheme.specs.MemoryLaws.{padded-within}
+use Rattle.forms.specs.MemoryLaws.{padded-within}
 use Rattle.scheme.proofs.LookupLaws.{expand-child}
 use Rattle.scheme.proofs.links.lacks_child.Statement.{statement}
 use Rattle.scheme.proofs.links.lacks_child.Tie as tie

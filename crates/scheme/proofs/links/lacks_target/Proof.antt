@@ -10,7 +10,7 @@ use Rattle.word.specs.Ceilings.{PREFIX}
 use Rattle.word.specs.Word.{isPerm}
 use Rattle.scheme.specs.WellFormed.{listed}
 use Rattle.scheme.specs.Links.{prefixesIn}
-use Rattle.scheme.specs.MemoryLaws.{padded-within}
+use Rattle.forms.specs.MemoryLaws.{padded-within}
 use Rattle.scheme.proofs.LookupLaws.{position-inside, delete-target}
 use Rattle.scheme.proofs.links.lacks_target.Statement.{statement}
 use Rattle.scheme.proofs.links.lacks_target.Tie as tie

@@ -6,8 +6,8 @@ use mathlib.Core.List.{map}
 use lib.ListN.{take}
 use Rattle.word.specs.Ceilings.{CELLS}
 use Rattle.word.specs.Lists.{row}
-use Rattle.scheme.specs.SchemeMemory.{patternsIn, schemeIn}
-use Rattle.scheme.specs.declared.memory.Fault.{Fault}
+use Rattle.forms.specs.SchemeMemory.{patternsIn, schemeIn}
+use Rattle.forms.specs.declared.memory.Fault.{Fault}
 use Rattle.text_page.specs.PageLaws.{writes-as}
 use Rattle.wellformed.proofs.OrderLaws.{not-faulty}
 use Rattle.verdict.specs.Value.{countOf}

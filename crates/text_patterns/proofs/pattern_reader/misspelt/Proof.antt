@@ -2,7 +2,7 @@
 -- Assumes nothing.
 use mathlib.Core.Path.{ap}
 use mathlib.Core.Bool.{false}
-use Rattle.scheme.specs.declared.memory.Patterns.{Patterns}
+use Rattle.forms.specs.declared.memory.Patterns.{Patterns}
 use Rattle.text_patterns.specs.declared.pattern_reader.PatternText.{PatternText}
 use borrow.Author.Needs.{needs}
 use Rattle.text_patterns.proofs.pattern_reader.misspelt.Statement.{statement}

@@ -4,7 +4,7 @@ use Prim.Native.Nat.{_-_}
 use borrow.Author.Needs.{needs}
 use native.Mathlib.Omega.{arith}
 use Rattle.word.specs.Lists.{row}
-use Rattle.scheme.specs.SchemeMemory.{padded}
+use Rattle.forms.specs.SchemeMemory.{padded}
 use Rattle.text_grammar.specs.Spelling.{bytesOf, digits}
 use Rattle.text_page.specs.PageLaws.{ToCome, start-as, step, again, finish, same-size, room-next}
 use Rattle.text_writer.specs.WrittenLaws.{shown, shown-start, shown-step, shown-end}

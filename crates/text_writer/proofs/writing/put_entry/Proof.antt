@@ -4,7 +4,7 @@ use mathlib.Core.Path.{_≡_, refl}
 use native.Mathlib.Omega.{arith}
 use lib.ListN.{length}
 use borrow.Author.Needs.{needs}
-use Rattle.scheme.specs.SchemeMemory.{entryIn}
+use Rattle.forms.specs.SchemeMemory.{entryIn}
 use Rattle.text_page.specs.PageLaws.{start-as, step, finish-by, room-next, room-last}
 use Rattle.text_writer.specs.WrittenLaws.{text-entry}
 use Rattle.text_writer.proofs.writing.put_entry.Statement.{statement}

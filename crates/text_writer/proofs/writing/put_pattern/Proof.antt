@@ -4,7 +4,7 @@ use mathlib.Core.Path.{_≡_, sym}
 use native.Mathlib.Omega.{arith}
 use lib.ListN.{length}
 use borrow.Author.Needs.{needs}
-use Rattle.scheme.specs.SchemeMemory.{patternIn}
+use Rattle.forms.specs.SchemeMemory.{patternIn}
 use Rattle.text_grammar.specs.Spelling.{permPiece}
 use Rattle.text_page.specs.PageLaws.{room-as, writes-as}
 use Rattle.text_writer.specs.WrittenLaws.{text-one}

@@ -2,8 +2,8 @@
 -- Assumes nothing.
 use mathlib.Core.Path.{sym, ap}
 use borrow.Author.Needs.{needs}
-use Rattle.scheme.specs.SchemeMemory.{doesOf}
-use Rattle.scheme.specs.declared.memory.Rule.{Rule}
+use Rattle.forms.specs.SchemeMemory.{doesOf}
+use Rattle.forms.specs.declared.memory.Rule.{Rule}
 use Rattle.text_grammar.specs.Spelling.{rulePieces}
 use Rattle.text_writer.specs.Writable.{text}
 use Rattle.text_page.specs.PageLaws.{room-as, writes-as}

@@ -2,7 +2,7 @@
 -- Assumes nothing.
 use mathlib.Core.Path.{sym, ap}
 use borrow.Author.Needs.{needs}
-use Rattle.scheme.specs.declared.memory.Fault.{Fault}
+use Rattle.forms.specs.declared.memory.Fault.{Fault}
 use Rattle.verdict.specs.Verdict.{answered}
 use Rattle.verdict.proofs.answer.answer.Statement.{statement}
 use Rattle.verdict.proofs.answer.answer.Tie as tie

@@ -6,9 +6,9 @@ use mathlib.Core.Bool.{Bool}
 use borrow.Author.Needs.{needs}
 use native.Mathlib.Omega.{arith}
 use Rattle.cell.specs.Cell.{same}
-use Rattle.scheme.specs.SchemeMemory.{padded, entryAt}
-use Rattle.scheme.specs.declared.memory.Entry.{Entry}
-use Rattle.scheme.specs.declared.memory.Scheme.{Scheme}
+use Rattle.forms.specs.SchemeMemory.{padded, entryAt}
+use Rattle.forms.specs.declared.memory.Entry.{Entry}
+use Rattle.forms.specs.declared.memory.Scheme.{Scheme}
 use Rattle.wellformed.specs.Twin.{nearestBelow, nearestTwin}
 use Rattle.wellformed.specs.TwinLaws.{nearest-here, nearest-later, nearest-none, nearest-start}
 use Rattle.wellformed.proofs.entry_tests.earlier_twin.Statement.{statement}

@@ -5,11 +5,11 @@ use mathlib.Core.Path.{_≡_, sym, ap, _∙_}
 use borrow.Author.Needs.{needs}
 use native.Mathlib.Omega.{arith}
 use Rattle.scheme.specs.WellFormed.{repeats}
-use Rattle.scheme.specs.SchemeMemory.{entryIn}
+use Rattle.forms.specs.SchemeMemory.{entryIn}
 use Rattle.word.specs.Lists.{any}
 use Rattle.cell.specs.Cell.{same}
 use Rattle.scheme.specs.TestLaws.{from-at, repeats-start, repeats-here, repeats-later, repeats-end, from}
-use Rattle.scheme.specs.SchemeMemory.{gapAt}
+use Rattle.forms.specs.SchemeMemory.{gapAt}
 use Rattle.wellformed.proofs.entry_tests.has_twin_gaps.Statement.{statement}
 use Rattle.wellformed.proofs.entry_tests.has_twin_gaps.Tie as tie
 

@@ -6,10 +6,10 @@ use borrow.Author.Needs.{needs}
 use native.Mathlib.Omega.{arith}
 use Rattle.word.specs.Ceilings.{GAPS}
 use Rattle.scheme.specs.WellFormed.{largeGap, largeEntry}
-use Rattle.scheme.specs.SchemeMemory.{entryIn}
+use Rattle.forms.specs.SchemeMemory.{entryIn}
 use Rattle.word.specs.Lists.{any}
 use Rattle.scheme.specs.TestLaws.{from, any-here, any-later, any-end}
-use Rattle.scheme.specs.SchemeMemory.{gapAt}
+use Rattle.forms.specs.SchemeMemory.{gapAt}
 use Rattle.wellformed.proofs.EntryTestLaws.{entry-long, entry-many, entry-by-gaps}
 use Rattle.wellformed.proofs.entry_tests.large_entry.Statement.{statement}
 use Rattle.wellformed.proofs.entry_tests.large_entry.Tie as tie

@@ -6,10 +6,10 @@ use borrow.Author.Needs.{needs}
 use native.Mathlib.Omega.{arith}
 use Rattle.word.specs.Ceilings.{ENTRIES}
 use Rattle.scheme.specs.WellFormed.{firstAt, largeEntry}
-use Rattle.scheme.specs.SchemeMemory.{faultOf, schemeIn}
+use Rattle.forms.specs.SchemeMemory.{faultOf, schemeIn}
 use Rattle.word.specs.declared.refusal.Refusal.the-variants.{Oversize}
 use Rattle.scheme.specs.TestLaws.{from, first-here, first-later, first-end}
-use Rattle.scheme.specs.SchemeMemory.{entryAt}
+use Rattle.forms.specs.SchemeMemory.{entryAt}
 use Rattle.wellformed.proofs.EntryTestLaws.{largeFinding, scheme-many, scheme-by-entries}
 use Rattle.wellformed.proofs.entry_tests.large_fault.Statement.{statement}
 use Rattle.wellformed.proofs.entry_tests.large_fault.Tie as tie

@@ -9,7 +9,7 @@ use lib.Dec.{ltb}
 use borrow.Author.Tests.{lt-ltb, le-ltb}
 use Rattle.word.specs.Ceilings.{COMPONENTS, TOTAL}
 use Rattle.scheme.specs.WellFormed.{largeGap}
-use Rattle.scheme.specs.SchemeMemory.{padded, gapIn}
+use Rattle.forms.specs.SchemeMemory.{padded, gapIn}
 use Rattle.cell.specs.Cell.{total}
 use Rattle.wellformed.proofs.EntryTestLaws.{gap-wide, gap-by-total, total-more, total-none}
 use Rattle.wellformed.proofs.entry_tests.large_gap.Statement.{statement}

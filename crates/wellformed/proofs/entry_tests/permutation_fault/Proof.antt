@@ -6,10 +6,10 @@ use mathlib.Core.Bool.{not}
 use borrow.Author.Needs.{needs}
 use native.Mathlib.Omega.{arith}
 use Rattle.scheme.specs.WellFormed.{firstAt}
-use Rattle.scheme.specs.SchemeMemory.{faultOf, schemeIn}
+use Rattle.forms.specs.SchemeMemory.{faultOf, schemeIn}
 use Rattle.word.specs.declared.refusal.Refusal.the-variants.{NoPermutation}
 use Rattle.scheme.specs.TestLaws.{from, first-start, first-here, first-later, first-end}
-use Rattle.scheme.specs.SchemeMemory.{entryAt}
+use Rattle.forms.specs.SchemeMemory.{entryAt}
 use Rattle.wellformed.proofs.EntryTestLaws.{noPerm}
 use Rattle.wellformed.proofs.entry_tests.permutation_fault.Statement.{statement}
 use Rattle.wellformed.proofs.entry_tests.permutation_fault.Tie as tie

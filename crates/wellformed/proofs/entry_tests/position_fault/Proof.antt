@@ -6,10 +6,10 @@ use borrow.Author.Needs.{needs}
 use native.Mathlib.Omega.{arith}
 use lib.ListN.{length, getD}
 use Rattle.scheme.specs.WellFormed.{firstAt}
-use Rattle.scheme.specs.SchemeMemory.{faultOf, doesOf, schemeIn, noEntry}
+use Rattle.forms.specs.SchemeMemory.{faultOf, doesOf, schemeIn, noEntry}
 use Rattle.word.specs.declared.refusal.Refusal.the-variants.{NoPosition}
 use Rattle.scheme.specs.TestLaws.{from, first-start, first-here, first-later, first-end}
-use Rattle.scheme.specs.SchemeMemory.{entryAt}
+use Rattle.forms.specs.SchemeMemory.{entryAt}
 use Rattle.wellformed.proofs.EntryTestLaws.{misplaced, outside-length}
 use Rattle.wellformed.proofs.entry_tests.position_fault.Statement.{statement}
 use Rattle.wellformed.proofs.entry_tests.position_fault.Tie as tie

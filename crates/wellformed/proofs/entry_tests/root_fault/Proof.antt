@@ -8,12 +8,12 @@ use borrow.Author.Needs.{needs}
 use native.Mathlib.Omega.{arith}
 use lib.ListN.{length, getD}
 use Rattle.scheme.specs.WellFormed.{listed}
-use Rattle.scheme.specs.SchemeMemory.{faultOf, schemeIn, noEntry}
+use Rattle.forms.specs.SchemeMemory.{faultOf, schemeIn, noEntry}
 use Rattle.word.specs.declared.refusal.Refusal.the-variants.{Rootless}
 use Rattle.word.specs.Lists.{any}
 use Rattle.word.specs.Finding.{test}
 use Rattle.scheme.specs.TestLaws.{from, any-here, any-later, any-end}
-use Rattle.scheme.specs.SchemeMemory.{entryAt}
+use Rattle.forms.specs.SchemeMemory.{entryAt}
 use Rattle.wellformed.proofs.EntryTestLaws.{root-by-entries, isRoot, same-empty, same-none}
 use Rattle.wellformed.proofs.entry_tests.root_fault.Statement.{statement}
 use Rattle.wellformed.proofs.entry_tests.root_fault.Tie as tie

@@ -6,7 +6,7 @@ use borrow.Author.Needs.{needs}
 use native.Mathlib.Omega.{arith}
 use lib.ListN.{length, drop}
 use Rattle.cell.specs.Cell.{same}
-use Rattle.scheme.specs.MemoryLaws.{same-lengths}
+use Rattle.forms.specs.MemoryLaws.{same-lengths}
 use Rattle.wellformed.proofs.EntryTestLaws.{same-other, same-next, same-end}
 use Rattle.wellformed.proofs.entry_tests.same_bytes.Statement.{statement}
 use Rattle.wellformed.proofs.entry_tests.same_bytes.Tie as tie

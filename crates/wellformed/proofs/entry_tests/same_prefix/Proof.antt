@@ -6,7 +6,7 @@ use lib.ListN.{length}
 use lib.Seq.{length-take-le}
 use Rattle.word.specs.Ceilings.{PREFIX}
 use Rattle.cell.specs.Cell.{same}
-use Rattle.scheme.specs.MemoryLaws.{padded-within}
+use Rattle.forms.specs.MemoryLaws.{padded-within}
 use borrow.Author.Needs.{needs}
 use Rattle.wellformed.proofs.entry_tests.same_prefix.Statement.{statement}
 use Rattle.wellformed.proofs.entry_tests.same_prefix.Tie as tie

@@ -4,11 +4,11 @@ use Prim.Native.Nat.{_-_, _≤_}
 use mathlib.Core.Path.{_≡_, sym, ap, _∙_}
 use borrow.Author.Needs.{needs}
 use native.Mathlib.Omega.{arith}
-use Rattle.scheme.specs.SchemeMemory.{gapIn}
+use Rattle.forms.specs.SchemeMemory.{gapIn}
 use Rattle.word.specs.Lists.{any}
 use Rattle.cell.specs.Cell.{same}
 use Rattle.scheme.specs.TestLaws.{from-at, from, any-here, any-later, any-end}
-use Rattle.scheme.specs.SchemeMemory.{gapAt}
+use Rattle.forms.specs.SchemeMemory.{gapAt}
 use Rattle.wellformed.proofs.entry_tests.stands_from.Statement.{statement}
 use Rattle.wellformed.proofs.entry_tests.stands_from.Tie as tie
 

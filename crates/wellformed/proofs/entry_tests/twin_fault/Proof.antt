@@ -7,10 +7,10 @@ use borrow.Author.Needs.{needs}
 use native.Mathlib.Omega.{arith}
 use borrow.Author.Tests.{lt-ltb, le-ltb}
 use Rattle.scheme.specs.WellFormed.{firstTwin, twinEntry}
-use Rattle.scheme.specs.SchemeMemory.{faultOf, schemeIn}
+use Rattle.forms.specs.SchemeMemory.{faultOf, schemeIn}
 use Rattle.scheme.specs.TestOrder.{seen}
 use Rattle.scheme.specs.TestLaws.{twin-start, twin-here, twin-later, twin-end, from}
-use Rattle.scheme.specs.SchemeMemory.{entryAt}
+use Rattle.forms.specs.SchemeMemory.{entryAt}
 use Rattle.wellformed.proofs.EntryTestLaws.{nearest-listed, twin-prefix, twin-gaps}
 use Rattle.wellformed.proofs.entry_tests.twin_fault.Statement.{statement}
 use Rattle.wellformed.proofs.entry_tests.twin_fault.Tie as tie

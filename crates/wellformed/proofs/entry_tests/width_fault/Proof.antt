@@ -5,10 +5,10 @@ use mathlib.Core.Path.{_≡_, sym, ap, _∙_}
 use borrow.Author.Needs.{needs}
 use native.Mathlib.Omega.{arith}
 use Rattle.scheme.specs.WellFormed.{firstAt, wrongWidth}
-use Rattle.scheme.specs.SchemeMemory.{faultOf, schemeIn}
+use Rattle.forms.specs.SchemeMemory.{faultOf, schemeIn}
 use Rattle.word.specs.declared.refusal.Refusal.the-variants.{Width}
 use Rattle.scheme.specs.TestLaws.{from, first-start, first-here, first-later, first-end}
-use Rattle.scheme.specs.SchemeMemory.{entryAt}
+use Rattle.forms.specs.SchemeMemory.{entryAt}
 use Rattle.wellformed.proofs.entry_tests.width_fault.Statement.{statement}
 use Rattle.wellformed.proofs.entry_tests.width_fault.Tie as tie
 

@@ -5,10 +5,10 @@ use mathlib.Core.Path.{_≡_, sym, _∙_}
 use borrow.Author.Needs.{needs}
 use native.Mathlib.Omega.{arith}
 use Rattle.scheme.specs.WellFormed.{wrongWidth}
-use Rattle.scheme.specs.SchemeMemory.{entryIn}
+use Rattle.forms.specs.SchemeMemory.{entryIn}
 use Rattle.word.specs.Lists.{any}
 use Rattle.scheme.specs.TestLaws.{from, any-here, any-later, any-end}
-use Rattle.scheme.specs.SchemeMemory.{gapAt}
+use Rattle.forms.specs.SchemeMemory.{gapAt}
 use Rattle.wellformed.proofs.EntryTestLaws.{otherWidth, width-by-gaps, width-other, width-right}
 use Rattle.wellformed.proofs.entry_tests.wrong_width.Statement.{statement}
 use Rattle.wellformed.proofs.entry_tests.wrong_width.Tie as tie

@@ -9,7 +9,7 @@ use lib.Dec.{ltb}
 use Rattle.word.specs.Ceilings.{DIGITS}
 use Rattle.word.specs.declared.refusal.Refusal.the-variants.{Oversize}
 use Rattle.scheme.specs.WellFormed.{firstAt}
-use Rattle.scheme.specs.SchemeMemory.{patternsIn, faultOf}
+use Rattle.forms.specs.SchemeMemory.{patternsIn, faultOf}
 use Rattle.scheme.specs.TestOrder.{placeIn}
 use Rattle.scheme.specs.TestLaws.{first-from, first-start, first-here, first-later, first-end}
 use Rattle.wellformed.proofs.pattern_tests.first_long.Statement.{statement}

@@ -8,7 +8,7 @@ use native.Mathlib.Omega.{arith}
 use Rattle.word.specs.Containment.{isPattern}
 use Rattle.word.specs.declared.refusal.Refusal.the-variants.{NoPermutation}
 use Rattle.scheme.specs.WellFormed.{firstAt}
-use Rattle.scheme.specs.SchemeMemory.{patternsIn, faultOf}
+use Rattle.forms.specs.SchemeMemory.{patternsIn, faultOf}
 use Rattle.scheme.specs.TestOrder.{placeIn}
 use Rattle.scheme.specs.TestLaws.{first-from, first-start, first-here, first-later, first-end}
 use Rattle.wellformed.proofs.pattern_tests.first_none.Statement.{statement}

@@ -9,9 +9,9 @@ use native.Mathlib.Omega.{arith}
 use lib.Dec.{ltb}
 use Rattle.cell.specs.Cell.{same}
 use Rattle.scheme.specs.WellFormed.{firstTwin, listed}
-use Rattle.scheme.specs.SchemeMemory.{patternsIn, faultOf}
+use Rattle.forms.specs.SchemeMemory.{patternsIn, faultOf}
 use Rattle.scheme.specs.TestOrder.{placeIn, seen}
-use Rattle.scheme.specs.declared.memory.Patterns.{Patterns}
+use Rattle.forms.specs.declared.memory.Patterns.{Patterns}
 use Rattle.scheme.specs.TestLaws.{twin-from, twin-start, twin-here, twin-later, twin-end}
 use Rattle.wellformed.specs.Twin.{nearestTwin}
 use Rattle.wellformed.specs.TwinLaws.{nearest-seen}

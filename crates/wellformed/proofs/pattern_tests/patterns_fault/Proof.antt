@@ -1,7 +1,7 @@
 -- `wellformed::pattern_tests::patterns_fault` meets its contract: the number of patterns decides, or the findings of the three tests of the items in their order.
 -- Assumes nothing.
 use mathlib.Core.Path.{sym, ap₂, _∙_}
-use Rattle.scheme.specs.SchemeMemory.{orElse}
+use Rattle.forms.specs.SchemeMemory.{orElse}
 use Rattle.wellformed.proofs.PatternLaws.{many-patterns, few-patterns}
 use borrow.Author.Needs.{needs}
 use Rattle.wellformed.proofs.pattern_tests.patterns_fault.Statement.{statement}

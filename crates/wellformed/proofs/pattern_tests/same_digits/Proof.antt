@@ -7,8 +7,8 @@ use native.Mathlib.Omega.{arith}
 use lib.ListN.{length}
 use Rattle.word.specs.Ceilings.{DIGITS}
 use Rattle.cell.specs.Cell.{same}
-use Rattle.scheme.specs.SchemeMemory.{padded}
-use Rattle.scheme.specs.MemoryLaws.{length-padded, same-lengths, same-from, same-start, same-later, same-differs, same-counted, same-end}
+use Rattle.forms.specs.SchemeMemory.{padded}
+use Rattle.forms.specs.MemoryLaws.{length-padded, same-lengths, same-from, same-start, same-later, same-differs, same-counted, same-end}
 use Rattle.wellformed.proofs.pattern_tests.same_digits.Statement.{statement}
 use Rattle.wellformed.proofs.pattern_tests.same_digits.Tie as tie
 

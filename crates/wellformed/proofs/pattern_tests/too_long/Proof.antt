@@ -3,7 +3,7 @@
 use mathlib.Core.Path.{sym, ap}
 use lib.Dec.{ltb}
 use Rattle.word.specs.Ceilings.{DIGITS}
-use Rattle.scheme.specs.MemoryLaws.{length-padded}
+use Rattle.forms.specs.MemoryLaws.{length-padded}
 use Rattle.wellformed.proofs.pattern_tests.too_long.Statement.{statement}
 use Rattle.wellformed.proofs.pattern_tests.too_long.Tie as tie
 

@@ -1,7 +1,7 @@
 -- `wellformed::scheme_tests::entry_fault` meets its contract.
 -- Assumes nothing.
 use mathlib.Core.Path.{sym, ap₂, _∙_}
-use Rattle.scheme.specs.SchemeMemory.{schemeIn, orElse}
+use Rattle.forms.specs.SchemeMemory.{schemeIn, orElse}
 use Rattle.scheme.specs.TestOrder.{permutationTest, twinTest, rootTest, widthTest, positionTest}
 use Rattle.wellformed.proofs.OrderLaws.{five-faults}
 use borrow.Author.Needs.{needs}

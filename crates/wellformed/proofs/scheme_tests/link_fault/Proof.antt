@@ -1,7 +1,7 @@
 -- `wellformed::scheme_tests::link_fault` meets its contract.
 -- Assumes nothing.
 use mathlib.Core.Path.{sym, ap₂, _∙_}
-use Rattle.scheme.specs.SchemeMemory.{schemeIn, orElse}
+use Rattle.forms.specs.SchemeMemory.{schemeIn, orElse}
 use Rattle.scheme.specs.TestOrder.{childTest, targetTest}
 use Rattle.wellformed.proofs.OrderLaws.{two-faults}
 use borrow.Author.Needs.{needs}

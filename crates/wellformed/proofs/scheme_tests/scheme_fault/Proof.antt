@@ -1,7 +1,7 @@
 -- `wellformed::scheme_tests::scheme_fault` meets its contract: the parts of the tests in their order.
 -- Assumes nothing.
 use mathlib.Core.Path.{sym, _∙_}
-use Rattle.scheme.specs.SchemeMemory.{schemeIn}
+use Rattle.forms.specs.SchemeMemory.{schemeIn}
 use Rattle.wellformed.proofs.EntryTestLaws.{sized-of-clean}
 use Rattle.wellformed.proofs.OrderLaws.{scheme-by-size, scheme-by-entry, scheme-by-links, not-faulty, linked-of-clean}
 use borrow.Author.Needs.{needs}

@@ -5,7 +5,7 @@ use mathlib.Core.Path.{_≡_, refl}
 use mathlib.Core.List.{List}
 use Rattle.word.specs.Finding.{Finding, clean, fault}
 use Rattle.word.specs.Told.{toldBy}
-use Rattle.scheme.specs.SchemeMemory.{faultOf, toldOr}
+use Rattle.forms.specs.SchemeMemory.{faultOf, toldOr}
 
 pub told-found : (x : Finding) (given : List ℕ) → toldOr (faultOf x) given ≡ toldBy x given
 told-found clean given = refl

@@ -14,7 +14,7 @@ use Rattle.word.specs.Lists.{all}
 use Rattle.word.specs.Word.{isPerm, within}
 use Rattle.cell.specs.Cell.{same}
 use Rattle.cell.specs.BuiltCells.{same-refl}
-use Rattle.scheme.specs.SchemeMemory.{padded}
+use Rattle.forms.specs.SchemeMemory.{padded}
 
 -- the first n numbers of an array
 pub padded-within : (n : ℕ) (l : List ℕ) → n ≤ length l → padded n l ≡ take n l

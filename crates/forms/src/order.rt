@@ -1,7 +1,7 @@
 // Findings in their order: whether one is a fault, and the earlier of two.
 use crate::memory::Fault;
 ghost use mathlib.Core.Path.{_≡_};
-ghost use Rattle.scheme.specs.SchemeMemory.{orElse, faulty};
+ghost use Rattle.forms.specs.SchemeMemory.{orElse, faulty};
 
 // The first of two findings, or the second where the first is clean.
 pub fn earlier(a: Fault, b: Fault) -> Fault

@@ -6,16 +6,16 @@ use lib.ListN.{getD, take, replicate}
 use Rattle.word.specs.Lists.{row}
 use Rattle.word.specs.Finding.{Finding, clean, fault}
 use Rattle.word.specs.Told.{Told, toldBy}
-use Rattle.scheme.specs.SchemeList.{Does, expands, deletes, EntryList}
-use Rattle.scheme.specs.declared.memory.Pattern.{Pattern}
-use Rattle.scheme.specs.declared.memory.Patterns.{Patterns}
-use Rattle.scheme.specs.declared.memory.Gap.{Gap}
-use Rattle.scheme.specs.declared.memory.Rule.{Rule}
-use Rattle.scheme.specs.declared.memory.Rule.the-variants.{Expand, Delete}
-use Rattle.scheme.specs.declared.memory.Entry.{Entry}
-use Rattle.scheme.specs.declared.memory.Scheme.{Scheme}
-use Rattle.scheme.specs.declared.memory.Fault.{Fault}
-use Rattle.scheme.specs.declared.memory.Fault.the-variants.{Clean, At}
+use Rattle.forms.specs.SchemeList.{Does, expands, deletes, EntryList}
+use Rattle.forms.specs.declared.memory.Pattern.{Pattern}
+use Rattle.forms.specs.declared.memory.Patterns.{Patterns}
+use Rattle.forms.specs.declared.memory.Gap.{Gap}
+use Rattle.forms.specs.declared.memory.Rule.{Rule}
+use Rattle.forms.specs.declared.memory.Rule.the-variants.{Expand, Delete}
+use Rattle.forms.specs.declared.memory.Entry.{Entry}
+use Rattle.forms.specs.declared.memory.Scheme.{Scheme}
+use Rattle.forms.specs.declared.memory.Fault.{Fault}
+use Rattle.forms.specs.declared.memory.Fault.the-variants.{Clean, At}
 
 -- the first n numbers of an array, with zeros where the array ends before: a length beyond the array stands for a list of that length
 abbrev pub padded : ℕ → List ℕ → List ℕ

@@ -1,0 +1,5 @@
+-- The definitions of the crate forms, and the laws of memory that crates above cite.
+pub mod SchemeList
+pub mod SchemeMemory
+pub mod MemoryLaws
+pub mod ToldLaws
