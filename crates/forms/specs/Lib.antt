@@ -1,5 +1,7 @@
 -- The definitions of the crate forms, and the laws of memory that crates above cite.
 pub mod SchemeList
 pub mod SchemeMemory
+pub mod Codes
 pub mod MemoryLaws
 pub mod ToldLaws
+pub mod CodeLaws

@@ -1,3 +1,5 @@
-// The memory forms: patterns, entries, schemes and findings, and the lists that they stand for.
+// The memory forms: patterns, entries, schemes and findings, the lists that they stand for, and a
+// prefix as one number.
+pub mod codes;
 pub mod memory;
 pub mod order;
