@@ -5,12 +5,14 @@ use native.Mathlib.Numerals.{add-one}
 use native.Mathlib.Omega.{arith}
 use mathlib.Core.Path.{_≡_, refl, ap, _∙_}
 use mathlib.Core.Bool.{Bool, true, false, _&&_, and-false}
-use mathlib.Core.List.{List, [], _∷_, _++_}
-use lib.ListN.{length, getD, take, drop, replicate, length-append, length-replicate, drop-of-length-le, List·getD-append}
+use mathlib.Core.List.{List, [], _∷_, _++_, map}
+use mathlib.Core.Logic.{_⊎_, inl, inr}
+use lib.ListN.{length, getD, take, drop, set, replicate, length-append, length-replicate, drop-of-length-le, List·getD-append}
 use lib.Dec.{eqb}
-use lib.Seq.{take-append-le, length-take-le, drop-cons, getD-take}
+use lib.Seq.{take-append-le, length-take-le, drop-cons, getD-take, getD-set-same, getD-set-other}
 use borrow.Author.Tests.{eq-eqb, ne-eqb}
-use Rattle.word.specs.Lists.{all}
+use Rattle.word.specs.Lists.{all, row}
+use Rattle.word.specs.ListLaws.{same-or-not}
 use Rattle.word.specs.Word.{isPerm, within}
 use Rattle.cell.specs.Cell.{same}
 use Rattle.cell.specs.BuiltCells.{same-refl}
@@ -95,3 +97,22 @@ module _ (n : ℕ) (a b : List ℕ) where
     pub same-end : length a ≡ length b → length a ≤ i → same-from n a b i ≡ true
     unfolding same-from
     same-end e h = rw (padded-behind n a b i e h) (same-refl (drop i (padded n b)))
+
+-- elements written one after the other
+pub rows-more : {A : Type 0} (Q : ℕ → A → Type 0) (rows : List A) (d : A) (n : ℕ) (x : A) → n < length rows → Q n x →
+    ((j : ℕ) → j < n → Q j (getD rows j d)) → (j : ℕ) → j < n + 1 → Q j (getD (set rows n x) j d)
+rows-more Q rows d n x room new old j h = go (same-or-not j n)
+  where
+    go : (j ≡ n) ⊎ (j ≡ n → ⊥) → Q j (getD (set rows n x) j d)
+    go (inl e) = rw (e, getD-set-same rows n x d room) new
+    go (inr e) = rw (getD-set-other rows n j x d e) (old j (omega arith))
+
+-- the first n elements of a list, place by place
+pub take-row : {A : Type 0} (l : List A) (d : A) (n : ℕ) → n ≤ length l → take n l ≡ map (λ i. getD l i d) (row 0 n)
+take-row l d zero h = refl
+take-row [] d (suc n) h = absurd (omega arith)
+take-row (x ∷ l) d (suc n) h = ap (λ u. x ∷ u) (take-row l d n (omega arith) ∙ later 0 n)
+  where
+    later : (a n : ℕ) → map (λ i. getD l i d) (row a n) ≡ map (λ i. getD (x ∷ l) i d) (row (suc a) n)
+    later a zero = refl
+    later a (suc n) = ap (λ u. getD l a d ∷ u) (later (suc a) n)

@@ -6,6 +6,7 @@ use lib.ListN.{getD, take, replicate}
 use Rattle.word.specs.Lists.{row}
 use Rattle.word.specs.Finding.{Finding, clean, fault}
 use Rattle.word.specs.Told.{Told, toldBy}
+use Rattle.word.specs.declared.refusal.Refusal.{Refusal}
 use Rattle.forms.specs.SchemeList.{Does, expands, deletes, EntryList}
 use Rattle.forms.specs.declared.memory.Pattern.{Pattern}
 use Rattle.forms.specs.declared.memory.Patterns.{Patterns}
@@ -71,6 +72,11 @@ faultOf (fault r i) = At r i
 abbrev pub orElse : Fault → Fault → Fault
 orElse Clean b = b
 orElse (At r i) b = At r i
+
+-- the refusal of the item with index i, where it is at fault
+abbrev pub faultIf : Bool → Refusal → ℕ → Fault
+faultIf true r i = At r i
+faultIf false r i = Clean
 
 -- in the numbers of document 01; a finding that is clean gives these values
 abbrev pub toldOr : Fault → List ℕ → Told

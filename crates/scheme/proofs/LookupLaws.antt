@@ -1,21 +1,20 @@
 -- Laws of looking a prefix up, and of the tests 8 and 9 on one entry.
 -- Assumes nothing.
 use Prim.Native.Nat.{ℕ, suc, _+_, _-_, _≤_, _<_}
-use native.Mathlib.Nat.{sub-zero}
 use native.Mathlib.Numerals.{add-one}
 use native.Mathlib.Omega.{arith}
 use mathlib.Core.Path.{_≡_, refl, sym, ap, _∙_}
 use mathlib.Core.Bool.{Bool, true, false, not, _||_, cond}
-use mathlib.Core.List.{List, [], _∷_, map, map-map, Memᴰ·of-map}
+use mathlib.Core.List.{List, [], _∷_, map, map-map, List·Memᴰ, List·Memᴰ·head, List·Memᴰ·tail}
 use mathlib.Core.Option.{Option, none, some}
-use lib.ListN.{length, getD, take}
-use lib.Seq.{length-take-le}
+use lib.ListN.{length, getD, take, drop, drop-of-length-le}
+use lib.Seq.{length-take-le, drop-cons}
 use lib.Dec.{ltb, eqb}
-use borrow.Author.Tests.{not-true, not-false, ltb-false, eqb-false}
+use borrow.Author.Tests.{not-true, not-false, ltb-false, eqb-false, eq-eqb, ne-eqb}
 use Rattle.word.specs.Ceilings.{ENTRIES, PREFIX}
 use Rattle.word.specs.Lists.{any, row}
 use Rattle.word.specs.Word.{isPerm}
-use Rattle.word.specs.ListLaws.{not-in, any-out, any-in, row-out}
+use Rattle.word.specs.ListLaws.{not-in, any-out, any-in}
 use Rattle.word.specs.Finding.{clean}
 use Rattle.word.specs.declared.refusal.Refusal.the-variants.{Oversize, NoPermutation, NoPosition}
 use Rattle.cell.specs.Cell.{same, deleted, children}
@@ -25,14 +24,16 @@ use Rattle.cell.specs.ChildLaws.{child-length, children-all}
 use Rattle.forms.specs.SchemeList.{EntryList}
 use Rattle.forms.specs.SchemeMemory.{padded, noEntry, entryIn, doesOf, schemeIn}
 use Rattle.scheme.specs.WellFormed.{firstAt, listed, largeEntry, outside, lacksChild, lacksTarget}
-use Rattle.scheme.specs.Links.{findFrom, findIn, foundOf, present, prefixesIn, Linked}
+use Rattle.scheme.specs.Links.{findFrom, findIn, findCodeFrom, findCode, foundOf, present, prefixesIn, FindsIn, Linked}
 use Rattle.forms.specs.declared.memory.Rule.{Rule}
 use Rattle.forms.specs.declared.memory.Rule.the-variants.{Expand, Delete}
 use Rattle.forms.specs.declared.memory.Scheme.{Scheme}
 use Rattle.scheme.specs.declared.links.Found.{Found}
 use Rattle.scheme.specs.declared.links.Found.the-variants.{At, Nothing}
-use Rattle.scheme.specs.TestLaws.{row-next, row-end, first-clean, anyFrom, or-left}
+use Rattle.scheme.specs.TestLaws.{first-clean, anyFrom, or-left}
 use Rattle.forms.specs.MemoryLaws.{padded-within, length-padded}
+use Rattle.forms.specs.Codes.{codeOf, Bytes, IsCode, Codes}
+use Rattle.forms.specs.CodeLaws.{code-same}
 use Rattle.scheme.proofs.PrefixLaws.{any-child}
 
 -- Looking up
@@ -72,59 +73,69 @@ prefixAt s i = padded ((getD (s .entries) i noEntry) .length) ((getD (s .entries
 pub prefixes-at : (s : Scheme) → prefixesIn s ≡ map (prefixAt s) (row 0 (s .count))
 prefixes-at s = map-map (λ (e : EntryList). e .prefix) (entryAt s) (row 0 (s .count))
 
--- the search from place i on
-module _ (f : ℕ → List ℕ) (n : ℕ) (q : List ℕ) where
-  unfoldable pub foundFrom : ℕ → Option ℕ
-  unfolding findFrom
-  foundFrom i = findFrom i (map f (row i (n - i))) q
+-- the codes from place i on
+module _ (codes : List ℕ) (c : ℕ) where
+  unfoldable pub codeFrom : ℕ → Option ℕ
+  unfolding findCodeFrom
+  codeFrom i = findCodeFrom i (drop i codes) c
 
-  pub found-here : (i : ℕ) → i < n → same q (f i) ≡ true → foundFrom i ≡ some i
-  unfolding foundFrom
-  found-here i h e = rw (row-next n i h, e) refl
+  pub code-start : findCode codes c ≡ codeFrom 0
+  unfolding codeFrom
+  code-start = refl
 
-  pub found-later : (i : ℕ) → i < n → same q (f i) ≡ false → foundFrom i ≡ foundFrom (i + 1)
-  unfolding foundFrom
-  found-later i h e = rw (row-next n i h, e, add-one i) refl
+  code-cons : (i : ℕ) → i < length codes → codeFrom i ≡ cond (eqb c (getD codes i 0)) (some i) (codeFrom (i + 1))
+  unfolding codeFrom findCodeFrom
+  code-cons i h = rw (drop-cons codes i 0 h, add-one i) refl
 
-  pub found-end : (i : ℕ) → n ≤ i → foundFrom i ≡ none
-  unfolding foundFrom
-  found-end i h = rw (row-end n i h) refl
+  pub code-here : (i : ℕ) → i < length codes → c ≡ getD codes i 0 → codeFrom i ≡ some i
+  code-here i h e = code-cons i h ∙ rw (eq-eqb c (getD codes i 0) e) refl
 
-pub found-start : (s : Scheme) (q : List ℕ) → findIn (prefixesIn s) q ≡ foundFrom (prefixAt s) (s .count) q 0
-unfolding foundFrom
-found-start s q = rw (sub-zero (s .count)) (ap (λ (ps : List (List ℕ)). findIn ps q) (prefixes-at s))
+  pub code-later : (i : ℕ) → i < length codes → (c ≡ getD codes i 0 → ⊥) → codeFrom i ≡ codeFrom (i + 1)
+  code-later i h e = code-cons i h ∙ rw (ne-eqb c (getD codes i 0) e) refl
+
+  pub code-end : (i : ℕ) → length codes ≤ i → codeFrom i ≡ none
+  unfolding codeFrom findCodeFrom
+  code-end i h = rw (drop-of-length-le codes h) refl
+
+-- looking a code up is looking the prefix up
+find-each : (i : ℕ) (ps : List (List ℕ)) (q : List ℕ) → Bytes q → ((p : List ℕ) → List·Memᴰ p ps → Bytes p) →
+    findCodeFrom i (map codeOf ps) (codeOf q) ≡ findFrom i ps q
+unfolding findCodeFrom findFrom
+find-each i [] q b h = refl
+find-each i (p ∷ ps) q b h =
+    rw (code-same q p b (h p (List·Memᴰ·head refl)), find-each (suc i) ps q b (λ (x : List ℕ) (m : List·Memᴰ x ps). h x (List·Memᴰ·tail m))) refl
+
+pub find-coded : (codes q : List ℕ) (c : ℕ) → IsCode q c → (r : Found) → r ≡ foundOf (findCode codes c) → FindsIn codes q r
+find-coded codes q c k r e ps w =
+    let there : findCode codes c ≡ findIn ps q = rw (w .each, k .is) (find-each 0 ps q (k .bytes) (w .bytes)) in
+    e ∙ ap foundOf there
 
 -- Children
 
--- no entry has a prefix that is longer than 6
-pub long-unlisted : (s : Scheme) (q : List ℕ) → Linked s → PREFIX < length q → listed (prefixesIn s) q ≡ false
-long-unlisted s q k h = not-true (listed (prefixesIn s) q) (not-in (listed (prefixesIn s) q) none-is)
-  where
-    none-is : listed (prefixesIn s) q ≡ true → ⊥
-    none-is e =
-        let t : any (same q) (map (prefixAt s) (row 0 (s .count))) ≡ true = sym (ap (any (same q)) (prefixes-at s)) ∙ e in
-        let (p, m, w) = any-out (same q) (map (prefixAt s) (row 0 (s .count))) t in
-        let (i, n, a) = Memᴰ·of-map (prefixAt s) (row 0 (s .count)) m in
-        let (low, high) = row-out 0 (s .count) n in
-        let short : (getD (s .entries) i noEntry) .length ≤ PREFIX = (k .linked i (omega arith)) .short in
-        let size : length (prefixAt s i) ≡ (getD (s .entries) i noEntry) .length =
-        length-padded ((getD (s .entries) i noEntry) .length) ((getD (s .entries) i noEntry) .prefix) in
-        let sizes : length q ≡ length (prefixAt s i) = ap length (same-out q p w ∙ sym a) in
-        omega arith
-
--- a prefix has no entry
-abbrev pub unlisted : Scheme → List ℕ → Bool
-unlisted s q = not (listed (prefixesIn s) q)
+-- a prefix is not among these
+abbrev pub unlisted : List (List ℕ) → List ℕ → Bool
+unlisted ps q = not (listed ps q)
 
 -- the same, by the child's last entry
-abbrev pub missing : Scheme → List ℕ → ℕ → Bool
-missing s p a = unlisted s (childAt p a)
+abbrev pub missing : List (List ℕ) → List ℕ → ℕ → Bool
+missing ps p a = unlisted ps (childAt p a)
 
--- an entry with a prefix of length 6 lacks its children
-pub all-childless : (s : Scheme) (p : List ℕ) → Linked s → isPerm p ≡ true → length p ≡ PREFIX → any (unlisted s) (children p) ≡ true
-all-childless s p k e h =
-    any-in (unlisted s) (children-all p 1 e (omega arith) (omega arith))
-    (ap not (long-unlisted s (childAt p 1) k (omega (arith, child-length p 1))))
+module _ (ps : List (List ℕ)) (codes : List ℕ) (w : Codes ps codes) where
+  -- no entry has a prefix that is longer than PREFIX
+  long-unlisted : (q : List ℕ) → PREFIX < length q → listed ps q ≡ false
+  long-unlisted q h = not-true (listed ps q) (not-in (listed ps q) none-is)
+    where
+      none-is : listed ps q ≡ true → ⊥
+      none-is e =
+          let (p, m, t) = any-out (same q) ps e in
+          let size : length q ≡ length p = ap length (same-out q p t) in
+          omega (arith, w .short p m)
+
+  -- an entry with a prefix of length PREFIX lacks its children
+  pub all-childless : (p : List ℕ) → isPerm p ≡ true → length p ≡ PREFIX → any (unlisted ps) (children p) ≡ true
+  all-childless p e h =
+      any-in (unlisted ps) (children-all p 1 e (omega arith) (omega arith))
+      (ap not (long-unlisted (childAt p 1) (omega (arith, child-length p 1))))
 
 -- the children of a prefix of length k, by their last entries from 1 to k + 1
 pub children-start : (t : List ℕ → Bool) (l : List ℕ) (k : ℕ) → isPerm (take k l) ≡ true → k ≤ length l →
@@ -135,12 +146,6 @@ children-start t l k e h =
     any-child t (take k l) e ∙ ap (λ n. any (λ a. t (childAt (take k l) a)) (row 1 n)) n
 
 -- The tests on one entry
-
-abbrev pub childTest : Scheme → EntryList → Bool
-childTest s e = lacksChild (prefixesIn s) (e .prefix) (e .rule)
-
-abbrev pub targetTest : Scheme → EntryList → Bool
-targetTest s e = lacksTarget (prefixesIn s) (e .prefix) (e .rule)
 
 module _ (ps : List (List ℕ)) (l : List ℕ) (k : ℕ) (rule : Rule) where
   pub expand-child : k ≤ length l → rule ≡ Expand → lacksChild ps (padded k l) (doesOf rule) ≡ any (λ q. not (listed ps q)) (children (take k l))

@@ -1,7 +1,7 @@
 -- Tests over the items g 0 to g (n - 1), from a place on: what one item adds; the first at fault, the first twin, whether one passes a test.
 -- Assumes nothing.
 use Prim.Native.Nat.{ℕ, zero, suc, _+_, _-_, _≤_, _<_}
-use mathlib.Core.Path.{_≡_, refl, _∙_}
+use mathlib.Core.Path.{_≡_, refl, sym, ap, _∙_}
 use mathlib.Core.Bool.{Bool, true, false, _||_, cond, true≢false}
 use mathlib.Core.List.{List, [], _∷_, map, List·Memᴰ}
 use mathlib.Core.Logic.{_⊎_, inl, inr}
@@ -15,9 +15,10 @@ use Rattle.word.specs.Finding.{Finding, clean, fault, firstFault}
 use Rattle.word.specs.declared.refusal.Refusal.{Refusal}
 use Rattle.word.specs.declared.refusal.Refusal.the-variants.{Repeated}
 use Rattle.scheme.specs.WellFormed.{firstAt, firstTwin, listed, repeats}
-use Rattle.forms.specs.SchemeMemory.{faultOf, orElse}
+use Rattle.forms.specs.SchemeMemory.{faultOf, orElse, faultIf}
 use Rattle.scheme.specs.TestOrder.{seen}
-use Rattle.forms.specs.declared.memory.Fault.the-variants.{Clean}
+use Rattle.forms.specs.declared.memory.Fault.the-variants.{Clean, At}
+use Rattle.forms.specs.declared.memory.Fault.{Fault}
 
 -- the items g i to g (n - 1)
 unfoldable pub from : {A : Type 0} → (ℕ → A) → ℕ → ℕ → List A
@@ -186,6 +187,40 @@ any-members t l m h k =
 pub single : (x : Finding) → firstFault (x ∷ []) ≡ x
 single clean = refl
 single (fault r i) = refl
+
+-- A finding so far and what is still to come. `rest i` is what the items from place i on add: the
+-- item at a place refuses, if it is at fault, or those after it decide.
+module _ (r : Refusal) (t : ℕ → Bool) (n : ℕ) (rest : ℕ → Finding)
+    (step : (i : ℕ) → i < n → rest i ≡ cond (t i) (fault r i) (rest (i + 1))) (whole : Fault) where
+  pub noted-more : (i : ℕ) (found next : Fault) (b : Bool) → i < n → whole ≡ orElse found (faultOf (rest i)) → b ≡ t i →
+      next ≡ orElse found (faultIf b r i) → whole ≡ orElse next (faultOf (rest (i + 1)))
+  noted-more i found next b h w e f = rw f (w ∙ rw (step i h, ← e) (go found b))
+    where
+      go : (found : Fault) (b : Bool) →
+          orElse found (faultOf (cond b (fault r i) (rest (i + 1)))) ≡ orElse (orElse found (faultIf b r i)) (faultOf (rest (i + 1)))
+      go Clean true = refl
+      go Clean false = refl
+      go (At q j) b = refl
+
+pub noted-end : (found whole : Fault) (x : Finding) → x ≡ clean → whole ≡ orElse found (faultOf x) → found ≡ whole
+noted-end found whole x e w = sym (w ∙ rw e (go found))
+  where
+    go : (found : Fault) → orElse found Clean ≡ found
+    go Clean = refl
+    go (At q j) = refl
+
+pub noted-start : {A : Type 0} (r : Refusal) (f : A → Bool) (g : ℕ → A) (n : ℕ) →
+    faultOf (firstAt r f 0 (map g (row 0 n))) ≡ orElse Clean (faultOf (first-from r f g n 0))
+noted-start r f g n = ap faultOf (first-start r f g n)
+
+module _ {A : Type 0} (g : ℕ → A) (n : ℕ) where
+  pub first-step : (r : Refusal) (f : A → Bool) (i : ℕ) → i < n →
+      first-from r f g n i ≡ cond (f (g i)) (fault r i) (first-from r f g n (i + 1))
+  first-step r f i h = rw (from-cons g n i h, add-one i) refl
+
+  pub twin-step : (twin : List A → A → Bool) (i : ℕ) → i < n →
+      twin-from twin g n i ≡ cond (twin (seen g i) (g i)) (fault Repeated i) (twin-from twin g n (i + 1))
+  twin-step twin i h = rw (from-cons g n i h, add-one i) refl
 
 -- findings without a fault
 pub clean-of : (x : Finding) → faultOf x ≡ Clean → x ≡ clean

@@ -1,25 +1,40 @@
-// Looking entries up by their prefix, and the tests 8 and 9 of a scheme list in memory.
+// Looking entries up by the codes of their prefixes, and the tests 8 and 9 of a scheme list in
+// memory. The codes of all entries are made once and lent, so that no scheme is handed down.
+use forms::codes::code_of;
 use forms::memory::Entry;
 use forms::memory::Fault;
 use forms::memory::Rule;
 use forms::memory::Scheme;
+use forms::order::noted;
+use word::limits::ENTRIES;
 use word::limits::PREFIX;
 use word::refusal::Refusal;
 ghost use Prim.Native.Nat.{_+_, _-_, _≤_, _<_};
 ghost use mathlib.Core.Path.{_≡_};
-ghost use mathlib.Core.Bool.{true, not};
+ghost use mathlib.Core.Bool.{true};
 ghost use mathlib.Core.List.{[], _∷_};
-ghost use lib.ListN.{getD, take};
+ghost use lib.ListN.{length, getD, take};
 ghost use Rattle.word.specs.Ceilings.{ENTRIES, PREFIX};
-ghost use Rattle.word.specs.Lists.{any};
 ghost use Rattle.word.specs.Word.{isPerm, bump};
 ghost use Rattle.word.specs.Vocabulary.{unbump};
-ghost use Rattle.word.specs.declared.refusal.Refusal.the-variants.{Childless, NoTarget};
-ghost use Rattle.cell.specs.Cell.{same, deleted, children};
+ghost use Rattle.cell.specs.Cell.{deleted};
 ghost use Rattle.cell.specs.Child.{childAt};
-ghost use Rattle.forms.specs.SchemeMemory.{padded, doesOf, schemeIn, faultOf};
-ghost use Rattle.scheme.specs.WellFormed.{firstAt, listed, lacksChild, lacksTarget};
-ghost use Rattle.scheme.specs.Links.{findIn, foundOf, prefixesIn, LinkedEntry, Linked};
+ghost use Rattle.forms.specs.Codes.{Codes, IsCode};
+ghost use Rattle.forms.specs.SchemeMemory.{padded, entryIn, schemeIn, faultOf};
+ghost use Rattle.scheme.specs.TestOrder.{childTest, targetTest};
+ghost use Rattle.scheme.specs.Links.{
+  findCode,
+  foundOf,
+  prefixesIn,
+  FindsIn,
+  ListedIn,
+  ChildlessIn,
+  LacksChildIn,
+  LacksTargetIn,
+  Short,
+  LinkedEntry,
+  Linked,
+};
 
 // The index of an entry, or that there is none.
 pub enum Found {
@@ -27,18 +42,39 @@ pub enum Found {
     Nothing,
 }
 
-// The first entry whose prefix is the first `length` digits.
-pub fn find(s: Scheme, prefix: [u8; PREFIX], length: usize) -> Found
-    requires { ⌜ (s .count ≤ ENTRIES) × (length ≤ PREFIX) ⌝ }
-    ensures { λ r. ⌜ r ≡ foundOf (findIn (prefixesIn s) (take length prefix)) ⌝ }
+// The codes of the prefixes of all entries, and zeros after them.
+pub fn codes_of(s: Scheme) -> [u64; ENTRIES]
+    requires { ⌜ Short s ⌝ }
+    ensures { λ r. ⌜ (length r ≡ ENTRIES) × Codes (prefixesIn s) (take (s .count) r) ⌝ }
 {
     let n = s.count;
+    let mut codes = [0u64; ENTRIES];
     let mut i: usize = 0;
     while i < n {
         let e = s.entries[i];
-        let p = e.prefix;
-        let k = e.length;
-        if agrees(prefix, length, p, k) {
+        codes[i] = entry_code(e);
+        i += 1;
+    }
+    codes
+}
+
+// The code of the prefix of an entry.
+fn entry_code(e: Entry) -> u64
+    requires { ⌜ e .length ≤ PREFIX ⌝ }
+    ensures { λ r. ⌜ IsCode (padded (e .length) (e .prefix)) r ⌝ }
+{
+    let prefix = e.prefix;
+    let k = e.length;
+    code_of(prefix, k)
+}
+
+// The first of the codes that is this one.
+fn find(codes: &[u64], code: u64) -> Found
+    ensures { λ r. ⌜ r ≡ foundOf (findCode (now (codes .entry)) code) ⌝ }
+{
+    let mut i: usize = 0;
+    while i < codes.len() {
+        if code == codes[i] {
             return Found::At(i);
         }
         i += 1;
@@ -46,30 +82,21 @@ pub fn find(s: Scheme, prefix: [u8; PREFIX], length: usize) -> Found
     Found::Nothing
 }
 
-// Whether the first n digits of q are the prefix p of length k.
-fn agrees(q: [u8; PREFIX], n: usize, p: [u8; PREFIX], k: usize) -> bool
-    requires { ⌜ n ≤ PREFIX ⌝ }
-    ensures { λ r. ⌜ r ≡ same (take n q) (padded k p) ⌝ }
+// The first entry whose prefix is the first `length` digits, by the codes of all entries.
+pub fn find_prefix(codes: &[u64], prefix: [u8; PREFIX], length: usize) -> Found
+    requires { ⌜ length ≤ PREFIX ⌝ }
+    ensures { λ r. ⌜ FindsIn (now (codes .entry)) (take length prefix) r ⌝ }
 {
-    if n != k {
-        return false;
-    }
-    let mut j: usize = 0;
-    while j < n {
-        if q[j] != p[j] {
-            return false;
-        }
-        j += 1;
-    }
-    true
+    let code = code_of(prefix, length);
+    find(codes, code)
 }
 
 // Whether an entry has the first `length` digits as its prefix.
-fn has_entry(s: Scheme, prefix: [u8; PREFIX], length: usize) -> bool
-    requires { ⌜ (s .count ≤ ENTRIES) × (length ≤ PREFIX) ⌝ }
-    ensures { λ r. ⌜ r ≡ listed (prefixesIn s) (take length prefix) ⌝ }
+fn has_entry(codes: &[u64], prefix: [u8; PREFIX], length: usize) -> bool
+    requires { ⌜ length ≤ PREFIX ⌝ }
+    ensures { λ r. ⌜ ListedIn (now (codes .entry)) (take length prefix) r ⌝ }
 {
-    let found = find(s, prefix, length);
+    let found = find_prefix(codes, prefix, length);
     match found {
         Found::At(_) => true,
         Found::Nothing => false,
@@ -133,9 +160,9 @@ fn kept(prefix: [u8; PREFIX], at: usize, j: usize) -> u8
 
 // Whether a child of a prefix of length k has no entry. The children of a longest prefix have
 // none.
-fn childless(s: Scheme, prefix: [u8; PREFIX], k: usize) -> bool
-    requires { ⌜ Linked s × (k ≤ PREFIX) × (isPerm (take k prefix) ≡ true) ⌝ }
-    ensures { λ r. ⌜ r ≡ any (λ q. not (listed (prefixesIn s) q)) (children (take k prefix)) ⌝ }
+fn childless(codes: &[u64], prefix: [u8; PREFIX], k: usize) -> bool
+    requires { ⌜ (k ≤ PREFIX) × (isPerm (take k prefix) ≡ true) ⌝ }
+    ensures { λ r. ⌜ ChildlessIn (now (codes .entry)) (take k prefix) r ⌝ }
 {
     if k == PREFIX {
         return true;
@@ -144,7 +171,7 @@ fn childless(s: Scheme, prefix: [u8; PREFIX], k: usize) -> bool
     let mut a: u8 = 1;
     while a <= last {
         let q = child(prefix, k, a);
-        if !has_entry(s, q, k + 1) {
+        if !has_entry(codes, q, k + 1) {
             return true;
         }
         a += 1;
@@ -153,23 +180,23 @@ fn childless(s: Scheme, prefix: [u8; PREFIX], k: usize) -> bool
 }
 
 // Whether an expanding entry lacks a child.
-fn lacks_child(s: Scheme, e: Entry) -> bool
-    requires { ⌜ Linked s × LinkedEntry e ⌝ }
-    ensures { λ r. ⌜ r ≡ lacksChild (prefixesIn s) (padded (e .length) (e .prefix)) (doesOf (e .rule)) ⌝ }
+fn lacks_child(codes: &[u64], e: Entry) -> bool
+    requires { ⌜ LinkedEntry e ⌝ }
+    ensures { λ r. ⌜ LacksChildIn (now (codes .entry)) (entryIn e) r ⌝ }
 {
     let rule = e.rule;
     let p = e.prefix;
     let k = e.length;
     match rule {
-        Rule::Expand => childless(s, p, k),
+        Rule::Expand => childless(codes, p, k),
         Rule::Delete(_) => false,
     }
 }
 
 // Whether the shorter prefix of a deleting entry has no entry.
-fn lacks_target(s: Scheme, e: Entry) -> bool
-    requires { ⌜ Linked s × LinkedEntry e ⌝ }
-    ensures { λ r. ⌜ r ≡ lacksTarget (prefixesIn s) (padded (e .length) (e .prefix)) (doesOf (e .rule)) ⌝ }
+fn lacks_target(codes: &[u64], e: Entry) -> bool
+    requires { ⌜ LinkedEntry e ⌝ }
+    ensures { λ r. ⌜ LacksTargetIn (now (codes .entry)) (entryIn e) r ⌝ }
 {
     let rule = e.rule;
     let p = e.prefix;
@@ -178,41 +205,34 @@ fn lacks_target(s: Scheme, e: Entry) -> bool
         Rule::Expand => false,
         Rule::Delete(r) => {
             let q = shorter(p, k, r);
-            !has_entry(s, q, k - 1)
+            !has_entry(codes, q, k - 1)
         }
     }
 }
 
-// Test 8: the first expanding entry that lacks a child.
-pub fn child_fault(s: Scheme) -> Fault
-    requires { ⌜ Linked s ⌝ }
-    ensures { λ r. ⌜ r ≡ faultOf (firstAt Childless (λ e. lacksChild (prefixesIn s) (e .prefix) (e .rule)) 0 (schemeIn s)) ⌝ }
-{
-    let n = s.count;
-    let mut i: usize = 0;
-    while i < n {
-        let e = s.entries[i];
-        if lacks_child(s, e) {
-            return Fault::At(Refusal::Childless, i);
-        }
-        i += 1;
-    }
-    Fault::Clean
+// What the tests 8 and 9 find: the first expanding entry that lacks a child, and the first deleting
+// entry whose shorter prefix has no entry.
+pub struct LinkFaults {
+    pub child: Fault,
+    pub target: Fault,
 }
 
-// Test 9: the first deleting entry whose shorter prefix has no entry.
-pub fn target_fault(s: Scheme) -> Fault
-    requires { ⌜ Linked s ⌝ }
-    ensures { λ r. ⌜ r ≡ faultOf (firstAt NoTarget (λ e. lacksTarget (prefixesIn s) (e .prefix) (e .rule)) 0 (schemeIn s)) ⌝ }
+// The tests 8 and 9 over all entries, in one pass.
+pub fn link_faults(s: Scheme, codes: &[u64]) -> LinkFaults
+    requires { ⌜ Linked s × Codes (prefixesIn s) (now codes) ⌝ }
+    ensures { λ r. ⌜ (r .child ≡ faultOf (childTest (schemeIn s))) × (r .target ≡ faultOf (targetTest (schemeIn s))) ⌝ }
 {
     let n = s.count;
+    let mut child = Fault::Clean;
+    let mut target = Fault::Clean;
     let mut i: usize = 0;
     while i < n {
         let e = s.entries[i];
-        if lacks_target(s, e) {
-            return Fault::At(Refusal::NoTarget, i);
-        }
+        let c = noted(child, lacks_child(codes, e), Refusal::Childless, i);
+        let t = noted(target, lacks_target(codes, e), Refusal::NoTarget, i);
+        child = c;
+        target = t;
         i += 1;
     }
-    Fault::Clean
+    LinkFaults { child, target }
 }

@@ -1,9 +1,9 @@
 // A page filled with 7, and what writing to it or to its first bytes leaves there.
+use forms::memory::Patterns;
+use forms::memory::Scheme;
 use notation::patterns::write_patterns;
 use notation::schemes::write_scheme;
 use notation::written::Written;
-use forms::memory::Patterns;
-use forms::memory::Scheme;
 use test_support::parts::byte_at;
 use test_support::parts::lent;
 use test_support::parts::same;

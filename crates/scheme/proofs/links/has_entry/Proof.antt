@@ -1,15 +1,14 @@
--- `scheme::links::has_entry` meets its contract: a prefix is listed if it is found.
+-- `scheme::links::has_entry` meets its contract.
 -- Assumes nothing.
 use mathlib.Core.Path.{sym}
 use borrow.Author.Needs.{needs}
 use lib.ListN.{take}
-use Rattle.scheme.specs.Links.{prefixesIn}
 use Rattle.scheme.proofs.LookupLaws.{at-listed, nothing-listed}
 use Rattle.scheme.proofs.links.has_entry.Statement.{statement}
 use Rattle.scheme.proofs.links.has_entry.Tie as tie
 
-find-requires : tie.Need-find-requires
-find-requires c κs = search needs
+find-prefix-requires : tie.Need-find-prefix-requires
+find-prefix-requires c κs = search needs
 
 enum-told : tie.Need-enum-told
 enum-told c = search needs
@@ -19,15 +18,15 @@ enum-told-2 c = search needs
 
 returns : tie.Need-returns
 returns c =
-    let a = c .before .before .before .args in
-    let f = c .before .before .find in
-    sym (at-listed (prefixesIn (a .s)) (take (a .length) (a .prefix)) (f .result) (f .ensures) _ (c .enum-told .given .1))
+    let f = c .before .before .find-prefix in
+    let a = c .before .before .before .before .args in
+    λ ps w. sym (at-listed ps (take (a .length) (a .prefix)) (f .result) (f .ensures ps w) _ (c .enum-told .given .1))
 
 returns-2 : tie.Need-returns-2
 returns-2 c =
-    let a = c .before .before .before .args in
-    let f = c .before .before .find in
-    sym (nothing-listed (prefixesIn (a .s)) (take (a .length) (a .prefix)) (f .result) (f .ensures) (c .enum-told2 .given .1))
+    let f = c .before .before .find-prefix in
+    let a = c .before .before .before .before .args in
+    λ ps w. sym (nothing-listed ps (take (a .length) (a .prefix)) (f .result) (f .ensures ps w) (c .enum-told2 .given .1))
 
 pub has-entry-spec : {M : Type 1} → statement M
-has-entry-spec = tie.close (tie.spec find-requires enum-told enum-told-2 returns returns-2)
+has-entry-spec = tie.close (tie.spec find-prefix-requires enum-told enum-told-2 returns returns-2)

@@ -1,4 +1,4 @@
--- `scheme::links::lacks_target` meets its contract: by the rule of the entry.
+-- `scheme::links::lacks_target` meets its contract.
 -- Assumes nothing.
 use Prim.Native.Nat.{_≤_}
 use mathlib.Core.Path.{_≡_, sym, ap, _∙_}
@@ -8,9 +8,8 @@ use borrow.Author.Needs.{needs}
 use lib.ListN.{length, take}
 use Rattle.word.specs.Ceilings.{PREFIX}
 use Rattle.word.specs.Word.{isPerm}
-use Rattle.scheme.specs.WellFormed.{listed}
-use Rattle.scheme.specs.Links.{prefixesIn}
 use Rattle.forms.specs.MemoryLaws.{padded-within}
+use Rattle.scheme.specs.WellFormed.{listed}
 use Rattle.scheme.proofs.LookupLaws.{position-inside, delete-target}
 use Rattle.scheme.proofs.links.lacks_target.Statement.{statement}
 use Rattle.scheme.proofs.links.lacks_target.Tie as tie
@@ -23,38 +22,37 @@ enum-known-rule c = search needs
 
 shorter-requires : tie.Need-shorter-requires
 shorter-requires c κs =
-    let a = c .before .before .before .before .args in
-    let h = c .before .before .before .before .pre in
-    let six : length (a .e .prefix) ≡ PREFIX = search needs in
-    let short : a .e .length ≤ PREFIX = h .1 .short in
+    let start = c .before .before .before .before .before in
+    let e = start .args .e in
+    let six : length (e .prefix) ≡ PREFIX = search needs in
+    let short : e .length ≤ PREFIX = start .pre .short in
     let r = c .before .rule .given .0 .0 in
-    let at = position-inside (a .e .length) r (a .e .rule) (h .1 .inside) (c .before .rule .given .1) in
-    let perm : isPerm (take (a .e .length) (a .e .prefix)) ≡ true =
-    ap isPerm (sym (padded-within (a .e .length) (a .e .prefix) (omega arith))) ∙ h .1 .perm in
+    let at = position-inside (e .length) r (e .rule) (start .pre .inside) (c .before .rule .given .1) in
+    let perm : isPerm (take (e .length) (e .prefix)) ≡ true = ap isPerm (sym (padded-within (e .length) (e .prefix) (omega arith))) ∙ start .pre .perm in
     (at .0, at .1, short, perm)
 
 sub-has-entry : tie.Need-sub-has-entry
 sub-has-entry c =
-    let a = c .before .before .before .before .before .args in
-    let h = c .before .before .before .before .before .pre in
-    let r = c .before .before .rule .given .0 .0 in
-    omega (arith, position-inside (a .e .length) r (a .e .rule) (h .1 .inside) (c .before .before .rule .given .1))
+    let rule = c .before .before .rule in
+    let start = c .before .before .before .before .before .before in
+    let e = start .args .e in
+    omega (arith, position-inside (e .length) (rule .given .0 .0) (e .rule) (start .pre .inside) (rule .given .1))
 
 has-entry-requires : tie.Need-has-entry-requires
 has-entry-requires c κs = search needs
 
 returns : tie.Need-returns
-returns c = search needs
+returns c = λ ps w. search needs
 
 returns-2 : tie.Need-returns-2
 returns-2 c =
-    let a = c .before .before .before .before .before .before .args in
-    let h = c .before .before .before .before .before .before .pre in
-    let six : length (a .e .prefix) ≡ PREFIX = search needs in
-    let short : a .e .length ≤ PREFIX = h .1 .short in
-    let r = c .before .before .before .rule .given .0 .0 in
-    ap not (c .has-entry .ensures ∙ ap (listed (prefixesIn (a .s))) (c .before .shorter .ensures)) ∙
-    sym (delete-target (prefixesIn (a .s)) (a .e .prefix) (a .e .length) (a .e .rule) r (omega arith) (c .before .before .before .rule .given .1))
+    let rule = c .before .before .before .rule in
+    let start = c .before .before .before .before .before .before .before in
+    let e = start .args .e in
+    let six : length (e .prefix) ≡ PREFIX = search needs in
+    let short : e .length ≤ PREFIX = start .pre .short in
+    λ ps w. ap not (c .has-entry .ensures ps w ∙ ap (listed ps) (c .before .shorter .ensures)) ∙
+    sym (delete-target ps (e .prefix) (e .length) (e .rule) (rule .given .0 .0) (omega arith) (rule .given .1))
 
 pub lacks-target-spec : {M : Type 1} → statement M
 lacks-target-spec =

@@ -1,0 +1,15 @@
+-- `forms::order::fault_if` meets its contract.
+-- Assumes nothing.
+use mathlib.Core.Path.{refl}
+use borrow.Author.Needs.{needs}
+use Rattle.forms.proofs.order.fault_if.Statement.{statement}
+use Rattle.forms.proofs.order.fault_if.Tie as tie
+
+returns : tie.Need-returns
+returns c = rw (c .if1 .taken) refl
+
+returns-2 : tie.Need-returns-2
+returns-2 c = search needs
+
+pub fault-if-spec : {M : Type 1} → statement M
+fault-if-spec = tie.close (tie.spec returns returns-2)
