@@ -92,7 +92,7 @@ pub fn find_prefix(codes: &[u64], prefix: [u8; PREFIX], length: usize) -> Found
 }
 
 // Whether an entry has the first `length` digits as its prefix.
-fn has_entry(codes: &[u64], prefix: [u8; PREFIX], length: usize) -> bool
+pub fn has_entry(codes: &[u64], prefix: [u8; PREFIX], length: usize) -> bool
     requires { ⌜ length ≤ PREFIX ⌝ }
     ensures { λ r. ⌜ ListedIn (now (codes .entry)) (take length prefix) r ⌝ }
 {

@@ -12,16 +12,13 @@ use lib.Seq.{drop-cons, getD-take}
 use borrow.Author.Tests.{ltb-false, lt-ltb, le-ltb, eq-eqb, ne-eqb}
 use Rattle.word.specs.Ceilings.{ENTRIES, PREFIX, COMPONENTS, GAPS, TOTAL}
 use Rattle.word.specs.Lists.{any, row}
-use Rattle.word.specs.ListLaws.{any-map}
 use Rattle.word.specs.Finding.{Finding, clean, fault, test, firstFault}
 use Rattle.word.specs.declared.refusal.Refusal.the-variants.{Oversize}
-use Rattle.word.specs.Word.{isPerm}
 use Rattle.cell.specs.Cell.{same, total}
 use Rattle.forms.specs.SchemeList.{Does, EntryList}
-use Rattle.scheme.specs.WellFormed.{firstAt, listed, repeats, largeGap, largeEntry, twinEntry, wrongWidth, outside}
+use Rattle.scheme.specs.WellFormed.{firstAt, largeGap, largeEntry, wrongWidth, outside}
 use Rattle.forms.specs.SchemeMemory.{padded, noGap, noEntry, gapIn, doesOf, entryIn, gapAt, entryAt, schemeIn, faultOf}
 use Rattle.scheme.specs.Sized.{SizedEntry, Sized}
-use Rattle.scheme.specs.TestOrder.{seen}
 use Rattle.forms.specs.declared.memory.Gap.{Gap}
 use Rattle.forms.specs.declared.memory.Rule.{Rule}
 use Rattle.forms.specs.declared.memory.Rule.the-variants.{Delete}
@@ -30,8 +27,6 @@ use Rattle.forms.specs.declared.memory.Scheme.{Scheme}
 use Rattle.forms.specs.declared.memory.Fault.the-variants.{Clean}
 use Rattle.scheme.specs.TestLaws.{from, first-clean, any-clean, or-left, or-right, length-items, first-start, any-start, single, clean-of}
 use Rattle.forms.specs.MemoryLaws.{padded-within, length-padded}
-use Rattle.wellformed.specs.Twin.{nearestTwin}
-use Rattle.wellformed.specs.TwinLaws.{nearest-seen}
 
 -- the total of what is left of a vector
 module _ (p : List ℕ) (n : ℕ) (h : n ≤ length p) where
@@ -99,49 +94,6 @@ module _ (k : ℕ) (rule : Rule) (r : ℕ) (told : rule ≡ Delete r) where
 
 pub outside-length : (n : ℕ) (l : List ℕ) (d : Does) → outside (length (padded n l)) d ≡ outside n d
 outside-length n l d = rw (length-padded n l) refl
-
--- what tests 7 and 3 ask of an entry: a position outside, a prefix that is no permutation
-abbrev pub misplaced : EntryList → Bool
-misplaced e = outside (length (e .prefix)) (e .rule)
-
-abbrev pub noPerm : EntryList → Bool
-noPerm e = not (isPerm (e .prefix))
-
--- the empty prefix in test 5
-abbrev pub isRoot : EntryList → Bool
-isRoot e = same [] (e .prefix)
-
-pub root-by-entries : (s : Scheme) → listed (map (λ (e : EntryList). e .prefix) (schemeIn s)) [] ≡ any isRoot (from (entryAt s) (s .count) 0)
-root-by-entries s = any-map (same []) (λ (e : EntryList). e .prefix) (schemeIn s) ∙ any-start isRoot (entryAt s) (s .count)
-
-pub same-empty : (n : ℕ) (l : List ℕ) → n ≡ 0 → same [] (padded n l) ≡ true
-unfolding same
-same-empty n l e = rw e refl
-
-pub same-none : (n : ℕ) (l : List ℕ) → (n ≡ 0 → ⊥) → same [] (padded n l) ≡ false
-unfolding same
-same-none n l h = go (padded n l) (length-padded n l)
-  where
-    go : (q : List ℕ) → length q ≡ n → same [] q ≡ false
-    go [] e = absurd (h (sym e))
-    go (x ∷ q) e = refl
-
--- the prefixes of the entries before a place, the last first
-abbrev pub before : (ℕ → EntryList) → ℕ → List (List ℕ)
-before g i = map (λ (d : EntryList). d .prefix) (seen g i)
-
--- whether an earlier entry has the prefix p, from the place of the nearest one
-pub nearest-listed : (p : List ℕ) (g : ℕ → EntryList) (i r : ℕ) → r ≡ nearestTwin (λ j. same p ((g j) .prefix)) i → ltb r i ≡ listed (before g i) p
-nearest-listed p g i r e =
-    ap (λ (n : ℕ). ltb n i) e ∙ nearest-seen (λ (d : EntryList). same p (d .prefix)) g i ∙ sym (any-map (same p) (λ (d : EntryList). d .prefix) (seen g i))
-
--- a twin by its prefix, and else by its vectors
-module _ (seen : List EntryList) (e : EntryList) where
-  pub twin-prefix : listed (map (λ (d : EntryList). d .prefix) seen) (e .prefix) ≡ true → twinEntry seen e ≡ true
-  twin-prefix h = rw h refl
-
-  pub twin-gaps : listed (map (λ (d : EntryList). d .prefix) seen) (e .prefix) ≡ false → twinEntry seen e ≡ repeats (e .gaps)
-  twin-gaps h = rw h refl
 
 -- whether two lists are the same, from a place on
 module _ (a b : List ℕ) (e : length a ≡ length b) (i : ℕ) where

@@ -2,3 +2,4 @@
 pub mod PatternLaws
 pub mod OrderLaws
 pub mod EntryTestLaws
+pub mod PassLaws

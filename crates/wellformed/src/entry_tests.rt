@@ -1,4 +1,4 @@
-// The tests 2 to 7 of a scheme list in memory, each over the whole list: the first entry at fault.
+// The tests 2, 3, 4, 6 and 7 of one entry in memory, and test 2 over the whole list.
 use forms::memory::Entry;
 use forms::memory::Fault;
 use forms::memory::Gap;
@@ -13,7 +13,6 @@ use word::permutation::is_permutation;
 use word::refusal::Refusal;
 ghost use Prim.Native.Nat.{_+_, _-_, _≤_, _<_};
 ghost use mathlib.Core.Path.{_≡_};
-ghost use mathlib.Core.Bool.{not};
 ghost use mathlib.Core.List.{[], _∷_, map};
 ghost use lib.Dec.{ltb};
 ghost use lib.ListN.{length, getD};
@@ -21,12 +20,11 @@ ghost use Rattle.word.specs.Ceilings.{ENTRIES, COMPONENTS};
 ghost use Rattle.word.specs.Lists.{row};
 ghost use Rattle.word.specs.Word.{isPerm};
 ghost use Rattle.word.specs.Finding.{test, firstFault};
-ghost use Rattle.word.specs.declared.refusal.Refusal.the-variants.{Oversize, NoPermutation, Rootless, Width, NoPosition};
+ghost use Rattle.word.specs.declared.refusal.Refusal.the-variants.{Oversize};
 ghost use Rattle.cell.specs.Cell.{same};
-ghost use Rattle.scheme.specs.WellFormed.{firstAt, firstTwin, listed, repeats, largeGap, largeEntry, twinEntry, wrongWidth, outside};
-ghost use Rattle.forms.specs.SchemeMemory.{padded, noGap, noEntry, gapIn, doesOf, entryIn, schemeIn, faultOf};
-ghost use Rattle.scheme.specs.Sized.{SizedEntry, Sized};
-ghost use Rattle.wellformed.specs.Twin.{nearestTwin};
+ghost use Rattle.scheme.specs.WellFormed.{firstAt, listed, repeats, largeGap, largeEntry, wrongWidth, outside};
+ghost use Rattle.forms.specs.SchemeMemory.{padded, noGap, gapIn, doesOf, entryIn, schemeIn, faultOf};
+ghost use Rattle.scheme.specs.Sized.{SizedEntry};
 
 // Test 2: too many entries, and then the first entry that passes a ceiling.
 pub fn large_fault(s: Scheme) -> Fault
@@ -97,25 +95,8 @@ fn wide(x: u8) -> usize
     x as usize
 }
 
-// Test 3: the first entry whose prefix is no permutation.
-pub fn permutation_fault(s: Scheme) -> Fault
-    requires { ⌜ Sized s ⌝ }
-    ensures { λ r. ⌜ r ≡ faultOf (firstAt NoPermutation (λ e. not (isPerm (e .prefix))) 0 (schemeIn s)) ⌝ }
-{
-    let n = s.count;
-    let mut i: usize = 0;
-    while i < n {
-        let e = s.entries[i];
-        if !is_permuted(e) {
-            return Fault::At(Refusal::NoPermutation, i);
-        }
-        i += 1;
-    }
-    Fault::Clean
-}
-
 // Whether the prefix of the entry is a permutation.
-fn is_permuted(e: Entry) -> bool
+pub fn is_permuted(e: Entry) -> bool
     requires { ⌜ SizedEntry e ⌝ }
     ensures { λ r. ⌜ r ≡ isPerm (padded (e .length) (e .prefix)) ⌝ }
 {
@@ -124,59 +105,8 @@ fn is_permuted(e: Entry) -> bool
     is_permutation(&p[..k])
 }
 
-// Test 4: the first entry whose prefix an earlier entry has, or that has a vector twice.
-pub fn twin_fault(s: Scheme) -> Fault
-    requires { ⌜ Sized s ⌝ }
-    ensures { λ r. ⌜ r ≡ faultOf (firstTwin twinEntry 0 [] (schemeIn s)) ⌝ }
-{
-    let n = s.count;
-    let mut i: usize = 0;
-    while i < n {
-        let e = s.entries[i];
-        let twin = earlier_twin(s, i, e);
-        if twin < i {
-            // "for 4 the later twin" (01)
-            let later = i;
-            return Fault::At(Refusal::Repeated, later);
-        }
-        if has_twin_gaps(e) {
-            return Fault::At(Refusal::Repeated, i);
-        }
-        i += 1;
-    }
-    Fault::Clean
-}
-
-// The index of the nearest entry before the index i with the prefix of e, or i where there is none.
-fn earlier_twin(s: Scheme, i: usize, e: Entry) -> usize
-    requires { ⌜ Sized s × SizedEntry e × (i ≤ s .count) ⌝ }
-    ensures { λ r. ⌜ r ≡ nearestTwin (λ j. same (padded (e .length) (e .prefix)) ((entryIn (getD (s .entries) j noEntry)) .prefix)) i ⌝ }
-{
-    let mut j = i;
-    while 0 < j {
-        j -= 1;
-        let d = s.entries[j];
-        if same_prefix(e, d) {
-            return j;
-        }
-    }
-    i
-}
-
-// Whether the two entries have the same prefix.
-fn same_prefix(e: Entry, d: Entry) -> bool
-    requires { ⌜ SizedEntry e × SizedEntry d ⌝ }
-    ensures { λ r. ⌜ r ≡ same (padded (e .length) (e .prefix)) (padded (d .length) (d .prefix)) ⌝ }
-{
-    let k = e.length;
-    let p = e.prefix;
-    let n = d.length;
-    let q = d.prefix;
-    same_bytes(&p[..k], &q[..n])
-}
-
 // Whether a vector stands twice in the entry.
-fn has_twin_gaps(e: Entry) -> bool
+pub fn has_twin_gaps(e: Entry) -> bool
     requires { ⌜ SizedEntry e ⌝ }
     ensures { λ r. ⌜ r ≡ repeats (map (λ j. gapIn (getD (e .gaps) j noGap)) (row 0 (e .«gap_count»))) ⌝ }
 {
@@ -238,43 +168,8 @@ fn same_bytes(a: &[u8], b: &[u8]) -> bool
     true
 }
 
-// Test 5: whether no entry has the empty prefix.
-pub fn root_fault(s: Scheme) -> Fault
-    requires { ⌜ Sized s ⌝ }
-    ensures { λ r. ⌜ r ≡ faultOf (test Rootless (not (listed (map (λ e. e .prefix) (schemeIn s)) []))) ⌝ }
-{
-    let n = s.count;
-    let mut i: usize = 0;
-    while i < n {
-        let e = s.entries[i];
-        let k = e.length;
-        if k == 0 {
-            return Fault::Clean;
-        }
-        i += 1;
-    }
-    Fault::At(Refusal::Rootless, 0)
-}
-
-// Test 6: the first entry with a vector that has not k + 1 components.
-pub fn width_fault(s: Scheme) -> Fault
-    requires { ⌜ Sized s ⌝ }
-    ensures { λ r. ⌜ r ≡ faultOf (firstAt Width wrongWidth 0 (schemeIn s)) ⌝ }
-{
-    let n = s.count;
-    let mut i: usize = 0;
-    while i < n {
-        let e = s.entries[i];
-        if wrong_width(e) {
-            return Fault::At(Refusal::Width, i);
-        }
-        i += 1;
-    }
-    Fault::Clean
-}
-
 // Whether a vector of the entry has another number of components than one more than the prefix has.
-fn wrong_width(e: Entry) -> bool
+pub fn wrong_width(e: Entry) -> bool
     requires { ⌜ SizedEntry e ⌝ }
     ensures { λ r. ⌜ r ≡ wrongWidth (entryIn e) ⌝ }
 {
@@ -292,27 +187,8 @@ fn wrong_width(e: Entry) -> bool
     false
 }
 
-// Test 7: the first entry that deletes a position outside 1 to k.
-pub fn position_fault(s: Scheme) -> Fault
-    requires { ⌜ Sized s ⌝ }
-    ensures { λ r. ⌜ r ≡ faultOf (firstAt NoPosition (λ e. outside (length (e .prefix)) (e .rule)) 0 (schemeIn s)) ⌝ }
-{
-    let n = s.count;
-    let mut i: usize = 0;
-    while i < n {
-        let e = s.entries[i];
-        let k = e.length;
-        let rule = e.rule;
-        if is_outside(k, rule) {
-            return Fault::At(Refusal::NoPosition, i);
-        }
-        i += 1;
-    }
-    Fault::Clean
-}
-
 // Whether the rule deletes a position outside 1 to k.
-fn is_outside(k: usize, rule: Rule) -> bool
+pub fn is_outside(k: usize, rule: Rule) -> bool
     ensures { λ r. ⌜ r ≡ outside k (doesOf rule) ⌝ }
 {
     match rule {

@@ -1,0 +1,68 @@
+-- `wellformed::entry_pass::with_entry` meets its contract: each test notes the entry.
+-- Assumes nothing.
+use mathlib.Core.Path.{ap, sym, _∙_}
+use mathlib.Core.Bool.{Bool, not}
+use borrow.Author.Needs.{needs}
+use Rattle.word.specs.declared.refusal.Refusal.{Refusal}
+use Rattle.word.specs.declared.refusal.Refusal.the-variants.{NoPermutation, Repeated, Width, NoPosition}
+use Rattle.forms.specs.SchemeMemory.{orElse, faultIf, doesOf}
+use Rattle.wellformed.proofs.EntryTestLaws.{outside-length}
+use Rattle.wellformed.proofs.entry_pass.with_entry.Statement.{statement}
+use Rattle.wellformed.proofs.entry_pass.with_entry.Tie as tie
+
+is-permuted-requires : tie.Need-is-permuted-requires
+is-permuted-requires c κs = search needs
+
+noted-requires : tie.Need-noted-requires
+noted-requires c κs = search needs
+
+is-twin-requires : tie.Need-is-twin-requires
+is-twin-requires c κs = search needs
+
+noted-requires-2 : tie.Need-noted-requires-2
+noted-requires-2 c κs = search needs
+
+wrong-width-requires : tie.Need-wrong-width-requires
+wrong-width-requires c κs = search needs
+
+noted-requires-3 : tie.Need-noted-requires-3
+noted-requires-3 c κs = search needs
+
+is-outside-requires : tie.Need-is-outside-requires
+is-outside-requires c κs = search needs
+
+noted-requires-4 : tie.Need-noted-requires-4
+noted-requires-4 c κs = search needs
+
+returns : tie.Need-returns
+returns c =
+    let d = c .before in
+    let c3 = d .before in
+    let w = c3 .before in
+    let b2 = w .before in
+    let t = b2 .before in
+    let a1 = t .before in
+    let p = a1 .before in
+    let a = p .before .before .args in
+    let e = a .e in
+    record {
+      none = a1 .noted .ensures ∙ ap (λ (x : Bool). orElse (a .found .none) (faultIf (not x) NoPermutation (a .i))) (p .is-permuted .ensures);
+      twin = b2 .noted2 .ensures ∙ ap (λ (x : Bool). orElse (a .found .twin) (faultIf x Repeated (a .i))) (t .is-twin .ensures);
+      width = c3 .noted3 .ensures ∙ ap (λ (x : Bool). orElse (a .found .width) (faultIf x Width (a .i))) (w .wrong-width .ensures);
+      position = c .noted4 .ensures ∙ ap (λ (x : Bool). orElse (a .found .position) (faultIf x NoPosition (a .i)))
+          (d .is-outside .ensures ∙ sym (outside-length (e .length) (e .prefix) (doesOf (e .rule))));
+    }
+
+pub with-entry-spec : {M : Type 1} → statement M
+with-entry-spec =
+    tie.close
+    (tie.spec
+    is-permuted-requires
+    noted-requires
+    is-twin-requires
+    noted-requires-2
+    wrong-width-requires
+    noted-requires-3
+    is-outside-requires
+    noted-requires-4
+    returns)
