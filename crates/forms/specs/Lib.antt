@@ -2,6 +2,8 @@
 pub mod SchemeList
 pub mod SchemeMemory
 pub mod Codes
+pub mod GapForm
+pub mod GapFormLaws
 pub mod MemoryLaws
 pub mod ToldLaws
 pub mod CodeLaws

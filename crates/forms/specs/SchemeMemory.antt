@@ -1,8 +1,9 @@
 -- The lists that patterns and schemes in memory stand for, and findings in memory. Definitions only.
-use Prim.Native.Nat.{ℕ}
+use Prim.Native.Nat.{ℕ, _*_}
 use mathlib.Core.Bool.{Bool, true, false}
 use mathlib.Core.List.{List, [], map, _++_}
-use lib.ListN.{getD, take, replicate}
+use lib.ListN.{getD, take, drop, replicate}
+use Rattle.word.specs.Ceilings.{COMPONENTS}
 use Rattle.word.specs.Lists.{row}
 use Rattle.word.specs.Finding.{Finding, clean, fault}
 use Rattle.word.specs.Told.{Told, toldBy}
@@ -26,11 +27,8 @@ padded n l = take n (l ++ replicate n 0)
 abbrev pub noPattern : Pattern
 noPattern = record { digits = []; length = 0 }
 
-abbrev pub noGap : Gap
-noGap = record { parts = []; width = 0 }
-
 abbrev pub noEntry : Entry
-noEntry = record { prefix = []; length = 0; gaps = []; «gap_count» = 0; rule = Expand }
+noEntry = record { prefix = []; length = 0; gaps = []; widths = []; «gap_count» = 0; rule = Expand }
 
 abbrev pub patternIn : Pattern → List ℕ
 patternIn p = padded (p .length) (p .digits)
@@ -41,6 +39,14 @@ patternsIn s = map (λ i. patternIn (getD (s .items) i noPattern)) (row 0 (s .co
 abbrev pub gapIn : Gap → List ℕ
 gapIn b = padded (b .width) (b .parts)
 
+-- the components at index j of an array that has COMPONENTS places for each vector
+abbrev pub partsAt : List ℕ → ℕ → List ℕ
+partsAt l j = take COMPONENTS (drop (COMPONENTS * j) l)
+
+-- the gap vector of an entry with index j
+abbrev pub gapAt : Entry → ℕ → List ℕ
+gapAt e j = padded (getD (e .widths) j 0) (partsAt (e .gaps) j)
+
 abbrev pub doesOf : Rule → Does
 doesOf Expand = expands
 doesOf (Delete r) = deletes r
@@ -49,17 +55,14 @@ abbrev pub entryIn : Entry → EntryList
 entryIn e =
     record {
       prefix = padded (e .length) (e .prefix);
-      gaps = map (λ i. gapIn (getD (e .gaps) i noGap)) (row 0 (e .«gap_count»));
+      gaps = map (gapAt e) (row 0 (e .«gap_count»));
       rule = doesOf (e .rule);
     }
 
 abbrev pub schemeIn : Scheme → List EntryList
 schemeIn s = map (λ i. entryIn (getD (s .entries) i noEntry)) (row 0 (s .count))
 
--- the vector of an entry, and the entry of a scheme, at an index
-abbrev pub gapAt : Entry → ℕ → List ℕ
-gapAt e j = gapIn (getD (e .gaps) j noGap)
-
+-- the entry of a scheme at an index
 abbrev pub entryAt : Scheme → ℕ → EntryList
 entryAt s i = entryIn (getD (s .entries) i noEntry)
 

@@ -1,5 +1,6 @@
 // The memory forms: patterns, entries, schemes and findings, the lists that they stand for, and a
 // prefix as one number.
 pub mod codes;
+pub mod gaps;
 pub mod memory;
 pub mod order;

@@ -3,6 +3,7 @@ use word::limits::COMPONENTS;
 use word::limits::DIGITS;
 use word::limits::ENTRIES;
 use word::limits::GAPS;
+use word::limits::PARTS;
 use word::limits::PATTERNS;
 use word::limits::PREFIX;
 use word::refusal::Refusal;
@@ -21,7 +22,7 @@ pub struct Patterns {
     pub count: usize,
 }
 
-// The components of a gap vector, and how many they are.
+// One gap vector: its components, and how many they are.
 pub struct Gap {
     pub parts: [u8; COMPONENTS],
     pub width: usize,
@@ -33,11 +34,14 @@ pub enum Rule {
     Delete(usize),
 }
 
-// An entry of a scheme: its prefix, its gap vectors, its rule.
+// An entry of a scheme: its prefix, its gap vectors, its rule. The components of all gap vectors
+// stand in one array, COMPONENTS places for each; the widths say how many components each has, and
+// 255 stands for every number beyond.
 pub struct Entry {
     pub prefix: [u8; PREFIX],
     pub length: usize,
-    pub gaps: [Gap; GAPS],
+    pub gaps: [u8; PARTS],
+    pub widths: [u8; GAPS],
     pub gap_count: usize,
     pub rule: Rule,
 }

@@ -2,7 +2,7 @@
 use Prim.Native.Nat.{ℕ, _≤_, _<_}
 use lib.ListN.{getD}
 use Rattle.word.specs.Ceilings.{ENTRIES, PREFIX, COMPONENTS, GAPS}
-use Rattle.forms.specs.SchemeMemory.{noGap, noEntry}
+use Rattle.forms.specs.SchemeMemory.{noEntry}
 use Rattle.forms.specs.declared.memory.Entry.{Entry}
 use Rattle.forms.specs.declared.memory.Scheme.{Scheme}
 
@@ -10,7 +10,7 @@ use Rattle.forms.specs.declared.memory.Scheme.{Scheme}
 pub record SizedEntry (e : Entry) : Type 0 where
   pub short : e .length ≤ PREFIX
   pub few : e .«gap_count» ≤ GAPS
-  pub narrow : (j : ℕ) → j < e .«gap_count» → (getD (e .gaps) j noGap) .width ≤ COMPONENTS
+  pub narrow : (j : ℕ) → j < e .«gap_count» → getD (e .widths) j 0 ≤ COMPONENTS
 
 -- the entries that the count names are in the array, and each is sized
 pub record Sized (s : Scheme) : Type 0 where

@@ -1,17 +1,20 @@
 -- Laws on the readers of gap vectors: components and vectors in memory, one more of them, and the marks around them.
 -- Assumes nothing.
-use Prim.Native.Nat.{ℕ, suc, _+_, _≤_, _<_}
+use Prim.Native.Nat.{ℕ, suc, _+_, _*_, _≤_, _<_}
 use native.Mathlib.Numerals.{add-one}
 use native.Mathlib.Omega.{arith}
 use mathlib.Core.Path.{_≡_, refl, sym, ap, ap₂, _∙_, subst}
 use mathlib.Core.Logic.{_⊎_, inl, inr}
 use mathlib.Core.Bool.{Bool, true, false, cond, true≢false, false≢true}
-use mathlib.Core.List.{List, [], _∷_, _++_}
+use mathlib.Core.List.{List, [], _∷_, _++_, map, append-nil}
 use lib.ListN.{length, drop, set}
-use lib.Seq.{set-out}
+use lib.Seq.{set-out, sets}
 use lib.Dec.{leb}
 use borrow.Author.Tests.{le-leb, lt-leb, ne-eqb}
-use Rattle.word.specs.ListLaws.{below-or-not}
+use Rattle.word.specs.Ceilings.{COMPONENTS, GAPS, PARTS}
+use Rattle.word.specs.Lists.{each}
+use Rattle.word.specs.ListLaws.{below-or-not, each-append, length-each}
+use Rattle.forms.specs.GapFormLaws.{sets-out}
 use Rattle.forms.specs.declared.memory.Gap.{Gap}
 use Rattle.text_grammar.specs.declared.cursor.Cursor.{Cursor}
 use Rattle.text_grammar.specs.declared.cursor.Kind.{Kind}
@@ -29,15 +32,15 @@ use Rattle.text_grammar.specs.TokenLaws.{tokens-end}
 use Rattle.text_grammar.specs.Grammar.{Read, misspelt, got, after, code, same, fail, pick, follow, items, inBraces, readNumber, readVector}
 use Rattle.text_grammar.specs.GrammarLaws.{items-step, number-read, vector-read}
 use Rattle.text_grammar.specs.Cursor.{Stepped, tokensBy, Beyond}
-use Rattle.text_gaps.specs.GapMemory.{partOf, gapOf}
+use Rattle.text_gaps.specs.GapMemory.{partOf, partsOf, gapOf, partsOfAll, widthsOf}
 use Rattle.text_gaps.specs.PartReading.{found, kept, loadedGaps, NumberAt, GapAt, GapsAt}
 use Rattle.text_gaps.specs.ItemReading.{turnInBraces, turnInVector, goesOn, isDone, Within, Ready, Advanced}
 use Rattle.text_gaps.specs.GapReading.{storedPart, storedGap, itself, goingGap, goingGaps, PartsAt, VectorsAt}
 use Rattle.text_gaps.proofs.TextItemLaws.{same-byte, vector-turn, braces-turn, at-end, item-wrong, item-stored, kept-same}
 use Rattle.text_grammar.specs.Kinds.{isLeft, isEmpty, isByte}
 use Rattle.text_grammar.specs.KindLaws.{is-left, is-empty, is-byte}
-use Rattle.text_patterns.specs.PatternMemory.{added}
-use Rattle.text_patterns.proofs.FilledLaws.{length-more, filled-more, added-whole}
+use Rattle.text_patterns.specs.PatternMemory.{filled, added}
+use Rattle.text_patterns.proofs.FilledLaws.{length-filled, sets-filled, length-more, filled-more, added-whole}
 use Rattle.text_patterns.specs.PatternReading.{no-empty}
 
 -- one item more in memory
@@ -57,14 +60,17 @@ part-kept m n b e = ap₂ (λ (x w : ℕ). gapMade (set (m .parts) (m .width) x)
 pub part-counted : (m : Gap) (n : ℕ) → length (m .parts) ≤ m .width → gapMade (m .parts) (m .width + 1) ≡ storedPart m n
 part-counted m n h = ap₂ gapMade (sym (set-out (m .parts) (m .width) (partOf n) h)) (add-one (m .width))
 
-abbrev gapsMade : List Gap → ℕ → Gaps
-gapsMade l n = record { items = l; count = n }
+abbrev gapsMade : List ℕ → List ℕ → ℕ → Gaps
+gapsMade l w n = record { parts = l; widths = w; count = n }
 
-pub gap-kept : (m : Gaps) (g : Gap) → gapsMade (set (m .items) (m .count) g) (m .count + 1) ≡ storedGap m g
-gap-kept m g = ap (λ (n : ℕ). gapsMade (set (m .items) (m .count) g) n) (add-one (m .count))
+pub gap-kept : (m : Gaps) (g : Gap) (l : List ℕ) (b : ℕ) → l ≡ sets (m .parts) (COMPONENTS * m .count) (g .parts) → b ≡ partOf (g .width)
+    → gapsMade l (set (m .widths) (m .count) b) (m .count + 1) ≡ storedGap m g
+gap-kept m g l b e f = rw (e, f, add-one (m .count)) refl
 
-pub gap-counted : (m : Gaps) (g : Gap) → length (m .items) ≤ m .count → gapsMade (m .items) (m .count + 1) ≡ storedGap m g
-gap-counted m g h = ap₂ gapsMade (sym (set-out (m .items) (m .count) g h)) (add-one (m .count))
+pub gap-counted : (m : Gaps) (g : Gap) → length (m .parts) ≤ COMPONENTS * m .count → length (m .widths) ≤ m .count
+    → gapsMade (m .parts) (m .widths) (m .count + 1) ≡ storedGap m g
+gap-counted m g h k =
+    rw (sets-out (m .parts) (COMPONENTS * m .count) (g .parts) h, set-out (m .widths) (m .count) (partOf (g .width)) k, add-one (m .count)) refl
 
 -- components and vectors
 
@@ -114,9 +120,16 @@ module _ (s : List ℕ) (t : Turn) (m : Gaps) (at : ℕ) (ready : Ready s t (m .
 part-next : (l : List ℕ) (n : ℕ) → storedPart (gapOf l) (itself n) ≡ gapOf (l ++ (n ∷ []))
 part-next l n = ap₂ gapMade (filled-more 7 0 partOf l n) (length-more l n)
 
+-- the places of one vector more stand behind those before it
+parts-more : (l : List (List ℕ)) (b : List ℕ) → sets (filled PARTS 0 (each partsOf l)) (COMPONENTS * length l) (partsOf b) ≡ filled PARTS 0 (each partsOf (l ++ (b ∷ [])))
+parts-more l b =
+    let places : COMPONENTS * length l ≡ length (each partsOf l) = omega (arith, length-each partsOf COMPONENTS l (λ (d : List ℕ). length-filled COMPONENTS 0 (map partOf d))) in
+    rw (places, sets-filled PARTS 0 (each partsOf l) (partsOf b), each-append partsOf l (b ∷ []), append-nil (partsOf b)) refl
+
 gap-next : (l : List (List ℕ)) (b : List ℕ) → storedGap (loadedGaps l) (gapOf b) ≡ loadedGaps (l ++ (b ∷ []))
-unfolding loadedGaps
-gap-next l b = ap₂ gapsMade (filled-more 8 (gapOf []) gapOf l b) (length-more l b)
+unfolding loadedGaps partsOfAll widthsOf
+gap-next l b =
+    rw (parts-more l b, filled-more GAPS 0 (λ (d : List ℕ). partOf (length d)) l b, length-more l b) refl
 
 pub parts-start : (g : Gap) (ts : List Token) → g ≡ gapOf [] → goingGap More g ts ≡ kept gapOf (items readNumber right ts)
 unfolding goingGap

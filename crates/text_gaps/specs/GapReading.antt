@@ -1,10 +1,12 @@
 -- What the readers of numbers and gap vectors promise of their parts: a digit, a number, one item more, the items of a list. Definitions only.
-use Prim.Native.Nat.{ℕ, suc, _≤_}
+use Prim.Native.Nat.{ℕ, suc, _*_, _≤_}
 use mathlib.Core.Path.{_≡_}
 use mathlib.Core.Bool.{Bool, true, false}
 use mathlib.Core.List.{List}
 use mathlib.Core.Option.{Option, none, some}
 use lib.ListN.{length, drop, getD, set}
+use lib.Seq.{sets}
+use Rattle.word.specs.Ceilings.{COMPONENTS}
 use Rattle.forms.specs.declared.memory.Gap.{Gap}
 use Rattle.text_grammar.specs.Spelling.{Token, right, byte}
 use Rattle.text_grammar.specs.Tokens.{tokens}
@@ -45,7 +47,12 @@ abbrev pub storedPart : Gap → ℕ → Gap
 storedPart m n = record { parts = set (m .parts) (m .width) (partOf n); width = suc (m .width) }
 
 abbrev pub storedGap : Gaps → Gap → Gaps
-storedGap m g = record { items = set (m .items) (m .count) g; count = suc (m .count) }
+storedGap m g =
+    record {
+      parts = sets (m .parts) (COMPONENTS * m .count) (g .parts);
+      widths = set (m .widths) (m .count) (partOf (g .width));
+      count = suc (m .count);
+    }
 
 -- what is read in all
 

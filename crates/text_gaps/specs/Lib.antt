@@ -1,5 +1,6 @@
 -- The definitions of the crate text_gaps.
 pub mod GapMemory
+pub mod GapMemoryLaws
 pub mod PartReading
 pub mod ItemReading
 pub mod GapReading

@@ -2,14 +2,12 @@
 use Prim.Native.Nat.{ℕ, _≤_, _<_}
 use mathlib.Core.Path.{_≡_}
 use mathlib.Core.Bool.{Bool, true, false}
-use mathlib.Core.List.{List, [], map}
+use mathlib.Core.List.{List, []}
 use lib.ListN.{length, drop}
-use Rattle.word.specs.Ceilings.{GAPS}
 use Rattle.text_grammar.specs.Spelling.{Token}
 use Rattle.text_grammar.specs.Tokens.{tokens}
 use Rattle.text_grammar.specs.Grammar.{Read, misspelt, got, readNumber, readVector, inBraces}
-use Rattle.text_patterns.specs.PatternMemory.{filled}
-use Rattle.text_gaps.specs.GapMemory.{gapOf}
+use Rattle.text_gaps.specs.GapMemory.{gapOf, partsOfAll, widthsOf}
 use Rattle.text_gaps.specs.declared.parts.NumberRead.{NumberRead}
 use Rattle.text_gaps.specs.declared.parts.GapRead.{GapRead}
 use Rattle.text_gaps.specs.declared.parts.Gaps.{Gaps}
@@ -31,7 +29,7 @@ pub record Moved (s : List ℕ) (at next : ℕ) (spelt : Bool) : Type 0 where
   pub inside : at ≤ length s → next ≤ length s
 
 unfoldable pub loadedGaps : List (List ℕ) → Gaps
-loadedGaps g = record { items = filled GAPS (gapOf []) (map gapOf g); count = length g }
+loadedGaps g = record { parts = partsOfAll g; widths = widthsOf g; count = length g }
 
 pub record NumberAt (s : List ℕ) (at : ℕ) (r : NumberRead) : Type 0 where
   pub gives : readNumber (tokens (drop at s)) ≡ found (r .spelt) (r .value) (tokens (drop (r .next .at) s))

@@ -3,6 +3,8 @@ use crate::parts::GapRead;
 use crate::parts::Gaps;
 use crate::parts::GapsRead;
 use crate::parts::NumberRead;
+use forms::gaps::wide;
+use forms::gaps::with_gap;
 use forms::memory::Gap;
 use text_grammar::cursor::Cursor;
 use text_grammar::cursor::Kind;
@@ -13,6 +15,7 @@ use text_grammar::kinds::is_left;
 use text_grammar::kinds::is_right;
 use word::limits::COMPONENTS;
 use word::limits::GAPS;
+use word::limits::PARTS;
 ghost use mathlib.Core.Path.{_≡_};
 ghost use Prim.Native.Nat.{_<_, _≤_};
 ghost use mathlib.Core.List.{[]};
@@ -129,13 +132,6 @@ fn digit_of(s: &[u8], from: usize, i: usize) -> usize
     wide(s[k] - b'0')
 }
 
-// A byte as a number of the width of places.
-fn wide(x: u8) -> usize
-    ensures { λ r. ⌜ r ≡ x ⌝ }
-{
-    x as usize
-}
-
 // The gap vector from a cursor on.
 fn gap_at(s: &[u8], c: Cursor) -> GapRead
     ensures { λ r. ⌜ GapAt (now (s .entry)) (c .at) r ⌝ }
@@ -230,7 +226,7 @@ fn stored_part(gap: Gap, n: usize) -> Gap
     }
 }
 
-// A component as a byte: 255 stands for every number beyond.
+// A component, or a number of components, as a byte: 255 stands for every number beyond.
 fn part(n: usize) -> u8
     ensures { λ r. ⌜ r ≡ partOf n ⌝ }
 {
@@ -336,17 +332,23 @@ fn stored_gap(gaps: Gaps, g: Gap) -> Gaps
     requires { ⌜ gaps .count < 18446744073709551615 ⌝ }
     ensures { λ r. ⌜ r ≡ storedGap gaps g ⌝ }
 {
-    let mut items = gaps.items;
+    let parts = gaps.parts;
+    let mut widths = gaps.widths;
     let n = gaps.count;
     if n < GAPS {
-        items[n] = g;
+        let item = g.parts;
+        let stored = with_gap(parts, n, item);
+        let w = part(g.width);
+        widths[n] = w;
         return Gaps {
-            items,
+            parts: stored,
+            widths,
             count: n + 1,
         };
     }
     Gaps {
-        items,
+        parts,
+        widths,
         count: n + 1,
     }
 }
@@ -356,10 +358,8 @@ fn no_gaps() -> Gaps
     ensures { λ r. ⌜ r ≡ loadedGaps [] ⌝ }
 {
     Gaps {
-        items: [Gap {
-            parts: [0u8; COMPONENTS],
-            width: 0,
-        }; GAPS],
+        parts: [0u8; PARTS],
+        widths: [0u8; GAPS],
         count: 0,
     }
 }

@@ -2,6 +2,7 @@
 use forms::memory::Gap;
 use text_grammar::cursor::Cursor;
 use word::limits::GAPS;
+use word::limits::PARTS;
 
 // A number of one to three digits.
 pub struct NumberRead {
@@ -17,9 +18,10 @@ pub struct GapRead {
     pub next: Cursor,
 }
 
-// Gap vectors: the true number of them, the first eight kept.
+// Gap vectors, as an entry keeps them: the true number of them, the first GAPS kept.
 pub struct Gaps {
-    pub items: [Gap; GAPS],
+    pub parts: [u8; PARTS],
+    pub widths: [u8; GAPS],
     pub count: usize,
 }
 

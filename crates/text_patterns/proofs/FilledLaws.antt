@@ -8,7 +8,7 @@ use mathlib.Core.Bool.{Bool, true, false, cond}
 use mathlib.Core.List.{List, [], _∷_, _++_, map, map-append, append-nil, append-assoc}
 use mathlib.Core.Option.{Option, none, some}
 use lib.ListN.{length, getD, take, drop, set, length-map, length-drop}
-use lib.Seq.{length-take-le, take-suc, take-all, getD-drop, set-out}
+use lib.Seq.{length-take-le, take-suc, take-all, getD-drop, set-out, sets}
 use Rattle.forms.specs.declared.memory.Pattern.{Pattern}
 use Rattle.forms.specs.declared.memory.Patterns.{Patterns}
 use Rattle.text_grammar.specs.Tokens.{isDigit, run}
@@ -23,10 +23,19 @@ module _ {A : Type 0} where
   length-filled (suc n) z (x ∷ l) = ap suc (length-filled n z l)
 
   -- one element more
+  pub length-more : (l : List A) (x : A) → suc (length l) ≡ length (l ++ (x ∷ []))
+  length-more [] x = refl
+  length-more (y ∷ l) x = ap suc (length-more l x)
+
   pub set-filled : (n : ℕ) (z : A) (l : List A) (a : A) → set (filled n z l) (length l) a ≡ filled n z (l ++ (a ∷ []))
   set-filled zero z l a = refl
   set-filled (suc n) z [] a = refl
   set-filled (suc n) z (x ∷ l) a = ap (λ (r : List A). x ∷ r) (set-filled n z l a)
+
+  -- some elements more
+  pub sets-filled : (n : ℕ) (z : A) (l xs : List A) → sets (filled n z l) (length l) xs ≡ filled n z (l ++ xs)
+  sets-filled n z l [] = rw (append-nil l) refl
+  sets-filled n z l (x ∷ xs) = rw (set-filled n z l x, length-more l x, sets-filled n z (l ++ (x ∷ [])) xs, append-assoc l (x ∷ []) xs) refl
 
   -- the first n elements are what is held
   pub filled-take : (n : ℕ) (z : A) (l : List A) → filled n z (take n l) ≡ filled n z l
@@ -86,11 +95,6 @@ stored-kept m p = ap (λ (n : ℕ). made (set (m .items) (m .count) p) n) (add-o
 
 pub stored-counted : (m : Patterns) (p : Pattern) → length (m .items) ≤ m .count → made (m .items) (m .count + 1) ≡ storedIn m p
 stored-counted m p h = ap₂ made (sym (set-out (m .items) (m .count) p h)) (add-one (m .count))
-
--- one item more
-pub length-more : {A : Type 0} (l : List A) (x : A) → suc (length l) ≡ length (l ++ (x ∷ []))
-length-more [] x = refl
-length-more (y ∷ l) x = ap suc (length-more l x)
 
 pub filled-more : {A B : Type 0} (n : ℕ) (z : B) (f : A → B) (l : List A) (x : A) → set (filled n z (map f l)) (length l) (f x) ≡ filled n z (map f (l ++ (x ∷ [])))
 filled-more {B = B} n z f l x =

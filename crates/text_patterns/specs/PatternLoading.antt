@@ -27,14 +27,23 @@ row-shift : {A : Type 0} (f : ℕ → A) (a n : ℕ) → map f (row (suc a) n) �
 row-shift f a zero = refl
 row-shift f a (suc n) = ap (λ (l : List _). f (suc a) ∷ l) (row-shift f (suc a) n)
 
--- an array with room for a list keeps its elements
+-- what stands at the places of a list, one after the other
+pub places-same : {A B : Type 0} (g : ℕ → B) (f : A → B) (d : A) (l : List A) → ((i : ℕ) → i < length l → g i ≡ f (getD l i d))
+    → map g (row 0 (length l)) ≡ map f l
+places-same g f d [] h = refl
+places-same g f d (x ∷ l) h =
+    ap₂ _∷_ (h 0 (omega arith)) (row-shift g 0 (length l) ∙ places-same (λ i. g (suc i)) f d l (λ i k. h (suc i) (omega arith)))
+
+-- an array with room for an element of a list keeps it
+pub filled-at : {A : Type 0} (z d : A) (n : ℕ) (l : List A) (i : ℕ) → i < length l → i < n → getD (filled n z l) i d ≡ getD l i d
+filled-at z d zero l i h k = absurd (omega arith)
+filled-at z d (suc n) [] i h k = absurd (omega arith)
+filled-at z d (suc n) (x ∷ l) zero h k = refl
+filled-at z d (suc n) (x ∷ l) (suc i) h k = filled-at z d n l i (omega arith) (omega arith)
+
 places-filled : {A B : Type 0} (g : A → B) (z d : A) (n : ℕ) (l : List A) → length l ≤ n
     → map (λ i. g (getD (filled n z l) i d)) (row 0 (length l)) ≡ map g l
-places-filled g z d n [] h = refl
-places-filled g z d zero (x ∷ l) h = absurd (omega arith)
-places-filled g z d (suc n) (x ∷ l) h =
-    ap (λ (m : List _). g x ∷ m)
-    (row-shift (λ i. g (getD (x ∷ filled n z l) i d)) 0 (length l) ∙ places-filled g z d n l (omega arith))
+places-filled g z d n l h = places-same (λ i. g (getD (filled n z l) i d)) g d l (λ i k. ap g (filled-at z d n l i k (omega arith)))
 
 -- an array with n places, into which the elements of a list are put and from which as many are taken
 module _ {A B C : Type 0} (put : A → B) (taken : B → C) (z d : B) (n : ℕ) (l : List A) where

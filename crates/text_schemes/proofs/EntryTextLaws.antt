@@ -422,7 +422,7 @@ entry-parts ts =
     ∙ expect-post (byte 0x28) (λ a. after (readPerm a) (λ p b. expect comma (got p) b)) then-middle ts
 
 abbrev entry-made : Prefix → Gaps → Rule → Entry
-entry-made p g m = record { prefix = p .digits; length = p .length; gaps = g .items; «gap_count» = g .count; rule = m }
+entry-made p g m = record { prefix = p .digits; length = p .length; gaps = g .parts; widths = g .widths; «gap_count» = g .count; rule = m }
 
 entry-loaded : (p : List ℕ) (g : List (List ℕ)) (m : Does) (x : Prefix) (y : Gaps) (z : Rule) → prefixOf p ≡ x → loadedGaps g ≡ y → ruleOf m ≡ z
     → entryOf (entry-with p g m) ≡ entry-made x y z

@@ -2,14 +2,14 @@
 -- of each vector the first 7 components. Definitions only.
 use mathlib.Core.List.{List, [], map}
 use lib.ListN.{length}
-use Rattle.word.specs.Ceilings.{ENTRIES, PREFIX, GAPS}
+use Rattle.word.specs.Ceilings.{ENTRIES, PREFIX}
 use Rattle.forms.specs.SchemeList.{Does, expands, deletes, EntryList}
 use Rattle.forms.specs.declared.memory.Rule.{Rule}
 use Rattle.forms.specs.declared.memory.Rule.the-variants.{Expand, Delete}
 use Rattle.forms.specs.declared.memory.Entry.{Entry}
 use Rattle.forms.specs.declared.memory.Scheme.{Scheme}
 use Rattle.text_patterns.specs.PatternMemory.{filled}
-use Rattle.text_gaps.specs.GapMemory.{gapOf}
+use Rattle.text_gaps.specs.GapMemory.{partsOfAll, widthsOf}
 
 abbrev pub ruleOf : Does → Rule
 ruleOf expands = Expand
@@ -20,7 +20,8 @@ entryOf e =
     record {
       prefix = filled PREFIX 0 (e .prefix);
       length = length (e .prefix);
-      gaps = filled GAPS (gapOf []) (map gapOf (e .gaps));
+      gaps = partsOfAll (e .gaps);
+      widths = widthsOf (e .gaps);
       «gap_count» = length (e .gaps);
       rule = ruleOf (e .rule);
     }

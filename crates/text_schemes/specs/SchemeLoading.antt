@@ -17,13 +17,14 @@ use Rattle.word.specs.declared.refusal.Refusal.the-variants.{NoPermutation, Roo
 use Rattle.cell.specs.Cell.{total}
 use Rattle.forms.specs.SchemeList.{Does, expands, deletes, EntryList}
 use Rattle.scheme.specs.WellFormed.{firstAt, firstTwin, listed, largeGap, largeEntry, twinEntry, wrongWidth, outside, lacksChild, lacksTarget, schemeTests}
-use Rattle.forms.specs.SchemeMemory.{padded, noGap, noEntry, gapIn, doesOf, entryIn, schemeIn}
+use Rattle.forms.specs.SchemeMemory.{padded, partsAt, noEntry, doesOf, entryIn, schemeIn}
 use Rattle.text_patterns.specs.PatternMemory.{filled}
-use Rattle.text_patterns.specs.PatternLoading.{places-length, places-kept, take-filled, sized-faults, sized-same}
-use Rattle.text_gaps.specs.GapMemory.{partOf, gapOf}
+use Rattle.text_patterns.specs.PatternLoading.{places-same, places-length, places-kept, take-filled, sized-faults, sized-same}
+use Rattle.text_gaps.specs.GapMemory.{partOf, partsOf, partsOfAll, widthsOf}
+use Rattle.text_gaps.specs.GapMemoryLaws.{kept-parts, kept-width}
 use Rattle.text_schemes.specs.SchemeLoaded.{ruleOf, entryOf, plainEntry, loadedScheme}
 use Rattle.forms.specs.MemoryLaws.{length-padded}
-use Rattle.scheme.specs.TestLaws.{or-left, or-right}
+use Rattle.scheme.specs.TestLaws.{or-left, or-right, length-items}
 
 -- a disjunction that is false, and its parts
 
@@ -49,18 +50,26 @@ capped (x ∷ b) = step (below-or-not 255 x) (capped b)
     step (inr h) (inl e) = inl (ap₂ _∷_ (part-same x h) e)
     step (inr h) (inr (p, q)) = inr (omega arith, omega arith)
 
--- one vector in memory: its length is true, and up to 7 components all are there as bytes
+-- one vector in memory: up to 7 components all are there as bytes, and of more the number is large
 
 abbrev keptGap : List ℕ → List ℕ
-keptGap b = gapIn (gapOf b)
+keptGap b = padded (partOf (length b)) (partsOf b)
 
-length-gap : (b : List ℕ) → length (keptGap b) ≡ length b
-length-gap b = length-padded (length b) (filled COMPONENTS 0 (map partOf b))
+length-gap : (b : List ℕ) → length (keptGap b) ≡ partOf (length b)
+length-gap b = length-padded (partOf (length b)) (partsOf b)
+
+wide-gap : (b : List ℕ) → COMPONENTS < length b → COMPONENTS < length (keptGap b)
+wide-gap b h = step (below-or-not 255 (length b))
+  where
+    step : (255 < length b) ⊎ (length b ≤ 255) → COMPONENTS < length (keptGap b)
+    step (inl k) = omega (arith, length-gap b, part-most (length b) k)
+    step (inr k) = omega (arith, length-gap b, part-same (length b) k)
 
 short-gap : (b : List ℕ) → length b ≤ COMPONENTS → keptGap b ≡ map partOf b
 short-gap b h =
-    ap (λ (n : ℕ). take n (filled COMPONENTS 0 (map partOf b) ++ replicate (length b) 0)) (sym (length-map b partOf))
-    ∙ take-filled COMPONENTS (map partOf b) (replicate (length b) 0) (omega (arith, length-map b partOf))
+    let width : partOf (length b) ≡ length (map partOf b) = part-same (length b) (omega arith) ∙ sym (length-map b partOf) in
+    ap (λ (n : ℕ). take n (partsOf b ++ replicate (partOf (length b)) 0)) width
+    ∙ take-filled COMPONENTS (map partOf b) (replicate (partOf (length b)) 0) (omega (arith, length-map b partOf))
 
 large-part : (b : List ℕ) → ltb TOTAL (total (map partOf b)) ≡ ltb TOTAL (total b)
 large-part b = step (capped b)
@@ -76,7 +85,7 @@ large-gap-kept b = step (below-or-not COMPONENTS (length b))
     long c h = ap (λ (t : Bool). t || ltb TOTAL (total c)) (lt-ltb COMPONENTS (length c) h)
 
     step : (COMPONENTS < length b) ⊎ (length b ≤ COMPONENTS) → largeGap (keptGap b) ≡ largeGap b
-    step (inl h) = long (keptGap b) (omega (arith, length-gap b)) ∙ sym (long b h)
+    step (inl h) = long (keptGap b) (wide-gap b h) ∙ sym (long b h)
     step (inr h) = ap largeGap (short-gap b h) ∙ ap₂ _||_ (ap (ltb COMPONENTS) (length-map b partOf)) (large-part b)
 
 small-gap-same : (b : List ℕ) → largeGap b ≡ false → keptGap b ≡ b
@@ -100,14 +109,18 @@ none-large-same [] e = refl
 none-large-same (b ∷ B) e =
     ap₂ _∷_ (small-gap-same b (or-left (largeGap b) (any largeGap B) e)) (none-large-same B (or-right (largeGap b) (any largeGap B) e))
 
+abbrev keptAt : List (List ℕ) → ℕ → List ℕ
+keptAt B j = padded (getD (widthsOf B) j 0) (partsAt (partsOfAll B) j)
+
 abbrev keptGaps : List (List ℕ) → List (List ℕ)
-keptGaps B = map (λ i. gapIn (getD (filled GAPS (gapOf []) (map gapOf B)) i noGap)) (row 0 (length B))
+keptGaps B = map (keptAt B) (row 0 (length B))
 
 length-gaps : (B : List (List ℕ)) → length (keptGaps B) ≡ length B
-length-gaps B = places-length gapOf gapIn (gapOf []) noGap GAPS B
+length-gaps B = length-items (keptAt B) (length B)
 
 few-gaps : (B : List (List ℕ)) → length B ≤ GAPS → keptGaps B ≡ map keptGap B
-few-gaps B h = places-kept gapOf gapIn (gapOf []) noGap GAPS B h
+few-gaps B h =
+    places-same (keptAt B) keptGap [] B (λ (j : ℕ) (k : j < length B). ap₂ padded (kept-width B j k (omega arith)) (kept-parts B j k (omega arith)))
 
 abbrev largeGaps : List (List ℕ) → Bool
 largeGaps B = ltb GAPS (length B) || any largeGap B

@@ -4,7 +4,6 @@ use crate::parts::ItemRead;
 use crate::parts::RuleRead;
 use crate::parts::SchemeText;
 use forms::memory::Entry;
-use forms::memory::Gap;
 use forms::memory::Rule;
 use forms::memory::Scheme;
 use text_gaps::gap_reader::gaps_at;
@@ -17,9 +16,9 @@ use text_grammar::kinds::is_digits;
 use text_grammar::kinds::is_empty;
 use text_grammar::kinds::is_end;
 use text_grammar::kinds::is_epsilon;
-use word::limits::COMPONENTS;
 use word::limits::ENTRIES;
 use word::limits::GAPS;
+use word::limits::PARTS;
 use word::limits::PREFIX;
 ghost use mathlib.Core.Path.{_≡_};
 ghost use mathlib.Core.Bool.{not, _&&_};
@@ -275,12 +274,14 @@ fn entry_at(s: &[u8]) -> EntryRead
     let p = h.prefix;
     let prefix = p.digits;
     let vectors = g.gaps;
-    let gaps = vectors.items;
+    let gaps = vectors.parts;
+    let widths = vectors.widths;
     let rule = m.rule;
     let entry = Entry {
         prefix,
         length: p.length,
         gaps,
+        widths,
         gap_count: vectors.count,
         rule,
     };
@@ -296,10 +297,8 @@ pub fn no_entries() -> Scheme
         entries: [Entry {
             prefix: [0u8; PREFIX],
             length: 0,
-            gaps: [Gap {
-                parts: [0u8; COMPONENTS],
-                width: 0,
-            }; GAPS],
+            gaps: [0u8; PARTS],
+            widths: [0u8; GAPS],
             gap_count: 0,
             rule: Rule::Expand,
         }; ENTRIES],

@@ -17,13 +17,14 @@ use Rattle.cell.specs.Cell.{total}
 use Rattle.forms.specs.SchemeList.{Does, expands, deletes, EntryList}
 use Rattle.scheme.specs.WellFormed.{firstAt, largeGap, largeEntry, wrongWidth, outside, schemeTests}
 use Rattle.scheme.specs.TestOrder.{permutationTest, twinTest, rootTest, widthTest, positionTest, childTest, targetTest}
-use Rattle.forms.specs.SchemeMemory.{noGap, noEntry, gapIn, entryIn, schemeIn}
+use Rattle.forms.specs.SchemeMemory.{noEntry, gapIn, entryIn, schemeIn}
 use Rattle.forms.specs.MemoryLaws.{length-padded}
 use Rattle.scheme.specs.TestLaws.{or-left, or-right, length-items, clean-cons}
 use Rattle.forms.specs.declared.memory.Rule.the-variants.{Delete}
 use Rattle.forms.specs.declared.memory.Entry.{Entry}
 use Rattle.forms.specs.declared.memory.Scheme.{Scheme}
 use Rattle.forms.specs.SchemeMemory.{gapAt, entryAt}
+use Rattle.forms.specs.GapForm.{entryGap}
 use Rattle.scheme.proofs.LookupLaws.{position-inside}
 use Rattle.text_grammar.specs.Spelling.{right, digits, numeral, separated, vectorPieces, entryPieces}
 use Rattle.text_grammar.specs.Spelling.{digitRun, writableVector, writableRule, writableEntry, writtenScheme}
@@ -115,7 +116,7 @@ entry-fits e h =
       small = perm-places (e .length) (e .prefix) (h .perm) (omega arith);
       few = omega (arith, c, length-items (gapAt e) (e .«gap_count»));
       fit = λ (i : ℕ) (k : i < e .«gap_count»).
-          let b = getD (e .gaps) i noGap in
+          let b = entryGap e i in
           let m : List·Memᴰ (gapIn b) ((entryIn e) .gaps) = Memᴰ·map (gapAt e) (row-in 0 (e .«gap_count») i (omega arith) (omega arith)) in
           let w = h .each (gapIn b) m .width in
           let n : b .width ≡ suc (e .length) = omega (arith, w, size, length-padded (b .width) (b .parts)) in

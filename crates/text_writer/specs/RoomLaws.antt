@@ -8,9 +8,10 @@ use mathlib.Core.List.{List, [], _∷_, _++_, map, List·Memᴰ, List·Memᴰ·h
 use lib.ListN.{length, getD, replicate, length-append, length-map, length-take}
 use lib.Dec.{ltb}
 use Rattle.word.specs.Lists.{row}
-use Rattle.word.specs.ListLaws.{length-row, row-out}
+use Rattle.word.specs.ListLaws.{each-append, length-row, row-out}
 use Rattle.forms.specs.SchemeList.{Does, expands, deletes}
-use Rattle.forms.specs.SchemeMemory.{padded, patternIn, patternsIn, gapIn, entryIn, schemeIn, noPattern, noGap, noEntry}
+use Rattle.forms.specs.SchemeMemory.{padded, patternIn, patternsIn, gapIn, entryIn, schemeIn, noPattern, noEntry}
+use Rattle.forms.specs.GapForm.{entryGap}
 use Rattle.forms.specs.declared.memory.Patterns.{Patterns}
 use Rattle.forms.specs.declared.memory.Entry.{Entry}
 use Rattle.forms.specs.declared.memory.Scheme.{Scheme}
@@ -18,7 +19,7 @@ use Rattle.text_grammar.specs.Spelling.{Token, bytesOf, byte, digits, right, co
 use Rattle.text_grammar.specs.Spelling.{entryPieces, writtenPatterns, writtenScheme}
 use Rattle.text_page.specs.Page.{Room}
 use Rattle.text_writer.specs.Writable.{PatternsFit, EntryFits, SchemeFits, text, patternAt, vectorAt, gapPieces, entryAt}
-use Rattle.text_writer.specs.WrittenLaws.{each-append, text-one, text-entry, patterns-map, gaps-map, scheme-map}
+use Rattle.text_writer.specs.WrittenLaws.{text-one, text-entry, patterns-map, gaps-map, scheme-map}
 
 pub text-append : (a b : List Token) → length (text (a ++ b)) ≡ length (text a) + length (text b)
 text-append a b = ap length (each-append bytesOf a b) ∙ length-append (text a) (text b)
@@ -86,12 +87,12 @@ bound-rule (deletes n) = omega (arith, length-append (bytesOf (digits (numeral n
 bound-gaps : (e : Entry) → EntryFits e → length (text (gapPieces e)) ≤ 323
 bound-gaps e h =
     let few = h .few in
-    let whole = bound-places (vectorAt (e .gaps)) 40 (e .«gap_count») items in
+    let whole = bound-places (vectorAt e) 40 (e .«gap_count») items in
     rw (gaps-map e) (omega arith)
   where
-    items : (i : ℕ) → i < e .«gap_count» → length (text (vectorAt (e .gaps) i)) < 40
+    items : (i : ℕ) → i < e .«gap_count» → length (text (vectorAt e i)) < 40
     items i p =
-        let g = getD (e .gaps) i noGap in
+        let g = entryGap e i in
         let narrow = h .fit i p .narrow in
         omega (arith, bound-vector (gapIn g), bound-padded (g .width) (g .parts))
 

@@ -5,7 +5,8 @@ use mathlib.Core.List.{List, [], _∷_, _++_, map}
 use lib.ListN.{length, getD}
 use Rattle.word.specs.Ceilings.{DIGITS, PATTERNS, ENTRIES, PREFIX, COMPONENTS, GAPS}
 use Rattle.word.specs.Lists.{each}
-use Rattle.forms.specs.SchemeMemory.{patternIn, gapIn, entryIn, noPattern, noGap, noEntry}
+use Rattle.forms.specs.SchemeMemory.{patternIn, gapAt, entryIn, noPattern, noEntry}
+use Rattle.forms.specs.GapForm.{entryGap}
 use Rattle.forms.specs.declared.memory.Pattern.{Pattern}
 use Rattle.forms.specs.declared.memory.Patterns.{Patterns}
 use Rattle.forms.specs.declared.memory.Gap.{Gap}
@@ -40,7 +41,7 @@ pub record EntryFits (e : Entry) : Type 0 where
   pub short : e .length ≤ PREFIX
   pub small : (k : ℕ) → k < e .length → getD (e .prefix) k 0 ≤ 9
   pub few : e .«gap_count» ≤ GAPS
-  pub fit : (i : ℕ) → i < e .«gap_count» → GapFits (getD (e .gaps) i noGap)
+  pub fit : (i : ℕ) → i < e .«gap_count» → GapFits (entryGap e i)
   pub rule : RuleFits (e .rule)
 
 pub record SchemeFits (s : Scheme) : Type 0 where
@@ -69,8 +70,8 @@ abbrev pub patternAt : List Pattern → ℕ → List Token
 patternAt ps i = permPiece (patternIn (getD ps i noPattern)) ∷ []
 
 -- the i-th gap vector of an entry, and all of them
-abbrev pub vectorAt : List Gap → ℕ → List Token
-vectorAt gs i = vectorPieces (gapIn (getD gs i noGap))
+abbrev pub vectorAt : Entry → ℕ → List Token
+vectorAt e i = vectorPieces (gapAt e i)
 
 abbrev pub gapPieces : Entry → List Token
 gapPieces e = braced (map vectorPieces ((entryIn e) .gaps))

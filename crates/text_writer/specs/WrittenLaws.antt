@@ -8,8 +8,8 @@ use mathlib.Core.Logic.{_⊎_, inl, inr}
 use lib.ListN.{length, getD, take, drop, replicate}
 use lib.Seq.{drop-cons, take-append-le}
 use Rattle.word.specs.Lists.{each, row}
-use Rattle.word.specs.ListLaws.{below-or-not}
-use Rattle.forms.specs.SchemeMemory.{padded, patternIn, patternsIn, gapIn, entryIn, schemeIn, noPattern, noGap, noEntry}
+use Rattle.word.specs.ListLaws.{below-or-not, each-append}
+use Rattle.forms.specs.SchemeMemory.{padded, patternIn, patternsIn, gapAt, entryIn, schemeIn, noPattern, noEntry}
 use Rattle.forms.specs.SchemeList.{EntryList, deletes}
 use Rattle.forms.specs.declared.memory.Patterns.{Patterns}
 use Rattle.forms.specs.declared.memory.Entry.{Entry}
@@ -22,11 +22,6 @@ use Rattle.text_page.specs.PageLaws.{ToCome, step, again, finish, room-next, wr
 use Rattle.text_page.specs.Decimal.{decimal}
 use Rattle.text_page.specs.DecimalLaws.{decimal-one, decimal-more}
 use Rattle.text_writer.specs.Writable.{text, next, further, number, patternAt, vectorAt, gapPieces, entryAt}
-
-module _ {A B : Type 0} where
-  pub each-append : (f : A → List B) (l m : List A) → each f (l ++ m) ≡ each f l ++ each f m
-  each-append f [] m = refl
-  each-append f (x ∷ l) m = rw (each-append f l m) (sym (append-assoc (f x) (each f l) (each f m)))
 
 -- a row with an element has its first and the row after it
 pub row-cons : (i n : ℕ) → i < n → row i (n - i) ≡ i ∷ row (i + 1) (n - (i + 1))
@@ -179,14 +174,14 @@ text-no-patterns s e = patterns-map s ∙ rw e refl
 
 -- the gap vectors of an entry
 
-pub gaps-map : (e : Entry) → text (gapPieces e) ≡ text (braced (map (vectorAt (e .gaps)) (row 0 (e .«gap_count»))))
+pub gaps-map : (e : Entry) → text (gapPieces e) ≡ text (braced (map (vectorAt e) (row 0 (e .«gap_count»))))
 gaps-map e =
     ap (λ (l : List (List Token)). text (braced l))
-    (map-map vectorPieces (λ (i : ℕ). gapIn (getD (e .gaps) i noGap)) (row 0 (e .«gap_count»)))
+    (map-map vectorPieces (gapAt e) (row 0 (e .«gap_count»)))
 
 pub text-gaps : (e : Entry) → (e .«gap_count» ≡ 0 → ⊥) →
-    text (gapPieces e) ≡ (0x7B ∷ []) ++ (text (vectorAt (e .gaps) 0) ++ (further (vectorAt (e .gaps)) 1 (e .«gap_count» - 1) ++ (0x7D ∷ [])))
-text-gaps e h = gaps-map e ∙ text-braced (vectorAt (e .gaps)) (e .«gap_count») (omega arith)
+    text (gapPieces e) ≡ (0x7B ∷ []) ++ (text (vectorAt e 0) ++ (further (vectorAt e) 1 (e .«gap_count» - 1) ++ (0x7D ∷ [])))
+text-gaps e h = gaps-map e ∙ text-braced (vectorAt e) (e .«gap_count») (omega arith)
 
 pub text-no-gaps : (e : Entry) → e .«gap_count» ≡ 0 → text (gapPieces e) ≡ bytesOf empty
 text-no-gaps e z = gaps-map e ∙ rw z refl

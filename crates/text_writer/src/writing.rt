@@ -1,4 +1,6 @@
 // Writing pattern sets and schemes over a lent page. Bytes behind the end of the page are dropped, so that a run on an empty page gives the length.
+use forms::gaps::entry_gap;
+use forms::gaps::wide;
 use forms::memory::Entry;
 use forms::memory::Gap;
 use forms::memory::Pattern;
@@ -14,7 +16,7 @@ use text_page::bytes::put_bytes;
 use text_page::bytes::put_decimal;
 ghost use mathlib.Core.Path.{_≡_};
 ghost use mathlib.Core.List.{[], _∷_};
-ghost use Prim.Native.Nat.{_-_, _≤_};
+ghost use Prim.Native.Nat.{_-_, _≤_, _<_};
 ghost use Rattle.forms.specs.SchemeList.{deletes};
 ghost use Rattle.forms.specs.SchemeMemory.{padded, patternIn, patternsIn, gapIn, doesOf, entryIn, schemeIn};
 ghost use Rattle.text_grammar.specs.Spelling.{bytesOf, permPiece, digits, numeral, vectorPieces, rulePieces, entryPieces};
@@ -90,13 +92,6 @@ pub fn put_patterns(page: &mut [u8], at: usize, s: Patterns) -> usize
     put(page, last, b'}')
 }
 
-// A byte as a number.
-fn wide(x: u8) -> usize
-    ensures { λ r. ⌜ (r ≡ x) × (r ≤ 255) ⌝ }
-{
-    x as usize
-}
-
 // Writes a number of up to three digits.
 fn put_number(page: &mut [u8], at: usize, n: usize) -> usize
     requires { ⌜ (n ≤ 999) × Room (bytesOf (digits (numeral n))) at ⌝ }
@@ -142,18 +137,26 @@ fn put_vector(page: &mut [u8], at: usize, g: Gap) -> usize
     put_bytes(page, last, &RIGHT)
 }
 
+// Writes the gap vector of an entry with index j.
+fn put_vector_at(page: &mut [u8], at: usize, e: Entry, j: usize) -> usize
+    requires { ⌜ EntryFits e × (j < e .«gap_count») × Room (text (vectorAt e j)) at ⌝ }
+    ensures { λ r. ⌜ Writes (text (vectorAt e j)) at (now (page .entry)) (now (page .exit)) r ⌝ }
+{
+    let g = entry_gap(e, j);
+    put_vector(page, at, g)
+}
+
 // Writes the gap vectors after the first, a comma before each.
 fn put_further_vectors(page: &mut [u8], at: usize, e: Entry) -> usize
-    requires { ⌜ EntryFits e × Room (further (vectorAt (e .gaps)) 1 (e .«gap_count» - 1)) at ⌝ }
-    ensures { λ r. ⌜ Writes (further (vectorAt (e .gaps)) 1 (e .«gap_count» - 1)) at (now (page .entry)) (now (page .exit)) r ⌝ }
+    requires { ⌜ EntryFits e × Room (further (vectorAt e) 1 (e .«gap_count» - 1)) at ⌝ }
+    ensures { λ r. ⌜ Writes (further (vectorAt e) 1 (e .«gap_count» - 1)) at (now (page .entry)) (now (page .exit)) r ⌝ }
 {
-    let gaps = e.gaps;
     let n = e.gap_count;
     let mut next = at;
     let mut i: usize = 1;
     while i < n {
         let from = put(page, next, b',');
-        next = put_vector(page, from, gaps[i]);
+        next = put_vector_at(page, from, e, i);
         i += 1;
     }
     next
@@ -164,12 +167,11 @@ fn put_gaps(page: &mut [u8], at: usize, e: Entry) -> usize
     requires { ⌜ EntryFits e × Room (text (gapPieces e)) at ⌝ }
     ensures { λ r. ⌜ Writes (text (gapPieces e)) at (now (page .entry)) (now (page .exit)) r ⌝ }
 {
-    let gaps = e.gaps;
     if e.gap_count == 0 {
         return put_bytes(page, at, &EMPTY);
     }
     let first = put(page, at, b'{');
-    let second = put_vector(page, first, gaps[0]);
+    let second = put_vector_at(page, first, e, 0);
     let last = put_further_vectors(page, second, e);
     put(page, last, b'}')
 }

@@ -17,7 +17,7 @@ use Rattle.word.specs.declared.refusal.Refusal.the-variants.{Oversize}
 use Rattle.cell.specs.Cell.{same, total}
 use Rattle.forms.specs.SchemeList.{Does, EntryList}
 use Rattle.scheme.specs.WellFormed.{firstAt, largeGap, largeEntry, wrongWidth, outside}
-use Rattle.forms.specs.SchemeMemory.{padded, noGap, noEntry, gapIn, doesOf, entryIn, gapAt, entryAt, schemeIn, faultOf}
+use Rattle.forms.specs.SchemeMemory.{padded, partsAt, noEntry, gapIn, doesOf, entryIn, gapAt, entryAt, schemeIn, faultOf}
 use Rattle.scheme.specs.Sized.{SizedEntry, Sized}
 use Rattle.forms.specs.declared.memory.Gap.{Gap}
 use Rattle.forms.specs.declared.memory.Rule.{Rule}
@@ -74,15 +74,15 @@ module _ (e : Entry) where
   pub width-by-gaps : wrongWidth (entryIn e) ≡ any otherWidth (from (gapAt e) (e .«gap_count») 0)
   width-by-gaps = rw (length-padded (e .length) (e .prefix)) (any-start otherWidth (gapAt e) (e .«gap_count»))
 
-  pub width-other : (j : ℕ) → ((getD (e .gaps) j noGap) .width ≡ e .length + 1 → ⊥) → otherWidth (gapAt e j) ≡ true
-  width-other j h =
-      let b = getD (e .gaps) j noGap in
-      rw (length-padded (b .width) (b .parts), ne-eqb (b .width) (suc (e .length)) (λ (q : b .width ≡ suc (e .length)). h (omega arith))) refl
+  module _ (j w : ℕ) (is : w ≡ getD (e .widths) j 0) where
+    as-wide : length (gapAt e j) ≡ w
+    as-wide = length-padded (getD (e .widths) j 0) (partsAt (e .gaps) j) ∙ sym is
 
-  pub width-right : (j : ℕ) → (getD (e .gaps) j noGap) .width ≡ e .length + 1 → otherWidth (gapAt e j) ≡ false
-  width-right j h =
-      let b = getD (e .gaps) j noGap in
-      rw (length-padded (b .width) (b .parts), eq-eqb (b .width) (suc (e .length)) (omega arith)) refl
+    pub width-other : (w ≡ e .length + 1 → ⊥) → otherWidth (gapAt e j) ≡ true
+    width-other h = rw (as-wide, ne-eqb w (suc (e .length)) (λ (q : w ≡ suc (e .length)). h (omega arith))) refl
+
+    pub width-right : w ≡ e .length + 1 → otherWidth (gapAt e j) ≡ false
+    width-right h = rw (as-wide, eq-eqb w (suc (e .length)) (omega arith)) refl
 
 -- a deleted position in test 7
 module _ (k : ℕ) (rule : Rule) (r : ℕ) (told : rule ≡ Delete r) where
@@ -146,10 +146,9 @@ sized-entry e h =
       short = omega (arith, first, length-padded (e .length) (e .prefix));
       few = omega (arith, second, length-items (gapAt e) n);
       narrow = λ (j : ℕ) (k : j < n).
-          let b = getD (e .gaps) j noGap in
           let small = any-clean (gapAt e) largeGap n j (or-right many gaps rest) k in
-          let wide = ltb-false COMPONENTS (length (gapIn b)) (or-left (ltb COMPONENTS (length (gapIn b))) (ltb TOTAL (total (gapIn b))) small) in
-          omega (arith, wide, length-padded (b .width) (b .parts));
+          let wide = ltb-false COMPONENTS (length (gapAt e j)) (or-left (ltb COMPONENTS (length (gapAt e j))) (ltb TOTAL (total (gapAt e j))) small) in
+          omega (arith, wide, length-padded (getD (e .widths) j 0) (partsAt (e .gaps) j));
     }
 
 -- a scheme in which test 2 finds nothing lies within the ceilings

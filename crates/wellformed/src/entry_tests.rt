@@ -1,4 +1,6 @@
 // The tests 2, 3, 4, 6 and 7 of one entry in memory, and test 2 over the whole list.
+use forms::gaps::entry_gap;
+use forms::gaps::wide;
 use forms::memory::Entry;
 use forms::memory::Fault;
 use forms::memory::Gap;
@@ -23,7 +25,7 @@ ghost use Rattle.word.specs.Finding.{test, firstFault};
 ghost use Rattle.word.specs.declared.refusal.Refusal.the-variants.{Oversize};
 ghost use Rattle.cell.specs.Cell.{same};
 ghost use Rattle.scheme.specs.WellFormed.{firstAt, listed, repeats, largeGap, largeEntry, wrongWidth, outside};
-ghost use Rattle.forms.specs.SchemeMemory.{padded, noGap, gapIn, doesOf, entryIn, schemeIn, faultOf};
+ghost use Rattle.forms.specs.SchemeMemory.{padded, gapIn, gapAt, doesOf, entryIn, schemeIn, faultOf};
 ghost use Rattle.scheme.specs.Sized.{SizedEntry};
 
 // Test 2: too many entries, and then the first entry that passes a ceiling.
@@ -59,7 +61,7 @@ fn large_entry(e: Entry) -> bool
     }
     let mut j: usize = 0;
     while j < n {
-        let b = e.gaps[j];
+        let b = entry_gap(e, j);
         if large_gap(b) {
             return true;
         }
@@ -88,13 +90,6 @@ fn large_gap(b: Gap) -> bool
     false
 }
 
-// A byte as a length.
-fn wide(x: u8) -> usize
-    ensures { λ r. ⌜ (r ≡ x) × (r < 256) ⌝ }
-{
-    x as usize
-}
-
 // Whether the prefix of the entry is a permutation.
 pub fn is_permuted(e: Entry) -> bool
     requires { ⌜ SizedEntry e ⌝ }
@@ -108,12 +103,12 @@ pub fn is_permuted(e: Entry) -> bool
 // Whether a vector stands twice in the entry.
 pub fn has_twin_gaps(e: Entry) -> bool
     requires { ⌜ SizedEntry e ⌝ }
-    ensures { λ r. ⌜ r ≡ repeats (map (λ j. gapIn (getD (e .gaps) j noGap)) (row 0 (e .«gap_count»))) ⌝ }
+    ensures { λ r. ⌜ r ≡ repeats (map (gapAt e) (row 0 (e .«gap_count»))) ⌝ }
 {
     let n = e.gap_count;
     let mut j: usize = 0;
     while j < n {
-        let b = e.gaps[j];
+        let b = entry_gap(e, j);
         if stands_from(e, j + 1, b) {
             return true;
         }
@@ -125,12 +120,12 @@ pub fn has_twin_gaps(e: Entry) -> bool
 // Whether the vector b stands in the entry at the index `start` or later.
 fn stands_from(e: Entry, start: usize, b: Gap) -> bool
     requires { ⌜ SizedEntry e × (start ≤ e .«gap_count») × (b .width ≤ COMPONENTS) ⌝ }
-    ensures { λ r. ⌜ r ≡ listed (map (λ j. gapIn (getD (e .gaps) j noGap)) (row start (e .«gap_count» - start))) (gapIn b) ⌝ }
+    ensures { λ r. ⌜ r ≡ listed (map (gapAt e) (row start (e .«gap_count» - start))) (gapIn b) ⌝ }
 {
     let n = e.gap_count;
     let mut j = start;
     while j < n {
-        let d = e.gaps[j];
+        let d = entry_gap(e, j);
         if same_gap(b, d) {
             return true;
         }
@@ -177,8 +172,7 @@ pub fn wrong_width(e: Entry) -> bool
     let n = e.gap_count;
     let mut j: usize = 0;
     while j < n {
-        let b = e.gaps[j];
-        let w = b.width;
+        let w = wide(e.widths[j]);
         if w != k + 1 {
             return true;
         }

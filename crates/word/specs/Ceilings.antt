@@ -1,6 +1,6 @@
 -- The ceilings of document 01, and the sizes that follow from them; src/limits.rt has the same names
 -- for the code. Definitions only.
-use Prim.Native.Nat.{ℕ, _+_}
+use Prim.Native.Nat.{ℕ, _+_, _*_}
 
 -- "The set is up to 24 patterns of up to 8 digits each"
 abbrev pub DIGITS : ℕ
@@ -26,6 +26,10 @@ COMPONENTS = PREFIX + 1
 
 abbrev pub GAPS : ℕ
 GAPS = 8
+
+-- components of all gap vectors of an entry
+abbrev pub PARTS : ℕ
+PARTS = GAPS * COMPONENTS
 
 abbrev pub TOTAL : ℕ
 TOTAL = 8

@@ -5,7 +5,7 @@ use native.Mathlib.Omega.{arith}
 use mathlib.Core.Path.{_≡_, refl, sym, ap, _∙_, ap₂, subst}
 use mathlib.Core.Logic.{_⊎_, inl, inr}
 use mathlib.Core.Bool.{Bool, true, false, not, _&&_, _||_, cond, Bool·beq, or-true, true≢false, false≢true}
-use mathlib.Core.List.{List, [], _∷_, _++_, map, map-append, map-map, List·Memᴰ, List·Memᴰ·head, List·Memᴰ·tail, List·Memᴰ·not-nil}
+use mathlib.Core.List.{List, [], _∷_, _++_, map, append-assoc, map-append, map-map, List·Memᴰ, List·Memᴰ·head, List·Memᴰ·tail, List·Memᴰ·not-nil}
 use mathlib.Core.List.{List·Memᴰ·cases-cons, List·Memᴰ·append-cases, List·Memᴰ·eq-of-singleton}
 use mathlib.Core.List.{Memᴰ·cast, Memᴰ·append-left, Memᴰ·append-right, Memᴰ·map, Memᴰ·of-map}
 use mathlib.Core.List.{Sublistᴰ, Sublistᴰ·slnil, Sublistᴰ·cons, Sublistᴰ·cons-cons, Sublistᴰ·nil-sublist}
@@ -188,6 +188,10 @@ module _ {A B : Type 0} where
   pub each-in : (f : A → List B) {x : A} {y : B} {l : List A} → List·Memᴰ x l → List·Memᴰ y (f x) → List·Memᴰ y (each f l)
   each-in f {x} {y} (List·Memᴰ·head {x = z} {xs = l} q) n = Memᴰ·append-left (each f l) (rw q at n)
   each-in f (List·Memᴰ·tail {x = z} {xs = l} m) n = Memᴰ·append-right (f z) (each-in f m n)
+
+  pub each-append : (f : A → List B) (l m : List A) → each f (l ++ m) ≡ each f l ++ each f m
+  each-append f [] m = refl
+  each-append f (x ∷ l) m = rw (each-append f l m) (sym (append-assoc (f x) (each f l) (each f m)))
 
   -- each of the lists f x has length k
   pub length-each : (f : A → List B) (k : ℕ) (l : List A) → ((x : A) → length (f x) ≡ k) → length (each f l) ≡ length l * k

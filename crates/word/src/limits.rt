@@ -16,6 +16,8 @@ pub const PREFIX: usize = 6;
 pub const COMPONENTS: usize = PREFIX + 1;
 // gap vectors of an entry
 pub const GAPS: usize = 8;
+// components of all gap vectors of an entry
+pub const PARTS: usize = GAPS * COMPONENTS;
 // total of a gap vector
 pub const TOTAL: usize = 8;
 

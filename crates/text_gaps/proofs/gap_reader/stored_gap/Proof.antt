@@ -1,33 +1,44 @@
--- `text_gaps::gap_reader::stored_gap` meets its contract: within the array the vector is stored, behind it only counted.
+-- `text_gaps::gap_reader::stored_gap` meets its contract: within the arrays the vector is stored, behind them only counted.
 -- Assumes nothing.
+use Prim.Native.Nat.{_*_, _≤_}
 use mathlib.Core.Path.{_≡_}
 use native.Mathlib.Omega.{arith}
 use lib.ListN.{length}
-use Rattle.text_patterns.proofs.FilledLaws.{unmapped}
+use Rattle.word.specs.Ceilings.{COMPONENTS, GAPS, PARTS}
 use Rattle.text_gaps.proofs.GapTextLaws.{gap-kept, gap-counted}
 use borrow.Author.Needs.{needs}
 use Rattle.text_gaps.proofs.gap_reader.stored_gap.Statement.{statement}
 use Rattle.text_gaps.proofs.gap_reader.stored_gap.Tie as tie
 
-mul-items : tie.Need-mul-items
-mul-items c = search needs
+with-gap-requires : tie.Need-with-gap-requires
+with-gap-requires c κs = search needs
 
-array-set-from-items : tie.Need-array-set-from-items
-array-set-from-items c = search needs
+part-requires : tie.Need-part-requires
+part-requires c κs = search needs
 
-add-t6 : tie.Need-add-t6
-add-t6 c = search needs
+array-write-widths : tie.Need-array-write-widths
+array-write-widths c = search needs
+
+add-t13 : tie.Need-add-t13
+add-t13 c = search needs
 
 returns : tie.Need-returns
-returns c = gap-kept (c .before .before .args .gaps) (c .before .before .args .g)
+returns c =
+    let a = c .before .before .before .before .before .before .args in
+    gap-kept (a .gaps) (a .g) (c .before .with-gap .result) (c .part .result) (c .before .with-gap .ensures) (c .part .ensures)
 
-add-t11 : tie.Need-add-t11
-add-t11 c = search needs
+add-t15 : tie.Need-add-t15
+add-t15 c = search needs
 
 returns-2 : tie.Need-returns-2
-returns-2 c = let e : length (c .before .before .args .gaps .items) ≡ 8 = search (needs, unmapped) in
-    gap-counted (c .before .before .args .gaps) (c .before .before .args .g) (omega arith)
+returns-2 c =
+    let a = c .before .before .before .args in
+    let parts : length (a .gaps .parts) ≡ PARTS = search needs in
+    let widths : length (a .gaps .widths) ≡ GAPS = search needs in
+    let beyond : length (a .gaps .parts) ≤ COMPONENTS * a .gaps .count = omega arith in
+    gap-counted (a .gaps) (a .g) beyond (omega arith)
 
 pub stored-gap-spec : {M : Type 1} → statement M
 stored-gap-spec =
-    tie.close (tie.spec mul-items array-set-from-items add-t6 returns add-t11 returns-2)
+    tie.close
+    (tie.spec with-gap-requires part-requires array-write-widths add-t13 returns add-t15 returns-2)

@@ -46,7 +46,13 @@ both-requires-2 : tie.Need-both-requires-2
 both-requires-2 c κs = search needs
 
 returns : tie.Need-returns
-returns c = entered-on (c .before .before .before .before .before .before .before .before .before .before .before .before .before .before .args .s .now) (c .before .before .before .before .before .before .before .before .before .before .before .before .head-at .result) (c .before .before .before .before .before .before .before .before .before .before .middle-at .result) (c .before .before .before .before .before .before .before .before .before .before .before .before .head-at .ensures) (c .before .before .before .before .before .before .before .before .before .before .middle-at .ensures) (c .before .before .before .before .before .before .before .tail-at .result) (c .before .before .before .before .before .before .before .tail-at .ensures) (c .before .before .before .before .before .both .result) (c .before .before .before .before .both2 .result) (c .before .before .before .before .before .both .ensures) (c .before .before .before .before .both2 .ensures)
+returns c =
+    let joined = c .before .before .before .before .before in
+    let tail = joined .before .before .before in
+    let middle = tail .before .before .before in
+    let head = middle .before .before in
+    entered-on (head .before .before .args .s .now) (head .head-at .result) (middle .middle-at .result) (head .head-at .ensures) (middle .middle-at .ensures)
+    (tail .tail-at .result) (tail .tail-at .ensures) (joined .before .both .result) (joined .both2 .result) (joined .before .both .ensures) (joined .both2 .ensures)
 
 pub entry-at-spec : {M : Type 1} → statement M
 entry-at-spec =

@@ -9,33 +9,28 @@ use Rattle.text_writer.proofs.writing.put_further_vectors.Statement.{st
 use Rattle.text_writer.proofs.writing.put_further_vectors.Tie as tie
 
 abbrev Inv-loop : tie.InvT-loop
-Inv-loop page₀ at gaps n next₀ i₀ page next i = ToCome (further (vectorAt gaps) 1 (n - 1)) at page₀ (further (vectorAt gaps) i (n - i)) next page
+Inv-loop page₀ at e n next₀ i₀ page next i = ToCome (further (vectorAt e) 1 (n - 1)) at page₀ (further (vectorAt e) i (n - i)) next page
 
 abbrev μ-loop : tie.MeasureT-loop
-μ-loop page₀ at gaps n next₀ i₀ page next i = n - i
+μ-loop page₀ at e n next₀ i₀ page next i = n - i
 
 loop-holds : tie.Need-loop-holds Inv-loop μ-loop
 loop-holds c = start _ _ _
 
 put-requires : tie.Need-put-requires Inv-loop μ-loop
 put-requires c κs =
-    let s = c .before .before .before .before .before .args .e in
-    let h = c .before .before .before .before .before .pre in
-    let l = c .before .before .loop in
-    room-first (further-room (vectorAt (s .gaps)) (l .i) (s .«gap_count») (l .inv) (search needs) (h .1))
+    let at-loop = c .before .before in
+    let start-at = at-loop .before .before in
+    room-first (further-room (vectorAt (start-at .args .e)) (at-loop .loop .i) (start-at .args .e .«gap_count») (at-loop .loop .inv) (search needs) (start-at .pre .1))
 
-mul-put-vector : tie.Need-mul-put-vector Inv-loop μ-loop
-mul-put-vector c = search needs
-
-array-copy-out-put-vector : tie.Need-array-copy-out-put-vector Inv-loop μ-loop
-array-copy-out-put-vector c = search needs
-
-put-vector-requires : tie.Need-put-vector-requires Inv-loop μ-loop
-put-vector-requires c κs =
-    let s = c .before .before .before .before .before .before .before .before .before .before .args .e in
-    let h = c .before .before .before .before .before .before .before .before .before .before .pre in
-    let l = c .before .before .before .before .before .before .before .loop in
-    (h .0 .fit (l .i) (search needs), room-rest (further-room (vectorAt (s .gaps)) (l .i) (s .«gap_count») (l .inv) (search needs) (h .1)) (c .before .before .before .before .put .ensures))
+put-vector-at-requires : tie.Need-put-vector-at-requires Inv-loop μ-loop
+put-vector-at-requires c κs =
+    let after-put = c .before .before .before in
+    let at-loop = after-put .before .before .before in
+    let start-at = at-loop .before .before in
+    let e = start-at .args .e in
+    let h = start-at .pre in
+    (h .0, search needs, room-rest (further-room (vectorAt e) (at-loop .loop .i) (e .«gap_count») (at-loop .loop .inv) (search needs) (h .1)) (after-put .put .ensures))
 
 add-i : tie.Need-add-i Inv-loop μ-loop
 add-i c = search needs
@@ -45,18 +40,20 @@ loop-less c = search needs
 
 loop-again : tie.Need-loop-again Inv-loop μ-loop
 loop-again c =
-    let s = c .before .before .before .before .before .before .before .before .before .before .before .before .before .args .e in
-    let l = c .before .before .before .before .before .before .before .before .before .before .loop in
-    further-on (vectorAt (s .gaps)) (l .i) (s .«gap_count») (l .inv) (search needs) (c .before .before .before .before .before .before .before .put .ensures) (c .before .before .put-vector .ensures)
+    let after-vector = c .before .before in
+    let after-put = after-vector .before .before .before .before in
+    let at-loop = after-put .before .before .before in
+    let e = at-loop .before .before .args .e in
+    further-on (vectorAt e) (at-loop .loop .i) (e .«gap_count») (at-loop .loop .inv) (search needs) (after-put .put .ensures) (after-vector .put-vector-at .ensures)
 
 same-length : tie.Need-same-length Inv-loop μ-loop
 same-length c = same-size (c .before .loop .inv)
 
 returns : tie.Need-returns Inv-loop μ-loop
 returns c =
-    let s = c .before .before .before .before .args .e in
+    let e = c .before .before .before .args .e in
     let l = c .before .loop in
-    further-done (vectorAt (s .gaps)) (l .i) (s .«gap_count») (l .inv) (search needs)
+    further-done (vectorAt e) (l .i) (e .«gap_count») (l .inv) (search needs)
 
 pub put-further-vectors-spec : {M : Type 1} → statement M
 put-further-vectors-spec =
@@ -66,9 +63,7 @@ put-further-vectors-spec =
     μ-loop
     loop-holds
     put-requires
-    mul-put-vector
-    array-copy-out-put-vector
-    put-vector-requires
+    put-vector-at-requires
     add-i
     loop-less
     loop-again

@@ -11,51 +11,67 @@ slice-aggregate-put-bytes : tie.Need-slice-aggregate-put-bytes
 slice-aggregate-put-bytes c = search needs
 
 put-bytes-requires : tie.Need-put-bytes-requires
-put-bytes-requires c κs = room-as (c .before .before .before .before .before .before .pre .1) (text-no-gaps (c .before .before .before .before .before .before .args .e) (c .before .before .if1 .taken))
+put-bytes-requires c κs =
+    let none = c .before .before in
+    let begin = none .before .before .before in
+    room-as (begin .pre .1) (text-no-gaps (begin .args .e) (none .if1 .taken))
 
 same-length : tie.Need-same-length
 same-length c = search needs
 
 returns : tie.Need-returns
-returns c = writes-as (c .before .before .put-bytes .ensures) (sym (text-no-gaps (c .before .before .before .before .before .before .before .before .before .args .e) (c .before .before .before .before .before .if1 .taken)))
+returns c =
+    let written = c .before .before in
+    let none = written .before .before .before in
+    writes-as (written .put-bytes .ensures) (sym (text-no-gaps (none .before .before .before .args .e) (none .if1 .taken)))
 
 put-requires : tie.Need-put-requires
 put-requires c κs =
-    let a = c .before .before .before .before .before .args in
-    let whole = start-as _ _ (a .at) (a .page .now) (text-gaps (a .e) (c .before .if1 .left)) in
-    room-next _ _ (c .before .before .before .before .before .pre .1) whole refl
+    let some = c .before in
+    let begin = some .before .before .before in
+    let whole = start-as _ _ (begin .args .at) (begin .args .page .now) (text-gaps (begin .args .e) (some .if1 .left)) in
+    room-next _ _ (begin .pre .1) whole refl
 
-array-copy-out-put-vector : tie.Need-array-copy-out-put-vector
-array-copy-out-put-vector c = search needs
-
-put-vector-requires : tie.Need-put-vector-requires
-put-vector-requires c κs =
-    let a = c .before .before .before .before .before .before .before .before .before .before .args in
-    let h = c .before .before .before .before .before .before .before .before .before .before .pre in
-    let whole = start-as _ _ (a .at) (a .page .now) (text-gaps (a .e) (c .before .before .before .before .before .before .if1 .left)) in
-    (h .0 .fit 0 (search needs), room-next _ _ (h .1) (step whole (c .before .before .before .before .put .ensures)) refl)
+put-vector-at-requires : tie.Need-put-vector-at-requires
+put-vector-at-requires c κs =
+    let first = c .before .before .before in
+    let some = first .before .before in
+    let begin = some .before .before .before in
+    let whole = start-as _ _ (begin .args .at) (begin .args .page .now) (text-gaps (begin .args .e) (some .if1 .left)) in
+    (begin .pre .0, search needs, room-next _ _ (begin .pre .1) (step whole (first .put .ensures)) refl)
 
 put-further-vectors-requires : tie.Need-put-further-vectors-requires
 put-further-vectors-requires c κs =
-    let a = c .before .before .before .before .before .before .before .before .before .before .before .before .before .before .args in
-    let h = c .before .before .before .before .before .before .before .before .before .before .before .before .before .before .pre in
-    let whole = start-as _ _ (a .at) (a .page .now) (text-gaps (a .e) (c .before .before .before .before .before .before .before .before .before .before .if1 .left)) in
-    (h .0, room-next _ _ (h .1) (step (step whole (c .before .before .before .before .before .before .before .before .put .ensures)) (c .before .before .before .put-vector .ensures)) refl)
+    let second = c .before .before .before in
+    let first = second .before .before .before .before in
+    let some = first .before .before in
+    let begin = some .before .before .before in
+    let whole = start-as _ _ (begin .args .at) (begin .args .page .now) (text-gaps (begin .args .e) (some .if1 .left)) in
+    (begin .pre .0, room-next _ _ (begin .pre .1) (step (step whole (first .put .ensures)) (second .put-vector-at .ensures)) refl)
 
 put-requires-2 : tie.Need-put-requires-2
 put-requires-2 c κs =
-    let a = c .before .before .before .before .before .before .before .before .before .before .before .before .before .before .before .before .before .before .args in
-    let whole = start-as _ _ (a .at) (a .page .now) (text-gaps (a .e) (c .before .before .before .before .before .before .before .before .before .before .before .before .before .before .if1 .left)) in
-    room-last (c .before .before .before .before .before .before .before .before .before .before .before .before .before .before .before .before .before .before .pre .1) (step (step (step whole (c .before .before .before .before .before .before .before .before .before .before .before .before .put .ensures)) (c .before .before .before .before .before .before .before .put-vector .ensures)) (c .before .before .before .put-further-vectors .ensures))
+    let third = c .before .before .before in
+    let second = third .before .before .before .before in
+    let first = second .before .before .before .before in
+    let some = first .before .before in
+    let begin = some .before .before .before in
+    let whole = start-as _ _ (begin .args .at) (begin .args .page .now) (text-gaps (begin .args .e) (some .if1 .left)) in
+    room-last (begin .pre .1) (step (step (step whole (first .put .ensures)) (second .put-vector-at .ensures)) (third .put-further-vectors .ensures))
 
 same-length-2 : tie.Need-same-length-2
 same-length-2 c = search needs
 
 returns-2 : tie.Need-returns-2
 returns-2 c =
-    let a = c .before .before .before .before .before .before .before .before .before .before .before .before .before .before .before .before .before .before .before .before .before .args in
-    let whole = start-as _ _ (a .at) (a .page .now) (text-gaps (a .e) (c .before .before .before .before .before .before .before .before .before .before .before .before .before .before .before .before .before .if1 .left)) in
-    finish-by (step (step (step whole (c .before .before .before .before .before .before .before .before .before .before .before .before .before .before .before .put .ensures)) (c .before .before .before .before .before .before .before .before .before .before .put-vector .ensures)) (c .before .before .before .before .before .before .put-further-vectors .ensures)) (c .before .before .put2 .ensures)
+    let last = c .before .before in
+    let third = last .before .before .before .before in
+    let second = third .before .before .before .before in
+    let first = second .before .before .before .before in
+    let some = first .before .before in
+    let begin = some .before .before .before in
+    let whole = start-as _ _ (begin .args .at) (begin .args .page .now) (text-gaps (begin .args .e) (some .if1 .left)) in
+    finish-by (step (step (step whole (first .put .ensures)) (second .put-vector-at .ensures)) (third .put-further-vectors .ensures)) (last .put2 .ensures)
 
 pub put-gaps-spec : {M : Type 1} → statement M
 put-gaps-spec =
@@ -66,8 +82,7 @@ put-gaps-spec =
     same-length
     returns
     put-requires
-    array-copy-out-put-vector
-    put-vector-requires
+    put-vector-at-requires
     put-further-vectors-requires
     put-requires-2
     same-length-2

@@ -2,14 +2,16 @@
 -- Assumes nothing.
 use Prim.Native.Nat.{_+_, _-_, _≤_}
 use mathlib.Core.Path.{_≡_, sym, ap, _∙_}
+use mathlib.Core.List.{map}
 use borrow.Author.Needs.{needs}
 use native.Mathlib.Omega.{arith}
-use Rattle.scheme.specs.WellFormed.{repeats}
+use Rattle.scheme.specs.WellFormed.{listed, repeats}
 use Rattle.forms.specs.SchemeMemory.{entryIn}
-use Rattle.word.specs.Lists.{any}
+use Rattle.word.specs.Lists.{any, row}
 use Rattle.cell.specs.Cell.{same}
 use Rattle.scheme.specs.TestLaws.{from-at, repeats-start, repeats-here, repeats-later, repeats-end, from}
-use Rattle.forms.specs.SchemeMemory.{gapAt}
+use Rattle.forms.specs.SchemeMemory.{gapIn, gapAt}
+use Rattle.forms.specs.declared.memory.Gap.{Gap}
 use Rattle.wellformed.proofs.entry_tests.has_twin_gaps.Statement.{statement}
 use Rattle.wellformed.proofs.entry_tests.has_twin_gaps.Tie as tie
 
@@ -20,13 +22,10 @@ abbrev μ-loop : tie.MeasureT-loop
 μ-loop e n j₀ j = n - j
 
 loop-holds : tie.Need-loop-holds Inv-loop μ-loop
-loop-holds c = (omega arith, repeats-start (gapAt (c .args .t1)) (c .args .t1 .«gap_count»))
+loop-holds c = (omega arith, repeats-start (gapAt (c .args .e)) (c .args .e .«gap_count»))
 
-mul-b : tie.Need-mul-b Inv-loop μ-loop
-mul-b c = search needs
-
-element-copy-out-b : tie.Need-element-copy-out-b Inv-loop μ-loop
-element-copy-out-b c = search needs
+entry-gap-requires : tie.Need-entry-gap-requires Inv-loop μ-loop
+entry-gap-requires c κs = search needs
 
 add-stands-from : tie.Need-add-stands-from Inv-loop μ-loop
 add-stands-from c = search needs
@@ -34,13 +33,18 @@ add-stands-from c = search needs
 stands-from-requires : tie.Need-stands-from-requires Inv-loop μ-loop
 stands-from-requires c κs =
     let l = c .before .before .loop in
-    (c .before .before .before .pre, omega arith, c .before .before .before .pre .narrow (l .j) (omega arith))
+    let begin = c .before .before .before in
+    let width = ap (λ (g : Gap). g .width) (c .entry-gap .ensures) in
+    (begin .pre, omega arith, omega (arith, width, begin .pre .narrow (l .j) (omega arith)))
 
 returns : tie.Need-returns Inv-loop μ-loop
 returns c =
-    let e = c .before .before .before .before .before .args .t1 in
+    let e = c .before .before .before .before .before .args .e in
     let l = c .before .before .before .before .loop in
-    let stands = c .before .stands-from .ensures ∙ ap (any (same (gapAt e (l .j)))) (from-at (gapAt e) (e .«gap_count») (l .j + 1)) in
+    let later = map (gapAt e) (row (l .j + 1) (e .«gap_count» - (l .j + 1))) in
+    let stands =
+        c .before .stands-from .ensures ∙ ap (λ (g : Gap). listed later (gapIn g)) (c .before .before .entry-gap .ensures)
+        ∙ ap (any (same (gapAt e (l .j)))) (from-at (gapAt e) (e .«gap_count») (l .j + 1)) in
     sym (l .inv .1 ∙ repeats-here (gapAt e) (e .«gap_count») (l .j) (omega arith) (sym stands ∙ c .if1 .taken))
 
 add-j : tie.Need-add-j Inv-loop μ-loop
@@ -51,14 +55,17 @@ loop-less c = search needs
 
 loop-again : tie.Need-loop-again Inv-loop μ-loop
 loop-again c =
-    let e = c .before .before .before .before .before .args .t1 in
+    let e = c .before .before .before .before .before .args .e in
     let l = c .before .before .before .before .loop in
-    let stands = c .before .stands-from .ensures ∙ ap (any (same (gapAt e (l .j)))) (from-at (gapAt e) (e .«gap_count») (l .j + 1)) in
+    let later = map (gapAt e) (row (l .j + 1) (e .«gap_count» - (l .j + 1))) in
+    let stands =
+        c .before .stands-from .ensures ∙ ap (λ (g : Gap). listed later (gapIn g)) (c .before .before .entry-gap .ensures)
+        ∙ ap (any (same (gapAt e (l .j)))) (from-at (gapAt e) (e .«gap_count») (l .j + 1)) in
     (omega arith, l .inv .1 ∙ repeats-later (gapAt e) (e .«gap_count») (l .j) (omega arith) (sym stands ∙ c .if1 .left))
 
 returns-2 : tie.Need-returns-2 Inv-loop μ-loop
 returns-2 c =
-    let e = c .before .before .args .t1 in
+    let e = c .before .before .args .e in
     let l = c .before .loop in
     sym (l .inv .1 ∙ repeats-end (gapAt e) (e .«gap_count») (l .j) (omega arith))
 
@@ -69,8 +76,7 @@ has-twin-gaps-spec =
     Inv-loop
     μ-loop
     loop-holds
-    mul-b
-    element-copy-out-b
+    entry-gap-requires
     add-stands-from
     stands-from-requires
     returns

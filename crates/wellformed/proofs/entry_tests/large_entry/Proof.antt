@@ -1,7 +1,7 @@
 -- `wellformed::entry_tests::large_entry` meets its contract: the entry passes a ceiling if a vector from the index on does.
 -- Assumes nothing.
 use Prim.Native.Nat.{_-_, _≤_}
-use mathlib.Core.Path.{_≡_, sym, _∙_}
+use mathlib.Core.Path.{_≡_, sym, ap, _∙_}
 use borrow.Author.Needs.{needs}
 use native.Mathlib.Omega.{arith}
 use Rattle.word.specs.Ceilings.{GAPS}
@@ -9,7 +9,8 @@ use Rattle.scheme.specs.WellFormed.{largeGap, largeEntry}
 use Rattle.forms.specs.SchemeMemory.{entryIn}
 use Rattle.word.specs.Lists.{any}
 use Rattle.scheme.specs.TestLaws.{from, any-here, any-later, any-end}
-use Rattle.forms.specs.SchemeMemory.{gapAt}
+use Rattle.forms.specs.SchemeMemory.{gapIn, gapAt}
+use Rattle.forms.specs.declared.memory.Gap.{Gap}
 use Rattle.wellformed.proofs.EntryTestLaws.{entry-long, entry-many, entry-by-gaps}
 use Rattle.wellformed.proofs.entry_tests.large_entry.Statement.{statement}
 use Rattle.wellformed.proofs.entry_tests.large_entry.Tie as tie
@@ -21,28 +22,26 @@ abbrev μ-loop : tie.MeasureT-loop
 μ-loop e k n j₀ j = n - j
 
 returns : tie.Need-returns Inv-loop μ-loop
-returns c = sym (entry-long (c .before .args .t1) (c .if1 .taken))
+returns c = sym (entry-long (c .before .args .e) (c .if1 .taken))
 
 returns-2 : tie.Need-returns-2 Inv-loop μ-loop
-returns-2 c = sym (entry-many (c .before .before .args .t1) (c .before .if1 .left) (c .if2 .taken))
+returns-2 c = sym (entry-many (c .before .before .args .e) (c .before .if1 .left) (c .if2 .taken))
 
 loop-holds : tie.Need-loop-holds Inv-loop μ-loop
-loop-holds c = (omega arith, c .if2 .left, entry-by-gaps (c .before .before .args .t1) (c .before .if1 .left) (c .if2 .left))
+loop-holds c = (omega arith, c .if2 .left, entry-by-gaps (c .before .before .args .e) (c .before .if1 .left) (c .if2 .left))
 
-mul-b : tie.Need-mul-b Inv-loop μ-loop
-mul-b c = search needs
-
-element-copy-out-b : tie.Need-element-copy-out-b Inv-loop μ-loop
-element-copy-out-b c = search needs
+entry-gap-requires : tie.Need-entry-gap-requires Inv-loop μ-loop
+entry-gap-requires c κs = search needs
 
 large-gap-requires : tie.Need-large-gap-requires Inv-loop μ-loop
 large-gap-requires c κs = search needs
 
 returns-3 : tie.Need-returns-3 Inv-loop μ-loop
 returns-3 c =
-    let e = c .before .before .before .before .before .before .before .args .t1 in
+    let e = c .before .before .before .before .before .before .before .args .e in
     let l = c .before .before .before .before .loop in
-    sym (l .inv .2 ∙ any-here largeGap (gapAt e) (e .«gap_count») (l .j) (omega arith) (sym (c .before .large-gap .ensures) ∙ c .if3 .taken))
+    let large = c .before .large-gap .ensures ∙ ap (λ (g : Gap). largeGap (gapIn g)) (c .before .before .entry-gap .ensures) in
+    sym (l .inv .2 ∙ any-here largeGap (gapAt e) (e .«gap_count») (l .j) (omega arith) (sym large ∙ c .if3 .taken))
 
 add-j : tie.Need-add-j Inv-loop μ-loop
 add-j c = search needs
@@ -52,13 +51,14 @@ loop-less c = search needs
 
 loop-again : tie.Need-loop-again Inv-loop μ-loop
 loop-again c =
-    let e = c .before .before .before .before .before .before .before .args .t1 in
+    let e = c .before .before .before .before .before .before .before .args .e in
     let l = c .before .before .before .before .loop in
-    (omega arith, l .inv .1, l .inv .2 ∙ any-later largeGap (gapAt e) (e .«gap_count») (l .j) (omega arith) (sym (c .before .large-gap .ensures) ∙ c .if3 .left))
+    let large = c .before .large-gap .ensures ∙ ap (λ (g : Gap). largeGap (gapIn g)) (c .before .before .entry-gap .ensures) in
+    (omega arith, l .inv .1, l .inv .2 ∙ any-later largeGap (gapAt e) (e .«gap_count») (l .j) (omega arith) (sym large ∙ c .if3 .left))
 
 returns-4 : tie.Need-returns-4 Inv-loop μ-loop
 returns-4 c =
-    let e = c .before .before .before .before .args .t1 in
+    let e = c .before .before .before .before .args .e in
     let l = c .before .loop in
     sym (l .inv .2 ∙ any-end largeGap (gapAt e) (e .«gap_count») (l .j) (omega arith))
 
@@ -71,8 +71,7 @@ large-entry-spec =
     returns
     returns-2
     loop-holds
-    mul-b
-    element-copy-out-b
+    entry-gap-requires
     large-gap-requires
     returns-3
     add-j

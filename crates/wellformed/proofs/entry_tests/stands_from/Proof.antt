@@ -9,35 +9,36 @@ use Rattle.word.specs.Lists.{any}
 use Rattle.cell.specs.Cell.{same}
 use Rattle.scheme.specs.TestLaws.{from-at, from, any-here, any-later, any-end}
 use Rattle.forms.specs.SchemeMemory.{gapAt}
+use Rattle.forms.specs.declared.memory.Gap.{Gap}
 use Rattle.wellformed.proofs.entry_tests.stands_from.Statement.{statement}
 use Rattle.wellformed.proofs.entry_tests.stands_from.Tie as tie
 
 abbrev Inv-loop : tie.InvT-loop
-Inv-loop start b e n j₀ j = (j ≤ n) × (any (same (gapIn b)) (from (gapAt e) n start) ≡ any (same (gapIn b)) (from (gapAt e) n j))
+Inv-loop e start b n j₀ j = (j ≤ n) × (any (same (gapIn b)) (from (gapAt e) n start) ≡ any (same (gapIn b)) (from (gapAt e) n j))
 
 abbrev μ-loop : tie.MeasureT-loop
-μ-loop start b e n j₀ j = n - j
+μ-loop e start b n j₀ j = n - j
 
 loop-holds : tie.Need-loop-holds Inv-loop μ-loop
 loop-holds c = search needs
 
-mul-d : tie.Need-mul-d Inv-loop μ-loop
-mul-d c = search needs
-
-element-copy-out-d : tie.Need-element-copy-out-d Inv-loop μ-loop
-element-copy-out-d c = search needs
+entry-gap-requires : tie.Need-entry-gap-requires Inv-loop μ-loop
+entry-gap-requires c κs = search needs
 
 same-gap-requires : tie.Need-same-gap-requires Inv-loop μ-loop
 same-gap-requires c κs =
     let l = c .before .before .loop in
-    (c .before .before .before .pre .2, c .before .before .before .pre .0 .narrow (l .j) (omega arith))
+    let begin = c .before .before .before in
+    let width = ap (λ (g : Gap). g .width) (c .entry-gap .ensures) in
+    (begin .pre .2, omega (arith, width, begin .pre .0 .narrow (l .j) (omega arith)))
 
 returns : tie.Need-returns Inv-loop μ-loop
 returns c =
-    let e = c .before .before .before .before .before .args .t1 in
+    let e = c .before .before .before .before .before .args .e in
     let b = c .before .before .before .before .before .args .b in
     let l = c .before .before .before .before .loop in
-    let here = any-here (same (gapIn b)) (gapAt e) (e .«gap_count») (l .j) (omega arith) (sym (c .before .same-gap .ensures) ∙ c .if1 .taken) in
+    let alike = c .before .same-gap .ensures ∙ ap (λ (g : Gap). same (gapIn b) (gapIn g)) (c .before .before .entry-gap .ensures) in
+    let here = any-here (same (gapIn b)) (gapAt e) (e .«gap_count») (l .j) (omega arith) (sym alike ∙ c .if1 .taken) in
     sym (ap (any (same (gapIn b))) (from-at (gapAt e) (e .«gap_count») (c .before .before .before .before .before .args .start)) ∙ l .inv .1 ∙ here)
 
 add-j : tie.Need-add-j Inv-loop μ-loop
@@ -48,14 +49,15 @@ loop-less c = search needs
 
 loop-again : tie.Need-loop-again Inv-loop μ-loop
 loop-again c =
-    let e = c .before .before .before .before .before .args .t1 in
+    let e = c .before .before .before .before .before .args .e in
     let b = c .before .before .before .before .before .args .b in
     let l = c .before .before .before .before .loop in
-    (omega arith, l .inv .1 ∙ any-later (same (gapIn b)) (gapAt e) (e .«gap_count») (l .j) (omega arith) (sym (c .before .same-gap .ensures) ∙ c .if1 .left))
+    let alike = c .before .same-gap .ensures ∙ ap (λ (g : Gap). same (gapIn b) (gapIn g)) (c .before .before .entry-gap .ensures) in
+    (omega arith, l .inv .1 ∙ any-later (same (gapIn b)) (gapAt e) (e .«gap_count») (l .j) (omega arith) (sym alike ∙ c .if1 .left))
 
 returns-2 : tie.Need-returns-2 Inv-loop μ-loop
 returns-2 c =
-    let e = c .before .before .args .t1 in
+    let e = c .before .before .args .e in
     let b = c .before .before .args .b in
     let l = c .before .loop in
     sym (ap (any (same (gapIn b))) (from-at (gapAt e) (e .«gap_count») (c .before .before .args .start)) ∙ l .inv .1 ∙ any-end (same (gapIn b)) (gapAt e) (e .«gap_count») (l .j) (omega arith))
@@ -67,8 +69,7 @@ stands-from-spec =
     Inv-loop
     μ-loop
     loop-holds
-    mul-d
-    element-copy-out-d
+    entry-gap-requires
     same-gap-requires
     returns
     add-j

@@ -22,20 +22,21 @@ abbrev μ-loop : tie.MeasureT-loop
 loop-holds : tie.Need-loop-holds Inv-loop μ-loop
 loop-holds c = (omega arith, width-by-gaps (c .args .t1))
 
-mul-b : tie.Need-mul-b Inv-loop μ-loop
-mul-b c = search needs
+element-copy-out-wide : tie.Need-element-copy-out-wide Inv-loop μ-loop
+element-copy-out-wide c = search needs
 
-element-copy-out-b : tie.Need-element-copy-out-b Inv-loop μ-loop
-element-copy-out-b c = search needs
+wide-requires : tie.Need-wide-requires Inv-loop μ-loop
+wide-requires c κs = search needs
 
 add-if1 : tie.Need-add-if1 Inv-loop μ-loop
 add-if1 c = search needs
 
 returns : tie.Need-returns Inv-loop μ-loop
 returns c =
-    let e = c .before .before .before .before .args .t1 in
-    let l = c .before .before .before .loop in
-    sym (l .inv .1 ∙ any-here (otherWidth e) (gapAt e) (e .«gap_count») (l .j) (omega arith) (width-other e (l .j) (c .if1 .taken)))
+    let w = c .before .wide in
+    let l = c .before .before .before .before .loop in
+    let e = c .before .before .before .before .before .args .t1 in
+    sym (l .inv .1 ∙ any-here (otherWidth e) (gapAt e) (e .«gap_count») (l .j) (omega arith) (width-other e (l .j) (w .result) (w .ensures .0) (c .if1 .taken)))
 
 add-j : tie.Need-add-j Inv-loop μ-loop
 add-j c = search needs
@@ -45,9 +46,10 @@ loop-less c = search needs
 
 loop-again : tie.Need-loop-again Inv-loop μ-loop
 loop-again c =
-    let e = c .before .before .before .before .args .t1 in
-    let l = c .before .before .before .loop in
-    (omega arith, l .inv .1 ∙ any-later (otherWidth e) (gapAt e) (e .«gap_count») (l .j) (omega arith) (width-right e (l .j) (c .if1 .left)))
+    let w = c .before .wide in
+    let l = c .before .before .before .before .loop in
+    let e = c .before .before .before .before .before .args .t1 in
+    (omega arith, l .inv .1 ∙ any-later (otherWidth e) (gapAt e) (e .«gap_count») (l .j) (omega arith) (width-right e (l .j) (w .result) (w .ensures .0) (c .if1 .left)))
 
 returns-2 : tie.Need-returns-2 Inv-loop μ-loop
 returns-2 c =
@@ -62,8 +64,8 @@ wrong-width-spec =
     Inv-loop
     μ-loop
     loop-holds
-    mul-b
-    element-copy-out-b
+    element-copy-out-wide
+    wide-requires
     add-if1
     returns
     add-j

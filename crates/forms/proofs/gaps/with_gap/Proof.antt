@@ -1,0 +1,71 @@
+-- `forms::gaps::with_gap` meets its contract: the first components are stored, one after the other.
+-- Assumes nothing.
+use Prim.Native.Nat.{_*_, _-_, _≤_, _<_}
+use mathlib.Core.Path.{_≡_, refl, ap, _∙_}
+use native.Mathlib.Omega.{arith}
+use lib.ListN.{length, take}
+use lib.Seq.{sets, take-all}
+use borrow.Author.Needs.{needs}
+use Rattle.word.specs.Ceilings.{COMPONENTS}
+use Rattle.forms.specs.GapFormLaws.{stored-more}
+use Rattle.forms.proofs.gaps.with_gap.Statement.{statement}
+use Rattle.forms.proofs.gaps.with_gap.Tie as tie
+
+abbrev Inv-loop : tie.InvT-loop
+Inv-loop j parts from stored₀ i₀ stored i = (i ≤ COMPONENTS) × (stored ≡ sets stored₀ from (take i parts))
+
+abbrev μ-loop : tie.MeasureT-loop
+μ-loop j parts from stored₀ i₀ stored i = COMPONENTS - i
+
+mul-from : tie.Need-mul-from Inv-loop μ-loop
+mul-from c = search needs
+
+loop-holds : tie.Need-loop-holds Inv-loop μ-loop
+loop-holds c = (omega arith, refl)
+
+array-read-stored : tie.Need-array-read-stored Inv-loop μ-loop
+array-read-stored c = search needs
+
+add-stored : tie.Need-add-stored Inv-loop μ-loop
+add-stored c = search needs
+
+array-write-stored : tie.Need-array-write-stored Inv-loop μ-loop
+array-write-stored c = search needs
+
+add-i : tie.Need-add-i Inv-loop μ-loop
+add-i c = search needs
+
+loop-less : tie.Need-loop-less Inv-loop μ-loop
+loop-less c = search needs
+
+loop-again : tie.Need-loop-again Inv-loop μ-loop
+loop-again c =
+    let l = c .before .loop in
+    let a = c .before .before .args in
+    let all : length (a .t3) ≡ COMPONENTS = search needs in
+    let here : l .i < length (a .t3) = omega arith in
+    (omega arith, stored-more (a .gaps) (a .t3) (COMPONENTS * a .j) (l .i) (l .stored) here (l .inv .1))
+
+returns : tie.Need-returns Inv-loop μ-loop
+returns c =
+    let l = c .before .loop in
+    let a = c .before .before .args in
+    let all : length (a .t3) ≡ COMPONENTS = search needs in
+    let done : length (a .t3) ≤ l .i = omega arith in
+    l .inv .1 ∙ ap (sets (a .gaps) (COMPONENTS * a .j)) (take-all (l .i) (a .t3) done)
+
+pub with-gap-spec : {M : Type 1} → statement M
+with-gap-spec =
+    tie.close
+    (tie.spec
+    Inv-loop
+    μ-loop
+    mul-from
+    loop-holds
+    array-read-stored
+    add-stored
+    array-write-stored
+    add-i
+    loop-less
+    loop-again
+    returns)
