@@ -29,9 +29,9 @@ use Rattle.forms.specs.declared.memory.Rule.{Rule}
 use Rattle.forms.specs.declared.memory.Rule.the-variants.{Expand, Delete}
 use Rattle.verdict.specs.Verdict.{differs, comparedWith}
 use Rattle.verdict.specs.Truth.{RuleClaim}
-use Rattle.verdict.specs.FindingLaws.{same-failure}
-use Rattle.verdict.specs.Proper.{ProperEntry}
-use Rattle.verdict.specs.ProperLaws.{position-inside}
+use Rattle.scheme.specs.FindingLaws.{same-failure}
+use Rattle.scheme.specs.Proper.{ProperEntry}
+use Rattle.scheme.specs.ProperLaws.{position-inside}
 use Rattle.verdict.specs.VerdictLaws.{differs-law}
 use Rattle.claims.specs.EntryMemory.{HasRows, ProperSet, DeletesAt, ComparedAnswer}
 use Rattle.claims.specs.EntryMemoryLaws.{entry-short, rows-hold, prefix-is, prefix-perm}

@@ -20,7 +20,7 @@ use Rattle.forms.specs.MemoryLaws.{padded-within, length-padded}
 use Rattle.scheme.specs.TestLaws.{length-items}
 use Rattle.forms.specs.declared.memory.Gap.{Gap}
 use Rattle.forms.specs.declared.memory.Entry.{Entry}
-use Rattle.verdict.specs.Proper.{ProperEntry}
+use Rattle.scheme.specs.Proper.{ProperEntry}
 use Rattle.claims.specs.EntryMemory.{HasRows}
 
 -- elements written one after the other

@@ -16,7 +16,7 @@ ghost use Rattle.word.specs.Containment.{patternsOf};
 ghost use Rattle.word.specs.Word.{longest};
 ghost use Rattle.forms.specs.SchemeMemory.{entryIn};
 ghost use Rattle.verdict.specs.Verdict.{liveGap, differs};
-ghost use Rattle.verdict.specs.Proper.{ProperEntry};
+ghost use Rattle.scheme.specs.Proper.{ProperEntry};
 ghost use Rattle.claims.specs.EntryMemory.{ProperSet, DeletesAt, ComparedAnswer};
 
 // Refusal 10 of one entry: whether the cell at one of its gap vectors is not empty.

@@ -34,7 +34,7 @@ use Rattle.scheme.specs.declared.links.Found.the-variants.{At, Nothing}
 use Rattle.scheme.proofs.LookupLaws.{listed-found, prefixes-at}
 use Rattle.verdict.specs.ValueLaws.{child-listed, target-listed, entry-found}
 use Rattle.scheme.specs.TestLaws.{or-left, or-right}
-use Rattle.verdict.specs.ProperLaws.{proper-entry}
+use Rattle.scheme.specs.ProperLaws.{proper-entry}
 use Rattle.count_plan.specs.Layout.{entryAt, prefixAt, lengthAt}
 use Rattle.count_plan.specs.LayoutLaws.{prefix-length, entry-member, entry-proper, entry-short}
 use Rattle.count_plan.specs.Plan.{Proper, LeadsTo, Places, NearPlaces, placeFound, ChildLinks, Expands, Deletes, Planned, RuleItem, EntryItem, noItem}

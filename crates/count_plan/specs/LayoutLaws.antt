@@ -19,8 +19,8 @@ use Rattle.forms.specs.SchemeList.{EntryList}
 use Rattle.forms.specs.SchemeMemory.{noGap, noEntry, gapIn, schemeIn}
 use Rattle.forms.specs.MemoryLaws.{length-padded}
 use Rattle.forms.specs.declared.memory.Scheme.{Scheme}
-use Rattle.verdict.specs.Proper.{ProperEntry}
-use Rattle.verdict.specs.ProperLaws.{proper-entry, few-entries}
+use Rattle.scheme.specs.Proper.{ProperEntry}
+use Rattle.scheme.specs.ProperLaws.{proper-entry, few-entries}
 use Rattle.count_plan.specs.Layout.{entryAt, prefixAt, lengthAt, placeAt, widthOf}
 use Rattle.count_plan.specs.Plan.{Proper, Places, NearPlaces}
 

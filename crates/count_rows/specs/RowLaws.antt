@@ -25,7 +25,7 @@ use Rattle.forms.specs.SchemeList.{Does, expands, deletes}
 use Rattle.scheme.specs.WellFormed.{outside}
 use Rattle.forms.specs.declared.memory.Scheme.{Scheme}
 use Rattle.scheme.proofs.PrefixLaws.{deleted-size}
-use Rattle.verdict.specs.ProperLaws.{position-inside}
+use Rattle.scheme.specs.ProperLaws.{position-inside}
 use Rattle.verdict.specs.Value.{ruleValue, entryValue}
 use Rattle.verdict.specs.ValueLaws.{position-high}
 use Rattle.count_step.specs.Step.{childrenOf, capped, stepOf}

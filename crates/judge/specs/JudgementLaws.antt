@@ -26,8 +26,8 @@ use Rattle.forms.specs.declared.memory.Fault.the-variants.{Clean, At}
 use Rattle.wellformed.proofs.OrderLaws.{faults-append}
 use Rattle.verdict.specs.Verdict.{isEmpty, liveGap, differs, claimTests, comparedCells, judgeTests, answered, verdictOf, toldVerdict, accepted}
 use Rattle.verdict.specs.Truth.{WellFormed, RuleClaim, AllTrue}
-use Rattle.verdict.specs.FindingLaws.{same-failure}
-use Rattle.verdict.specs.Proper.{ProperEntry}
+use Rattle.scheme.specs.FindingLaws.{same-failure}
+use Rattle.scheme.specs.Proper.{ProperEntry}
 use Rattle.verdict.specs.VerdictLaws.{differs-law, accepted-exactly}
 use Rattle.verdict.specs.declared.answer.Verdict.{Verdict}
 use Rattle.verdict.specs.declared.answer.Verdict.the-variants.{Accepted, Refused}

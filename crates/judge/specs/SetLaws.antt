@@ -18,8 +18,8 @@ use Rattle.forms.specs.MemoryLaws.{padded-within, length-padded}
 use Rattle.scheme.specs.TestLaws.{length-items}
 use Rattle.forms.specs.declared.memory.Patterns.{Patterns}
 use Rattle.forms.specs.declared.memory.Scheme.{Scheme}
-use Rattle.verdict.specs.Proper.{ProperPattern}
-use Rattle.verdict.specs.ProperLaws.{few-patterns, proper-pattern, few-entries, proper-entry}
+use Rattle.scheme.specs.Proper.{ProperPattern}
+use Rattle.scheme.specs.ProperLaws.{few-patterns, proper-pattern, few-entries, proper-entry}
 use Rattle.claims.specs.EntryMemory.{ProperSet}
 use Rattle.judge.specs.SetMemory.{HasDigits, HasLengths, ProperScheme}
 

@@ -9,7 +9,7 @@ use Rattle.forms.specs.SchemeMemory.{noPattern, noEntry, entryIn, schemeIn}
 use Rattle.forms.specs.declared.memory.Pattern.{Pattern}
 use Rattle.forms.specs.declared.memory.Scheme.{Scheme}
 use Rattle.verdict.specs.Verdict.{comparedCells}
-use Rattle.verdict.specs.Proper.{ProperEntry}
+use Rattle.scheme.specs.Proper.{ProperEntry}
 
 -- each row has the digits of a pattern
 abbrev pub HasDigits : List Pattern → List (List ℕ) → Type 0

@@ -120,23 +120,6 @@ unlisted ps q = not (listed ps q)
 abbrev pub missing : List (List ℕ) → List ℕ → ℕ → Bool
 missing ps p a = unlisted ps (childAt p a)
 
-module _ (ps : List (List ℕ)) (codes : List ℕ) (w : Codes ps codes) where
-  -- no entry has a prefix that is longer than PREFIX
-  long-unlisted : (q : List ℕ) → PREFIX < length q → listed ps q ≡ false
-  long-unlisted q h = not-true (listed ps q) (not-in (listed ps q) none-is)
-    where
-      none-is : listed ps q ≡ true → ⊥
-      none-is e =
-          let (p, m, t) = any-out (same q) ps e in
-          let size : length q ≡ length p = ap length (same-out q p t) in
-          omega (arith, w .short p m)
-
-  -- an entry with a prefix of length PREFIX lacks its children
-  pub all-childless : (p : List ℕ) → isPerm p ≡ true → length p ≡ PREFIX → any (unlisted ps) (children p) ≡ true
-  all-childless p e h =
-      any-in (unlisted ps) (children-all p 1 e (omega arith) (omega arith))
-      (ap not (long-unlisted (childAt p 1) (omega (arith, child-length p 1))))
-
 -- the children of a prefix of length k, by their last entries from 1 to k + 1
 pub children-start : (t : List ℕ → Bool) (l : List ℕ) (k : ℕ) → isPerm (take k l) ≡ true → k ≤ length l →
     any t (children (take k l)) ≡ anyFrom (λ a. t (childAt (take k l) a)) (k + 2) 1

@@ -4,3 +4,6 @@ pub mod TestOrder
 pub mod Sized
 pub mod Links
 pub mod TestLaws
+pub mod FindingLaws
+pub mod Proper
+pub mod ProperLaws

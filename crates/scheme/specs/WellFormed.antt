@@ -69,10 +69,39 @@ abbrev pub lacksTarget : List (List ℕ) → List ℕ → Does → Bool
 lacksTarget ps p expands = false
 lacksTarget ps p (deletes r) = not (listed ps (deleted (r ∷ []) p))
 
+-- the tests 2 to 9 of a scheme list, each over the whole list
+abbrev pub countTest : List EntryList → Finding
+countTest E = test Oversize (ltb ENTRIES (length E))
+
+abbrev pub sizeTest : List EntryList → Finding
+sizeTest E = firstAt Oversize largeEntry 0 E
+
+abbrev pub permutationTest : List EntryList → Finding
+permutationTest E = firstAt NoPermutation (λ e. not (isPerm (e .prefix))) 0 E
+
+abbrev pub twinTest : List EntryList → Finding
+twinTest E = firstTwin twinEntry 0 [] E
+
+-- the prefixes of all entries
+abbrev pub prefixes : List EntryList → List (List ℕ)
+prefixes E = map (λ e. e .prefix) E
+
+abbrev pub rootTest : List EntryList → Finding
+rootTest E = test Rootless (not (listed (prefixes E) []))
+
+abbrev pub widthTest : List EntryList → Finding
+widthTest E = firstAt Width wrongWidth 0 E
+
+abbrev pub positionTest : List EntryList → Finding
+positionTest E = firstAt NoPosition (λ e. outside (length (e .prefix)) (e .rule)) 0 E
+
+abbrev pub childTest : List EntryList → Finding
+childTest E = firstAt Childless (λ e. lacksChild (prefixes E) (e .prefix) (e .rule)) 0 E
+
+abbrev pub targetTest : List EntryList → Finding
+targetTest E = firstAt NoTarget (λ e. lacksTarget (prefixes E) (e .prefix) (e .rule)) 0 E
+
+-- "the numbers in order, each over the whole input" (01)
 abbrev pub schemeTests : List EntryList → List Finding
 schemeTests E =
-    let ps = map (λ e. e .prefix) E in
-    test Oversize (ltb ENTRIES (length E)) ∷ firstAt Oversize largeEntry 0 E ∷ firstAt NoPermutation (λ e. not (isPerm (e .prefix))) 0 E ∷
-    firstTwin twinEntry 0 [] E ∷ test Rootless (not (listed ps [])) ∷ firstAt Width wrongWidth 0 E ∷
-    firstAt NoPosition (λ e. outside (length (e .prefix)) (e .rule)) 0 E ∷ firstAt Childless (λ e. lacksChild ps (e .prefix) (e .rule)) 0 E ∷
-    firstAt NoTarget (λ e. lacksTarget ps (e .prefix) (e .rule)) 0 E ∷ []
+    countTest E ∷ sizeTest E ∷ permutationTest E ∷ twinTest E ∷ rootTest E ∷ widthTest E ∷ positionTest E ∷ childTest E ∷ targetTest E ∷ []

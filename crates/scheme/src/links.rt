@@ -21,7 +21,7 @@ ghost use Rattle.cell.specs.Cell.{deleted};
 ghost use Rattle.cell.specs.Child.{childAt};
 ghost use Rattle.forms.specs.Codes.{Codes, IsCode};
 ghost use Rattle.forms.specs.SchemeMemory.{padded, entryIn, schemeIn, faultOf};
-ghost use Rattle.scheme.specs.TestOrder.{childTest, targetTest};
+ghost use Rattle.scheme.specs.WellFormed.{childTest, targetTest};
 ghost use Rattle.scheme.specs.Links.{
   findCode,
   foundOf,

@@ -16,7 +16,7 @@ use Rattle.word.specs.declared.refusal.Refusal.the-variants.{Oversize, NoPermut
 use Rattle.cell.specs.Cell.{total}
 use Rattle.forms.specs.SchemeList.{Does, expands, deletes, EntryList}
 use Rattle.scheme.specs.WellFormed.{firstAt, largeGap, largeEntry, wrongWidth, outside, schemeTests}
-use Rattle.scheme.specs.TestOrder.{permutationTest, twinTest, rootTest, widthTest, positionTest, childTest, targetTest}
+use Rattle.scheme.specs.WellFormed.{permutationTest, twinTest, rootTest, widthTest, positionTest, childTest, targetTest}
 use Rattle.forms.specs.SchemeMemory.{noEntry, gapIn, entryIn, schemeIn}
 use Rattle.forms.specs.MemoryLaws.{length-padded}
 use Rattle.scheme.specs.TestLaws.{or-left, or-right, length-items, clean-cons}

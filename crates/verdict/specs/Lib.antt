@@ -1,9 +1,6 @@
 -- The verdict and the values of a scheme, and the theorems on them.
 pub mod Verdict
 pub mod Truth
-pub mod FindingLaws
-pub mod Proper
-pub mod ProperLaws
 pub mod VerdictLaws
 pub mod Value
 pub mod Size

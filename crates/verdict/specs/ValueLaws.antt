@@ -32,8 +32,8 @@ use Rattle.scheme.proofs.PrefixLaws.{deleted-size}
 use Rattle.scheme.specs.WellFormed.{listed, outside, lacksChild, lacksTarget, schemeTests}
 use Rattle.scheme.specs.TestLaws.{or-right}
 use Rattle.verdict.specs.Truth.{WellFormed, RuleClaim, AllTrue}
-use Rattle.verdict.specs.FindingLaws.{clean-in, clean-test, first-out, none-out}
-use Rattle.verdict.specs.ProperLaws.{proper-entry, position-inside}
+use Rattle.scheme.specs.FindingLaws.{clean-in, clean-test, first-out, none-out}
+use Rattle.scheme.specs.ProperLaws.{proper-entry, position-inside}
 use Rattle.verdict.specs.Size.{size, Listed, measure, HIGHEST, VALUES}
 use Rattle.verdict.specs.Value.{entryFor, ruleValue, entryValue, value, countOf}
 

@@ -20,9 +20,9 @@ use Rattle.scheme.specs.WellFormed.{firstAt, outside, patternTests, schemeTests
 use Rattle.forms.specs.SchemeMemory.{faultOf}
 use Rattle.verdict.specs.Verdict.{isEmpty, liveGap, sizesDiffer, differs, claimTests, comparedCells, judgeTests, answered, verdictOf, accepted}
 use Rattle.verdict.specs.Truth.{WellFormed, RuleClaim, EntryTrue, AllTrue}
-use Rattle.verdict.specs.FindingLaws.{clean-in, clean-left, clean-right, clean-append, clean-two, first-out, first-in, none-out, none-in}
-use Rattle.verdict.specs.Proper.{ProperEntry}
-use Rattle.verdict.specs.ProperLaws.{proper-entry, position-inside}
+use Rattle.scheme.specs.FindingLaws.{clean-in, clean-left, clean-right, clean-append, clean-two, first-out, first-in, none-out, none-in}
+use Rattle.scheme.specs.Proper.{ProperEntry}
+use Rattle.scheme.specs.ProperLaws.{proper-entry, position-inside}
 
 -- a list is empty or not
 pub empty-out : (l : List (List ℕ)) → not (isEmpty l) ≡ false → l ≡ []

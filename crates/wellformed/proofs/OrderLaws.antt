@@ -11,7 +11,8 @@ use Rattle.word.specs.declared.refusal.Refusal.the-variants.{Oversize}
 use Rattle.forms.specs.SchemeList.{EntryList}
 use Rattle.scheme.specs.WellFormed.{firstAt, largeEntry, schemeTests}
 use Rattle.forms.specs.SchemeMemory.{schemeIn, faultOf, orElse, faulty}
-use Rattle.scheme.specs.TestOrder.{sizeTests, permutationTest, twinTest, rootTest, widthTest, positionTest, entryTests, linkTests}
+use Rattle.scheme.specs.TestOrder.{sizeTests, entryTests, linkTests}
+use Rattle.scheme.specs.WellFormed.{permutationTest, twinTest, rootTest, widthTest, positionTest}
 use Rattle.scheme.specs.Sized.{Sized}
 use Rattle.scheme.specs.TestLaws.{single, clean-cons, clean-of}
 use Rattle.scheme.specs.Links.{Linked}

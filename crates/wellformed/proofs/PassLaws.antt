@@ -21,7 +21,8 @@ use Rattle.forms.specs.declared.memory.Scheme.{Scheme}
 use Rattle.forms.specs.declared.memory.Fault.{Fault}
 use Rattle.forms.specs.declared.memory.Fault.the-variants.{Clean}
 use Rattle.scheme.specs.WellFormed.{listed, repeats, twinEntry, wrongWidth}
-use Rattle.scheme.specs.TestOrder.{seen, permutationTest, twinTest, widthTest, positionTest}
+use Rattle.scheme.specs.TestOrder.{seen}
+use Rattle.scheme.specs.WellFormed.{permutationTest, twinTest, widthTest, positionTest}
 use Rattle.scheme.specs.TestLaws.{first-from, twin-from, twin-start, twin-end, first-end, noted-start, noted-more, noted-end, first-step, twin-step}
 use Rattle.scheme.specs.Links.{prefixesIn, Short}
 use Rattle.scheme.specs.Sized.{Sized}

@@ -15,7 +15,8 @@ use Rattle.forms.specs.SchemeMemory.{faultOf, orElse, faultIf}
 use Rattle.forms.specs.Codes.{Codes}
 use Rattle.forms.specs.declared.memory.Fault.{Fault}
 use Rattle.scheme.specs.WellFormed.{listed, repeats, wrongWidth, outside}
-use Rattle.scheme.specs.TestOrder.{seen, permutationTest, twinTest, widthTest, positionTest}
+use Rattle.scheme.specs.TestOrder.{seen}
+use Rattle.scheme.specs.WellFormed.{permutationTest, twinTest, widthTest, positionTest}
 use Rattle.wellformed.specs.declared.entry_pass.EntryFaults.{EntryFaults}
 
 -- the code at place i stands before it

@@ -17,7 +17,8 @@ use Rattle.cell.specs.Child.{childAt}
 use Rattle.forms.specs.Codes.{Codes}
 use Rattle.scheme.specs.WellFormed.{listed}
 use Rattle.scheme.specs.TestLaws.{anyFrom, place-here, place-later, place-end}
-use Rattle.scheme.proofs.LookupLaws.{unlisted, missing, all-childless, children-start}
+use Rattle.scheme.specs.ProperLaws.{all-childless}
+use Rattle.scheme.proofs.LookupLaws.{unlisted, missing, children-start}
 use Rattle.scheme.proofs.links.childless.Statement.{statement}
 use Rattle.scheme.proofs.links.childless.Tie as tie
 
@@ -39,7 +40,7 @@ returns c =
     let h = start .pre in
     let six : length (a .prefix) ≡ PREFIX = search needs in
     let size : length (take (a .k) (a .prefix)) ≡ PREFIX = omega (arith, length-take-le (a .k) (a .prefix) (omega arith)) in
-    λ ps w. sym (all-childless ps (a .codes .now) w (take (a .k) (a .prefix)) (h .1) size)
+    λ ps w. sym (all-childless ps (w .short) (take (a .k) (a .prefix)) (h .1) size)
 
 cast-last : tie.Need-cast-last Inv-loop μ-loop
 cast-last c = search needs

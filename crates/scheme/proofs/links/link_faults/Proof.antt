@@ -13,7 +13,7 @@ use Rattle.forms.specs.SchemeMemory.{schemeIn, faultOf, orElse}
 use Rattle.forms.specs.declared.memory.Fault.{Fault}
 use Rattle.forms.specs.declared.memory.Scheme.{Scheme}
 use Rattle.scheme.specs.WellFormed.{lacksChild, lacksTarget}
-use Rattle.scheme.specs.TestOrder.{childTest, targetTest}
+use Rattle.scheme.specs.WellFormed.{childTest, targetTest}
 use Rattle.scheme.specs.TestLaws.{first-from, noted-start, noted-more, noted-end, first-step, first-end}
 use Rattle.scheme.specs.Links.{prefixesIn}
 use Rattle.scheme.proofs.LookupLaws.{entryAt}

@@ -11,7 +11,8 @@ use Rattle.word.specs.Finding.{firstFault}
 use Rattle.forms.specs.SchemeMemory.{schemeIn, faultOf, orElse}
 use Rattle.scheme.specs.Sized.{Sized}
 use Rattle.scheme.specs.Links.{prefixesIn}
-use Rattle.scheme.specs.TestOrder.{entryTests, linkTests, permutationTest, twinTest, rootTest, widthTest, positionTest, childTest, targetTest}
+use Rattle.scheme.specs.TestOrder.{entryTests, linkTests}
+use Rattle.scheme.specs.WellFormed.{permutationTest, twinTest, rootTest, widthTest, positionTest, childTest, targetTest}
 use Rattle.wellformed.proofs.EntryTestLaws.{sized-of-clean}
 use Rattle.wellformed.proofs.OrderLaws.{scheme-by-size, scheme-by-entry, scheme-by-links, not-faulty, linked-of-clean, five-faults, two-faults}
 use Rattle.wellformed.proofs.PassLaws.{sized-short}
