@@ -10,17 +10,14 @@ use mathlib.Core.Option.{Option, none, some}
 use lib.ListN.{length, getD, take, drop, drop-of-length-le}
 use lib.Seq.{length-take-le, drop-cons}
 use lib.Dec.{ltb, eqb}
-use borrow.Author.Tests.{not-true, not-false, ltb-false, eqb-false, eq-eqb, ne-eqb}
+use borrow.Author.Tests.{not-false, ltb-false, eqb-false, eq-eqb, ne-eqb}
 use Rattle.word.specs.Ceilings.{ENTRIES, PREFIX}
 use Rattle.word.specs.Lists.{any, row}
 use Rattle.word.specs.Word.{isPerm}
-use Rattle.word.specs.ListLaws.{not-in, any-out, any-in}
 use Rattle.word.specs.Finding.{clean}
 use Rattle.word.specs.declared.refusal.Refusal.the-variants.{Oversize, NoPermutation, NoPosition}
 use Rattle.cell.specs.Cell.{same, deleted, children}
-use Rattle.cell.specs.BuiltCells.{same-out}
 use Rattle.cell.specs.Child.{childAt}
-use Rattle.cell.specs.ChildLaws.{child-length, children-all}
 use Rattle.forms.specs.SchemeList.{EntryList}
 use Rattle.forms.specs.SchemeMemory.{padded, noEntry, entryIn, doesOf, schemeIn}
 use Rattle.scheme.specs.WellFormed.{firstAt, listed, largeEntry, outside, lacksChild, lacksTarget}
@@ -32,7 +29,7 @@ use Rattle.scheme.specs.declared.links.Found.{Found}
 use Rattle.scheme.specs.declared.links.Found.the-variants.{At, Nothing}
 use Rattle.scheme.specs.TestLaws.{first-clean, anyFrom, or-left}
 use Rattle.forms.specs.MemoryLaws.{padded-within, length-padded}
-use Rattle.forms.specs.Codes.{codeOf, Bytes, IsCode, Codes}
+use Rattle.forms.specs.Codes.{codeOf, Bytes, IsCode}
 use Rattle.forms.specs.CodeLaws.{code-same}
 use Rattle.scheme.proofs.PrefixLaws.{any-child}
 

@@ -33,7 +33,7 @@ use Rattle.scheme.specs.WellFormed.{listed, outside, lacksChild, lacksTarget, s
 use Rattle.scheme.specs.TestLaws.{or-right}
 use Rattle.verdict.specs.Truth.{WellFormed, RuleClaim, AllTrue}
 use Rattle.scheme.specs.FindingLaws.{clean-in, clean-test, first-out, none-out}
-use Rattle.scheme.specs.ProperLaws.{proper-entry, position-inside}
+use Rattle.scheme.specs.ProperLaws.{proper, position-inside}
 use Rattle.verdict.specs.Size.{size, Listed, measure, HIGHEST, VALUES}
 use Rattle.verdict.specs.Value.{entryFor, ruleValue, entryValue, value, countOf}
 
@@ -66,7 +66,7 @@ module _ (P : List (List ℕ)) (E : List EntryList) (formed : firstFault (scheme
       not-false (listed (map (λ (d : EntryList). d .prefix) E) (childAt (e .prefix) a))
       (none-out (λ (q : List ℕ). not (listed (map (λ (d : EntryList). d .prefix) E) q))
       (sym (ap (lacksChild (map (λ (d : EntryList). d .prefix) E) (e .prefix)) r) ∙ none)
-      (children-all (e .prefix) a (proper-entry E formed e m .perm) low high))
+      (children-all (e .prefix) a (proper E formed .each e m .perm) low high))
 
   -- the target of a deleting entry is listed
   pub target-listed : (e : EntryList) → List·Memᴰ e E → (r : ℕ) → e .rule ≡ deletes r → Listed E (deleted (r ∷ []) (e .prefix))
@@ -101,9 +101,9 @@ module _ (P : List (List ℕ)) (E : List EntryList) (formed : firstFault (scheme
             let n = split-length g s low (omega arith) in
             let t = split-total g s low (omega arith) in
             agree (childAt (e .prefix) (slot g s)) (split g s) (child-listed e m r (slot g s) a (omega arith)) (omega arith) (omega arith)
-    rule-agrees (deletes zero) r = absurd (true-not-false (sym (ap (outside (length (e .prefix))) r) ∙ proper-entry E formed e m .inside))
+    rule-agrees (deletes zero) r = absurd (true-not-false (sym (ap (outside (length (e .prefix))) r) ∙ proper E formed .each e m .inside))
     rule-agrees (deletes (suc i)) r =
-        let q = proper-entry E formed e m in
+        let q = proper E formed .each e m in
         let inside = position-inside (length (e .prefix)) (suc i) (sym (ap (outside (length (e .prefix))) r) ∙ q .inside) in
         let k : i < length (e .prefix) = position-high (length (e .prefix)) (suc i) (sym (ap (outside (length (e .prefix))) r) ∙ q .inside) in
         let d = deleted-size i (e .prefix) (q .perm) k in
@@ -167,7 +167,7 @@ module _ (P : List (List ℕ)) (E : List EntryList) (formed : WellFormed P E) (t
     spoken f expands r = go (total g) refl
       where
         perm : isPerm (e .prefix) ≡ true
-        perm = proper-entry E (formed .scheme) e m .perm
+        perm = proper E (formed .scheme) .each e m .perm
 
         one : (b : Bool) → length (cond b (e .prefix ∷ []) []) ≡ cond b 1 0
         one true = refl
@@ -183,7 +183,7 @@ module _ (P : List (List ℕ)) (E : List EntryList) (formed : WellFormed P E) (t
             ap (λ b. cond b (cond (avoids P (e .prefix)) 1 0)
             (total (map (λ s. length (cell P (childAt (e .prefix) (slot g s)) (split g s))) (oneTo (total g))))) (sym (ne-eqb (total g) 0 (λ (z : total g ≡ 0). omega arith)))
     spoken f (deletes i) r =
-        let q = proper-entry E (formed .scheme) e m in
+        let q = proper E (formed .scheme) .each e m in
         let inside = position-inside (length (e .prefix)) i (sym (ap (outside (length (e .prefix))) r) ∙ q .inside) in
         let claim : DeletionClaim P (e .prefix) (e .gaps) (i ∷ []) = cast-rule (e .rule) i r (truth e m .rule) in
         sizes-of-agrees P (e .prefix) (i ∷ []) (q .perm) inside g wide

@@ -22,7 +22,7 @@ use Rattle.verdict.specs.Verdict.{isEmpty, liveGap, sizesDiffer, differs
 use Rattle.verdict.specs.Truth.{WellFormed, RuleClaim, EntryTrue, AllTrue}
 use Rattle.scheme.specs.FindingLaws.{clean-in, clean-left, clean-right, clean-append, clean-two, first-out, first-in, none-out, none-in}
 use Rattle.scheme.specs.Proper.{ProperEntry}
-use Rattle.scheme.specs.ProperLaws.{proper-entry, position-inside}
+use Rattle.scheme.specs.ProperLaws.{proper, position-inside}
 
 -- a list is empty or not
 pub empty-out : (l : List (List ℕ)) → not (isEmpty l) ≡ false → l ≡ []
@@ -72,7 +72,7 @@ differs-law P p B (deletes r) perm inside =
 module _ (P : List (List ℕ)) (E : List EntryList) (formed : firstFault (schemeTests E) ≡ clean) where
   pub claims-true : firstFault (claimTests P E) ≡ clean → AllTrue P E
   claims-true c e m =
-      let q = proper-entry E formed e m in
+      let q = proper E formed .each e m in
       record {
         gaps =
             live-law P (e .prefix) (e .gaps) (q .perm) .0
@@ -87,9 +87,9 @@ module _ (P : List (List ℕ)) (E : List EntryList) (formed : firstFault (scheme
       clean-two (firstAt LiveGap (λ (d : EntryList). liveGap P (d .prefix) (d .gaps)) 0 E)
       (firstAt Irreversible (λ (d : EntryList). differs P (d .prefix) (d .gaps) (d .rule)) 0 E)
       (first-in LiveGap (λ (d : EntryList). liveGap P (d .prefix) (d .gaps)) 0 E
-      (λ e m. live-law P (e .prefix) (e .gaps) (proper-entry E formed e m .perm) .1 (h e m .gaps)))
+      (λ e m. live-law P (e .prefix) (e .gaps) (proper E formed .each e m .perm) .1 (h e m .gaps)))
       (first-in Irreversible (λ (d : EntryList). differs P (d .prefix) (d .gaps) (d .rule)) 0 E
-      (λ e m. let q = proper-entry E formed e m in differs-law P (e .prefix) (e .gaps) (e .rule) (q .perm) (q .inside) .1 (h e m .rule)))
+      (λ e m. let q = proper E formed .each e m in differs-law P (e .prefix) (e .gaps) (e .rule) (q .perm) (q .inside) .1 (h e m .rule)))
 
 -- an answer accepts exactly if no test finds a fault
 pub accepted-clean : (x : Finding) (n : ℕ) → accepted (answered (faultOf x) n) ≡ true → x ≡ clean
