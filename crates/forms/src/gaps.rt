@@ -41,11 +41,11 @@ pub fn with_gap(gaps: [u8; PARTS], j: usize, parts: [u8; COMPONENTS]) -> [u8; PA
     requires { ⌜ j < GAPS ⌝ }
     ensures { λ r. ⌜ r ≡ sets gaps (COMPONENTS * j) parts ⌝ }
 {
-    let from = COMPONENTS * j;
+    let start = COMPONENTS * j;
     let mut stored = gaps;
     let mut i: usize = 0;
     while i < COMPONENTS {
-        stored[from + i] = parts[i];
+        stored[start + i] = parts[i];
         i += 1;
     }
     stored

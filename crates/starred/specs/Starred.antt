@@ -21,6 +21,7 @@ use Rattle.forms.specs.declared.memory.Fault.the-variants.{At}
 use Rattle.text_grammar.specs.Tokens.{tokens, tokensAfter, tokenAt}
 use Rattle.text_grammar.specs.Grammar.{itemsOf, readPatterns, readEntries}
 use Rattle.text_patterns.specs.PatternMemory.{loadedPatterns}
+use Rattle.text_gaps.specs.GapMemory.{partsOfAll, widthsOf}
 use Rattle.text_schemes.specs.SchemeLoaded.{loadedScheme}
 use Rattle.notation.specs.PatternAnswers.{patternsAnswer}
 use Rattle.notation.specs.SchemeAnswers.{schemeAnswer}
@@ -80,7 +81,7 @@ abbrev toldAs : Told → Answer
 toldAs t = tells (t .number) (t .values)
 
 unfoldable pub answer : Question → Answer
-unfolding countOf contains isPerm reduce spacing shorterSize vectors free total children deleted merged cell compared comparedCells liveGap differs sizesDiffer comparedWith tokens tokensAfter tokenAt readPatterns readEntries itemsOf same loadedPatterns loadedScheme bytes
+unfolding countOf contains isPerm reduce spacing shorterSize vectors free total children deleted merged cell compared comparedCells liveGap differs sizesDiffer comparedWith tokens tokensAfter tokenAt readPatterns readEntries itemsOf same loadedPatterns loadedScheme bytes partsOfAll widthsOf
 answer (containsPattern w β) = contained (containment β w)
 answer (firstEntries n u) = prefixAndSpacing (reduce u) (spacing n u)
 answer (deletion R p g) = prefixAndSpacing (deleted R p) (merged R p g)

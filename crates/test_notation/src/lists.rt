@@ -1,4 +1,5 @@
 // The lists that the reader under test gives, as the numbers of test_automaton::flat.
+use forms::gaps::entry_gap;
 use forms::memory::Entry;
 use forms::memory::Gap;
 use forms::memory::Pattern;
@@ -15,10 +16,10 @@ use word::limits::ENTRIES;
 use word::limits::GAPS;
 use word::limits::PATTERNS;
 
-// the parts of an entry: its prefix, its gap vectors and its rule
-const PARTS: usize = GAPS + 2;
-// the parts of all entries
-const ALL_PARTS: usize = ENTRIES * PARTS;
+// what an entry has: its prefix, its gap vectors and its rule
+const FIELDS: usize = GAPS + 2;
+// what all entries have
+const ALL_FIELDS: usize = ENTRIES * FIELDS;
 
 // A pattern set as numbers.
 pub fn of_patterns(p: Patterns) -> Flat {
@@ -43,11 +44,11 @@ pub fn of_scheme(s: Scheme) -> Flat {
     let count = s.count;
     let mut f = nothing();
     let mut i: usize = 0;
-    while i < ALL_PARTS {
-        if count <= i / PARTS {
+    while i < ALL_FIELDS {
+        if count <= i / FIELDS {
             return f;
         }
-        let more = with_part(f, entries[i / PARTS], i % PARTS);
+        let more = with_field(f, entries[i / FIELDS], i % FIELDS);
         f = more;
         i += 1;
     }
@@ -60,27 +61,29 @@ fn with_pattern(f: Flat, p: Pattern) -> Flat {
     with_bytes(f, prefix(&digits, p.length))
 }
 
-// The numbers and a part of an entry: its prefix, one of its gap vectors where it has that one, or
+// The numbers and one field of an entry: its prefix, one of its gap vectors where it has that one, or
 // its rule.
-fn with_part(f: Flat, e: Entry, part: usize) -> Flat {
-    if part == 0 {
+fn with_field(f: Flat, e: Entry, field: usize) -> Flat {
+    if field == 0 {
         let digits = e.prefix;
         return with_bytes(f, prefix(&digits, e.length));
     }
-    if part == GAPS + 1 {
+    if field == GAPS + 1 {
         let rule = e.rule;
         return with(with(f, STOP), rule_number(rule));
     }
-    if e.gap_count < part {
+    if e.gap_count < field {
         return f;
     }
-    with_gap(f, gap_at(e, part - 1))
+    with_gap(f, gap_or_first(e, field - 1))
 }
 
 // The gap vector at the index i, or the first where there is none.
-fn gap_at(e: Entry, i: usize) -> Gap {
-    let gaps = e.gaps;
-    if i < GAPS { gaps[i] } else { gaps[0] }
+fn gap_or_first(e: Entry, i: usize) -> Gap {
+    if i < GAPS {
+        return entry_gap(e, i);
+    }
+    entry_gap(e, 0)
 }
 
 // The numbers and a gap vector.

@@ -62,7 +62,7 @@ returns c =
     let a = c .before .before .before .args in
     let done : l .i ≡ COMPONENTS = omega arith in
     ap₂ (λ (b : List ℕ) (w : ℕ). record { parts = b; width = w }) (copied-all COMPONENTS (l .i) (l .parts) (drop (COMPONENTS * a .j) (a .t1)) (l .inv .1) done (l .inv .2))
-     (c .before .before .wide .ensures .0)
+    (c .before .before .wide .ensures .0)
 
 pub gap-at-spec : {M : Type 1} → statement M
 gap-at-spec =

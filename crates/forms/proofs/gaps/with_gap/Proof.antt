@@ -12,13 +12,13 @@ use Rattle.forms.proofs.gaps.with_gap.Statement.{statement}
 use Rattle.forms.proofs.gaps.with_gap.Tie as tie
 
 abbrev Inv-loop : tie.InvT-loop
-Inv-loop j parts from stored₀ i₀ stored i = (i ≤ COMPONENTS) × (stored ≡ sets stored₀ from (take i parts))
+Inv-loop j parts start stored₀ i₀ stored i = (i ≤ COMPONENTS) × (stored ≡ sets stored₀ start (take i parts))
 
 abbrev μ-loop : tie.MeasureT-loop
-μ-loop j parts from stored₀ i₀ stored i = COMPONENTS - i
+μ-loop j parts start stored₀ i₀ stored i = COMPONENTS - i
 
-mul-from : tie.Need-mul-from Inv-loop μ-loop
-mul-from c = search needs
+mul-start : tie.Need-mul-start Inv-loop μ-loop
+mul-start c = search needs
 
 loop-holds : tie.Need-loop-holds Inv-loop μ-loop
 loop-holds c = (omega arith, refl)
@@ -60,7 +60,7 @@ with-gap-spec =
     (tie.spec
     Inv-loop
     μ-loop
-    mul-from
+    mul-start
     loop-holds
     array-read-stored
     add-stored

@@ -43,8 +43,8 @@ returns c =
     let l = c .before .before .before .before .loop in
     let later = map (gapAt e) (row (l .j + 1) (e .«gap_count» - (l .j + 1))) in
     let stands =
-        c .before .stands-from .ensures ∙ ap (λ (g : Gap). listed later (gapIn g)) (c .before .before .entry-gap .ensures)
-        ∙ ap (any (same (gapAt e (l .j)))) (from-at (gapAt e) (e .«gap_count») (l .j + 1)) in
+    c .before .stands-from .ensures ∙ ap (λ (g : Gap). listed later (gapIn g)) (c .before .before .entry-gap .ensures)
+    ∙ ap (any (same (gapAt e (l .j)))) (from-at (gapAt e) (e .«gap_count») (l .j + 1)) in
     sym (l .inv .1 ∙ repeats-here (gapAt e) (e .«gap_count») (l .j) (omega arith) (sym stands ∙ c .if1 .taken))
 
 add-j : tie.Need-add-j Inv-loop μ-loop
@@ -59,8 +59,8 @@ loop-again c =
     let l = c .before .before .before .before .loop in
     let later = map (gapAt e) (row (l .j + 1) (e .«gap_count» - (l .j + 1))) in
     let stands =
-        c .before .stands-from .ensures ∙ ap (λ (g : Gap). listed later (gapIn g)) (c .before .before .entry-gap .ensures)
-        ∙ ap (any (same (gapAt e (l .j)))) (from-at (gapAt e) (e .«gap_count») (l .j + 1)) in
+    c .before .stands-from .ensures ∙ ap (λ (g : Gap). listed later (gapIn g)) (c .before .before .entry-gap .ensures)
+    ∙ ap (any (same (gapAt e (l .j)))) (from-at (gapAt e) (e .«gap_count») (l .j + 1)) in
     (omega arith, l .inv .1 ∙ repeats-later (gapAt e) (e .«gap_count») (l .j) (omega arith) (sym stands ∙ c .if1 .left))
 
 returns-2 : tie.Need-returns-2 Inv-loop μ-loop
