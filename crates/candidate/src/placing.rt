@@ -1,8 +1,9 @@
 // Placing the head of a pattern in a prefix: the part of the candidate search that says whether a
 // copy stands.
 use crate::tables::Tables;
-use crate::tables::VALUES;
-use crate::tables::told;
+use crate::tables::flag_of_value;
+use crate::tables::level_of_value;
+use crate::tables::need_of_entry;
 use word::limits::DIGITS;
 ghost use mathlib.Core.Path.{_≡_};
 ghost use mathlib.Core.Bool.{_||_};
@@ -28,11 +29,11 @@ fn either(a: bool, b: bool) -> bool
     if a { true } else { b }
 }
 
-// Whether a table flags a value.
-fn is_flagged(table: [u8; VALUES], v: u8) -> bool
-    ensures { λ r. ⌜ r ≡ flagged table v ⌝ }
+// Whether a prefix value is deleted.
+fn is_flagged(tables: Tables, v: u8) -> bool
+    ensures { λ r. ⌜ r ≡ flagged (tables .gone) v ⌝ }
 {
-    told(table, v) != 0
+    flag_of_value(tables, v) != 0
 }
 
 // Whether the new pair compares with the first s pairs alike.
@@ -70,15 +71,12 @@ pub fn placed(
         return used;
     }
     let x = head[s];
-    let need = tables.need;
-    let levels = tables.levels;
-    let gone = tables.gone;
-    let level = told(need, x);
+    let level = need_of_entry(tables, x);
     let mut j = state.from;
     while j < prefix.len() {
         let a = prefix[j];
         j += 1;
-        if told(levels, a) != level {
+        if level_of_value(tables, a) != level {
             continue;
         }
         if !pairs_fit(chosen, head, s, x, a) {
@@ -86,7 +84,7 @@ pub fn placed(
         }
         let mut next = chosen;
         next[s] = a;
-        let more = either(used, is_flagged(gone, a));
+        let more = either(used, is_flagged(tables, a));
         let count = s + 1;
         let longer = Placing {
             placed: count,

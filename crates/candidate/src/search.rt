@@ -17,7 +17,6 @@ use spacing::next_spacing;
 use word::copy::first_copy;
 use word::limits::COMPONENTS;
 use word::limits::DIGITS;
-use word::limits::GAPS;
 use word::limits::PATTERNS;
 use word::limits::PREFIX;
 use word::limits::WORD;
@@ -31,7 +30,7 @@ ghost use Rattle.word.specs.Word.{avoids, longest, under};
 ghost use Rattle.word.specs.Containment.{patternsOf};
 ghost use Rattle.cell.specs.Cell.{total};
 ghost use Rattle.cell.specs.Candidate.{hit};
-ghost use Rattle.spacing.specs.GapRows.{gapsOf};
+ghost use Rattle.forms.specs.GapRows.{gapsOf, HasVectors};
 ghost use Rattle.candidate.specs.Lookup.{VALUES, Says};
 ghost use Rattle.candidate.specs.Ready.{Ready, Needs, Given, SpacingAnswer, FreeAnswer, TotalAnswer, EntryAnswer};
 
@@ -194,11 +193,11 @@ fn free_and_violated(
     lengths: [u8; PATTERNS],
     count: usize,
     needs: [[u8; VALUES]; PATTERNS],
-    gaps: [[u8; COMPONENTS]; GAPS],
+    gaps: &[u8],
     at: At,
 ) -> bool
-    requires { ⌜ (count ≤ PATTERNS) × (at .deleted .length ≤ PREFIX) × (total (take (at .deleted .length + 1) (at .spacing)) ≤ TOTAL) ⌝ }
-    ensures { λ r. ⌜ FreeAnswer set lengths count needs (take (at .deleted .length) (at .deleted .prefix)) (at .deleted .gone) (gapsOf gaps (at .deleted .length + 1) (at .deleted .«gap_count»)) (take (at .deleted .length + 1) (at .spacing)) (at .total) r ⌝ }
+    requires { ⌜ (count ≤ PATTERNS) × (at .deleted .length ≤ PREFIX) × (total (take (at .deleted .length + 1) (at .spacing)) ≤ TOTAL) × HasVectors (now gaps) (at .deleted .«gap_count») ⌝ }
+    ensures { λ r. ⌜ FreeAnswer set lengths count needs (take (at .deleted .length) (at .deleted .prefix)) (at .deleted .gone) (gapsOf (now (gaps .entry)) (at .deleted .length + 1) (at .deleted .«gap_count»)) (take (at .deleted .length + 1) (at .spacing)) (at .total) r ⌝ }
 {
     let d = at.deleted;
     let g = at.spacing;
@@ -214,12 +213,12 @@ fn total_violated(
     set: [[u8; DIGITS]; PATTERNS],
     lengths: [u8; PATTERNS],
     count: usize,
-    gaps: [[u8; COMPONENTS]; GAPS],
+    gaps: &[u8],
     deleted: Deleted,
     t: usize,
 ) -> bool
-    requires { ⌜ (count ≤ PATTERNS) × (deleted .length ≤ PREFIX) × (t ≤ TOTAL) ⌝ }
-    ensures { λ r. ⌜ TotalAnswer set lengths count (take (deleted .length) (deleted .prefix)) (deleted .gone) (gapsOf gaps (deleted .length + 1) (deleted .«gap_count»)) (deleted .length) t r ⌝ }
+    requires { ⌜ (count ≤ PATTERNS) × (deleted .length ≤ PREFIX) × (t ≤ TOTAL) × HasVectors (now gaps) (deleted .«gap_count») ⌝ }
+    ensures { λ r. ⌜ TotalAnswer set lengths count (take (deleted .length) (deleted .prefix)) (deleted .gone) (gapsOf (now (gaps .entry)) (deleted .length + 1) (deleted .«gap_count»)) (deleted .length) t r ⌝ }
 {
     let k = deleted.length;
     let needs = needs_of(set, lengths, count, t);
@@ -247,11 +246,11 @@ pub fn irreversible(
     set: [[u8; DIGITS]; PATTERNS],
     lengths: [u8; PATTERNS],
     count: usize,
-    gaps: [[u8; COMPONENTS]; GAPS],
+    gaps: &[u8],
     deletion: Deletion,
 ) -> bool
-    requires { ⌜ (deletion .length ≤ PREFIX) × (deletion .«position_count» ≤ PREFIX) × (deletion .longest ≡ longest (patternsOf set lengths count)) × (deletion .longest ≤ DIGITS) × Given set lengths count (take (deletion .length) (deletion .prefix)) (take (deletion .«position_count») (deletion .positions)) ⌝ }
-    ensures { λ r. ⌜ EntryAnswer (patternsOf set lengths count) (take (deletion .length) (deletion .prefix)) (gapsOf gaps (deletion .length + 1) (deletion .«gap_count»)) (take (deletion .«position_count») (deletion .positions)) r ⌝ }
+    requires { ⌜ (deletion .length ≤ PREFIX) × (deletion .«position_count» ≤ PREFIX) × (deletion .longest ≡ longest (patternsOf set lengths count)) × (deletion .longest ≤ DIGITS) × HasVectors (now gaps) (deletion .«gap_count») × Given set lengths count (take (deletion .length) (deletion .prefix)) (take (deletion .«position_count») (deletion .positions)) ⌝ }
+    ensures { λ r. ⌜ EntryAnswer (patternsOf set lengths count) (take (deletion .length) (deletion .prefix)) (gapsOf (now (gaps .entry)) (deletion .length + 1) (deletion .«gap_count»)) (take (deletion .«position_count») (deletion .positions)) r ⌝ }
 {
     let prefix = deletion.prefix;
     let k = deletion.length;

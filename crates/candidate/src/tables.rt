@@ -129,6 +129,29 @@ pub fn told(table: [u8; VALUES], v: u8) -> u8
     if i < VALUES { table[i] } else { 0 }
 }
 
+// What each table says of a value, and 0 of a value that it does not reach. They take the tables
+// whole: a table that is handed on by itself is copied for each value that is looked up.
+pub fn need_of_entry(tables: Tables, x: u8) -> u8
+    ensures { λ r. ⌜ r ≡ entryOf (tables .need) x ⌝ }
+{
+    let i = x as usize;
+    if i < VALUES { tables.need[i] } else { 0 }
+}
+
+pub fn level_of_value(tables: Tables, v: u8) -> u8
+    ensures { λ r. ⌜ r ≡ entryOf (tables .levels) v ⌝ }
+{
+    let i = v as usize;
+    if i < VALUES { tables.levels[i] } else { 0 }
+}
+
+pub fn flag_of_value(tables: Tables, v: u8) -> u8
+    ensures { λ r. ⌜ r ≡ entryOf (tables .gone) v ⌝ }
+{
+    let i = v as usize;
+    if i < VALUES { tables.gone[i] } else { 0 }
+}
+
 // A level, or the largest that is looked at.
 fn capped(s: u8) -> u8
     ensures { λ r. ⌜ r ≡ min s LEVEL ⌝ }

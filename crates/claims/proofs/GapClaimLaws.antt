@@ -22,7 +22,7 @@ use Rattle.candidate.specs.Lookup.{entryOf, flagged, Says}
 use Rattle.candidate.specs.Tabled.{keptValues}
 use Rattle.candidate.proofs.LookupLaws.{level-more, flag-none}
 use Rattle.completion.specs.Completion.{completable}
-use Rattle.forms.specs.SchemeMemory.{padded, noGap, gapIn, entryIn}
+use Rattle.forms.specs.SchemeMemory.{padded, gapIn, gapAt, entryIn}
 use Rattle.forms.specs.MemoryLaws.{padded-within}
 use Rattle.scheme.specs.TestLaws.{or-left, from, any-start}
 use Rattle.forms.specs.declared.memory.Gap.{Gap}
@@ -119,15 +119,12 @@ module _ (P : List (List ℕ)) (p b : List ℕ) where
 abbrev pub shows : List (List ℕ) → List ℕ → ℕ → List ℕ → ℕ → List ℕ → List ℕ → Bool
 shows set lengths count prefix k parts = showsEmpty (patternsOf set lengths count) (take k prefix) (take (k + 1) parts)
 
--- the gap vector at a place of an entry
-abbrev pub vectorAt : Entry → ℕ → List ℕ
-vectorAt e j = gapIn (getD (e .gaps) j noGap)
 
 -- whether the cell at a vector is not empty
 abbrev pub liveAt : List (List ℕ) → List ℕ → List ℕ → Bool
 liveAt P p b = not (isEmpty (cell P p b))
 
 pub live-start : (P : List (List ℕ)) (e : Entry) → liveGap P ((entryIn e) .prefix) ((entryIn e) .gaps) ≡
-    any (liveAt P ((entryIn e) .prefix)) (from (vectorAt e) (e .«gap_count») 0)
+    any (liveAt P ((entryIn e) .prefix)) (from (gapAt e) (e .«gap_count») 0)
 unfolding liveGap
-live-start P e = any-start (liveAt P ((entryIn e) .prefix)) (vectorAt e) (e .«gap_count»)
+live-start P e = any-start (liveAt P ((entryIn e) .prefix)) (gapAt e) (e .«gap_count»)

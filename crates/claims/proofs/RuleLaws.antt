@@ -9,7 +9,7 @@ use mathlib.Core.List.{List, [], _∷_, map, List·Memᴰ, List·Memᴰ·head, L
 use mathlib.Core.Logic.{_↔_}
 use lib.ListN.{length, getD, take, set}
 use lib.Seq.{length-take-le}
-use Rattle.word.specs.Ceilings.{DIGITS, PATTERNS, PREFIX, GAPS}
+use Rattle.word.specs.Ceilings.{DIGITS, PATTERNS, PREFIX, GAPS, PARTS}
 use Rattle.word.specs.Lists.{all, keep, each, row}
 use Rattle.word.specs.Word.{isPerm, within}
 use Rattle.word.specs.ListLaws.{and-left}
@@ -17,7 +17,7 @@ use Rattle.word.specs.PermLaws.{within-out}
 use Rattle.word.specs.Containment.{patternsOf}
 use Rattle.cell.specs.Cell.{free, vectors, mOf, compared}
 use Rattle.cell.specs.Claim.{DeletionClaim}
-use Rattle.spacing.specs.GapRows.{gapsOf}
+use Rattle.forms.specs.GapRows.{gapsOf}
 use Rattle.candidate.specs.Ready.{patternAt, Given, EntryAnswer}
 use Rattle.candidate.specs.BasisMemory.{pattern-member}
 use Rattle.forms.specs.SchemeList.{Does, expands, deletes, EntryList}
@@ -33,8 +33,8 @@ use Rattle.scheme.specs.FindingLaws.{same-failure}
 use Rattle.scheme.specs.Proper.{ProperEntry}
 use Rattle.scheme.specs.ProperLaws.{position-inside}
 use Rattle.verdict.specs.VerdictLaws.{differs-law}
-use Rattle.claims.specs.EntryMemory.{HasRows, ProperSet, DeletesAt, ComparedAnswer}
-use Rattle.claims.specs.EntryMemoryLaws.{entry-short, rows-hold, prefix-is, prefix-perm}
+use Rattle.claims.specs.EntryMemory.{ProperSet, DeletesAt, ComparedAnswer}
+use Rattle.claims.specs.EntryMemoryLaws.{entry-short, gaps-hold, prefix-is, prefix-perm}
 use Rattle.claims.specs.ComparedLaws.{compared-small}
 
 -- the first of the positions
@@ -77,12 +77,12 @@ module _ (e : Entry) (proper : ProperEntry (entryIn e)) (six : length (e .prefix
       }
 
   -- what it answers
-  pub answers : (P : List (List ℕ)) (rows : List (List ℕ)) (b : Bool) → length rows ≡ GAPS → HasRows (e .gaps) rows →
-      EntryAnswer P (take (e .length) (e .prefix)) (gapsOf rows (e .length + 1) (e .«gap_count»)) (r ∷ []) b →
+  pub answers : (P : List (List ℕ)) (b : Bool) → length (e .gaps) ≡ PARTS →
+      EntryAnswer P (take (e .length) (e .prefix)) (gapsOf (e .gaps) (e .length + 1) (e .«gap_count»)) (r ∷ []) b →
       b ≡ differs P ((entryIn e) .prefix) ((entryIn e) .gaps) ((entryIn e) .rule)
-  answers P rows b eight has a =
+  answers P b all a =
       let claimed : (b ≡ false) ↔ DeletionClaim P ((entryIn e) .prefix) ((entryIn e) .gaps) (r ∷ []) =
-      rw (prefix-is e proper six, ← rows-hold e proper rows eight has) (a .claimed) in
+      rw (prefix-is e proper six, ← gaps-hold e proper all) (a .claimed) in
       same-failure b (differs P ((entryIn e) .prefix) ((entryIn e) .gaps) (deletes r)) claimed
       (differs-law P ((entryIn e) .prefix) ((entryIn e) .gaps) (deletes r) (proper .perm) deletes-inside) ∙
       ap (λ (x : Rule). differs P ((entryIn e) .prefix) ((entryIn e) .gaps) (doesOf x)) (sym rule)
@@ -96,16 +96,16 @@ expands-compared m e q =
       small = omega arith;
     }
 
-pub deletes-compared : (m : ℕ) (e : Entry) (r : ℕ) (rows : List (List ℕ)) (n : ℕ) → m ≤ DIGITS → ProperEntry (entryIn e) → e .rule ≡ Delete r → length rows ≡ GAPS →
-    HasRows (e .gaps) rows → n ≡ length (keep (free (gapsOf rows (e .length + 1) (e .«gap_count»))) (each (vectors (suc (e .length))) (row 0 m))) →
+pub deletes-compared : (m : ℕ) (e : Entry) (r n : ℕ) → m ≤ DIGITS → ProperEntry (entryIn e) → e .rule ≡ Delete r →
+    length (e .gaps) ≡ PARTS → n ≡ length (keep (free (gapsOf (e .gaps) (e .length + 1) (e .«gap_count»))) (each (vectors (suc (e .length))) (row 0 m))) →
     ComparedAnswer m (entryIn e) n
 unfolding comparedWith compared
-deletes-compared m e r rows n low proper q eight has is =
+deletes-compared m e r n low proper q all is =
     record {
       compares = λ P h.
           is ∙
-          ap₂ (λ (B : List (List ℕ)) (i : ℕ). length (keep (free B) (each (vectors (suc (e .length))) (row 0 i)))) (rows-hold e proper rows eight has) (sym h) ∙
+          ap₂ (λ (B : List (List ℕ)) (i : ℕ). length (keep (free B) (each (vectors (suc (e .length))) (row 0 i)))) (gaps-hold e proper all) (sym h) ∙
           ap (λ (k : ℕ). length (keep (free ((entryIn e) .gaps)) (each (vectors (suc k)) (row 0 (mOf P))))) (sym (length-padded (e .length) (e .prefix))) ∙
           ap (λ (x : Rule). comparedWith P ((entryIn e) .prefix) ((entryIn e) .gaps) (doesOf x)) (sym q);
-      small = omega (arith, is, compared-small m (e .length) (gapsOf rows (e .length + 1) (e .«gap_count»)) low (entry-short e proper));
+      small = omega (arith, is, compared-small m (e .length) (gapsOf (e .gaps) (e .length + 1) (e .«gap_count»)) low (entry-short e proper));
     }

@@ -9,15 +9,10 @@ use Rattle.word.specs.Word.{isPerm}
 use Rattle.word.specs.Containment.{patternsOf}
 use Rattle.cell.specs.Cell.{mOf}
 use Rattle.forms.specs.SchemeList.{EntryList}
-use Rattle.forms.specs.SchemeMemory.{noGap}
 use Rattle.forms.specs.declared.memory.Gap.{Gap}
 use Rattle.forms.specs.declared.memory.Rule.the-variants.{Delete}
 use Rattle.forms.specs.declared.memory.Entry.{Entry}
 use Rattle.verdict.specs.Verdict.{comparedWith}
-
--- each row has the components of a gap vector
-abbrev pub HasRows : List Gap → List (List ℕ) → Type 0
-HasRows gaps rows = (j : ℕ) → j < GAPS → (getD rows j [] ≡ (getD gaps j noGap) .parts) × (length (getD rows j []) ≡ COMPONENTS)
 
 -- a set in memory of at most PATTERNS permutations
 pub record ProperSet (set : List (List ℕ)) (lengths : List ℕ) (count : ℕ) : Type 0 where

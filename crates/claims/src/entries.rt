@@ -1,8 +1,8 @@
 // The claims of one entry in memory: whether a gap vector's cell is not empty, whether the deletion is irreversible, how many cells are compared.
-use crate::gaps::gap_rows;
 use crate::gaps::is_live;
 use candidate::search::Deletion;
 use candidate::search::irreversible;
+use forms::gaps::entry_gap;
 use forms::memory::Entry;
 use forms::memory::Rule;
 use spacing::compared_count;
@@ -34,7 +34,7 @@ pub fn has_live_gap(
     let n = e.gap_count;
     let mut j: usize = 0;
     while j < n {
-        let b = e.gaps[j];
+        let b = entry_gap(e, j);
         if is_live(set, lengths, count, prefix, k, b) {
             return true;
         }
@@ -77,7 +77,6 @@ fn loses(
     let prefix = e.prefix;
     let k = e.length;
     let gaps = e.gaps;
-    let rows = gap_rows(gaps);
     let n = e.gap_count;
     let mut positions = [0u8; PREFIX];
     positions[0] = r as u8;
@@ -89,7 +88,7 @@ fn loses(
         gap_count: n,
         longest: m,
     };
-    irreversible(set, lengths, count, rows, deletion)
+    irreversible(set, lengths, count, &gaps, deletion)
 }
 
 // How many cells are compared for one entry, m being the length of the longest pattern.
@@ -99,11 +98,10 @@ pub fn compared_with(m: usize, e: Entry) -> usize
 {
     let k = e.length;
     let gaps = e.gaps;
-    let rows = gap_rows(gaps);
     let n = e.gap_count;
     let rule = e.rule;
     match rule {
         Rule::Expand => 0,
-        Rule::Delete(_) => compared_count(m, k, rows, n),
+        Rule::Delete(_) => compared_count(m, k, &gaps, n),
     }
 }

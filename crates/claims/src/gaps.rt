@@ -1,4 +1,4 @@
-// The gap vectors of an entry: as an array of arrays, and whether the cell at one of them is not empty.
+// The gap vectors of an entry: whether the cell at one of them is not empty.
 use candidate::tables::kept;
 use candidate::tables::levels_of;
 use completion::completable;
@@ -6,9 +6,9 @@ use forms::memory::Gap;
 use spacing::at_least;
 use spacing::first_spacing;
 use spacing::next_spacing;
+use word::bytes::wide;
 use word::limits::COMPONENTS;
 use word::limits::DIGITS;
-use word::limits::GAPS;
 use word::limits::PATTERNS;
 use word::limits::PREFIX;
 use word::limits::TOTAL;
@@ -23,7 +23,6 @@ ghost use Rattle.word.specs.Containment.{patternsOf};
 ghost use Rattle.cell.specs.Cell.{total, cell};
 ghost use Rattle.forms.specs.SchemeMemory.{gapIn};
 ghost use Rattle.verdict.specs.Verdict.{isEmpty};
-ghost use Rattle.claims.specs.EntryMemory.{HasRows};
 ghost use Rattle.claims.specs.EmptyBelow.{showsEmpty, emptyAt, emptyBelow};
 
 // A flag for each value from 0 to DIGITS.
@@ -34,27 +33,6 @@ fn parts_of(b: Gap) -> [u8; COMPONENTS]
     ensures { λ r. ⌜ (r ≡ b .parts) × (length r ≡ COMPONENTS) ⌝ }
 {
     b.parts
-}
-
-// The components of each gap vector.
-pub fn gap_rows(gaps: [Gap; GAPS]) -> [[u8; COMPONENTS]; GAPS]
-    ensures { λ r. ⌜ HasRows gaps r ⌝ }
-{
-    let mut rows = [[0u8; COMPONENTS]; GAPS];
-    let mut j: usize = 0;
-    while j < GAPS {
-        let b = gaps[j];
-        rows[j] = parts_of(b);
-        j += 1;
-    }
-    rows
-}
-
-// A byte as a length.
-fn wide(x: u8) -> usize
-    ensures { λ r. ⌜ (r ≡ x) × (r < 256) ⌝ }
-{
-    x as usize
 }
 
 // Whether the cell of the prefix at the gap vector is not empty. Smaller vectors are tried first: by the gap law the cell is empty if one of theirs is, and

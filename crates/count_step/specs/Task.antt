@@ -6,8 +6,8 @@ use mathlib.Core.List.{List}
 use lib.ListN.{length, getD, take}
 use Rattle.word.specs.Ceilings.{PREFIX, LENGTH}
 use Rattle.cell.specs.Cell.{total}
+use Rattle.forms.specs.GapRows.{gapsOf, HasVectors}
 use Rattle.spacing.specs.Sizes.{RANKS, FAR}
-use Rattle.spacing.specs.GapRows.{gapsOf}
 use Rattle.spacing.specs.Rank.{rankOf}
 use Rattle.count_step.specs.Step.{stepOf}
 use Rattle.count_step.specs.declared.cells.Task.{Task}
@@ -26,13 +26,17 @@ pub record TaskFits (t : Task) : Type 0 where
   pub sum : t .length + t .total ≤ LENGTH
   pub near : Near (t .links)
 
+-- the gap vectors of the entry stand in the array
+abbrev pub TaskGaps : Task → List ℕ → Type 0
+TaskGaps t parts = HasVectors parts (t .«gap_count»)
+
 -- the spacing of a cell, in memory
 abbrev pub spacingIn : ℕ → List ℕ → List ℕ
 spacingIn k g = take (k + 1) g
 
 -- what the step of a task stores at a spacing
-abbrev pub taskStep : Task → List (List ℕ) → List ℕ → List ℕ → ℕ
-taskStep t rows T g = stepOf T (gapsOf rows (t .length + 1) (t .«gap_count»)) (t .deleted) (t .alone) (t .links) g
+abbrev pub taskStep : Task → List ℕ → List ℕ → List ℕ → ℕ
+taskStep t parts T g = stepOf T (gapsOf parts (t .length + 1) (t .«gap_count»)) (t .deleted) (t .alone) (t .links) g
 
 -- two tables that differ at most in the n cells from `at` on
 pub record Outside (at n : ℕ) (before after : List ℕ) : Type 0 where

@@ -5,7 +5,6 @@ use spacing::is_free;
 use spacing::walk::rank_without;
 use spacing::walk::wide;
 use word::limits::COMPONENTS;
-use word::limits::GAPS;
 use word::limits::LINKS;
 ghost use mathlib.Core.Path.{_≡_};
 ghost use Prim.Native.Nat.{_+_, _≤_, _<_};
@@ -14,7 +13,7 @@ ghost use Rattle.word.specs.Ceilings.{PREFIX, LENGTH, COUNTS, COLUMNS};
 ghost use Rattle.cell.specs.Cell.{total};
 ghost use Rattle.spacing.specs.Pascal.{Pascal};
 ghost use Rattle.count_step.specs.Step.{partSum, childrenOf, capped};
-ghost use Rattle.count_step.specs.Task.{Near, TaskFits, spacingIn, taskStep, REACH};
+ghost use Rattle.count_step.specs.Task.{Near, TaskFits, TaskGaps, spacingIn, taskStep, REACH};
 
 // What the cells of one entry at one length share: the entry's length and the total of its spacings; the value that the entry deletes, or 0; what an
 // expanding entry has at total 0; where in the table the cells of its children, or of its target, begin; the number of its gap vectors.
@@ -100,12 +99,12 @@ fn child_sum(
 pub fn value_at(
     table: &[u64],
     task: Task,
-    gaps: [[u8; COMPONENTS]; GAPS],
+    gaps: &[u8],
     g: [u8; COMPONENTS],
     b: &[usize],
 ) -> u64
-    requires { ⌜ TaskFits task × (total (spacingIn (task .length) g) ≡ task .total) × Pascal (now b) ⌝ }
-    ensures { λ r. ⌜ r ≡ taskStep task gaps (now (table .entry)) (spacingIn (task .length) g) ⌝ }
+    requires { ⌜ TaskFits task × TaskGaps task (now gaps) × (total (spacingIn (task .length) g) ≡ task .total) × Pascal (now b) ⌝ }
+    ensures { λ r. ⌜ r ≡ taskStep task (now (gaps .entry)) (now (table .entry)) (spacingIn (task .length) g) ⌝ }
 {
     let k = task.length;
     if !is_free(gaps, task.gap_count, k, g) {

@@ -5,7 +5,6 @@ use crate::cells::value_at;
 use spacing::first_spacing;
 use spacing::walk::next_cell;
 use word::limits::COMPONENTS;
-use word::limits::GAPS;
 ghost use mathlib.Core.Path.{_≡_};
 ghost use Prim.Native.Nat.{_+_, _≤_};
 ghost use lib.ListN.{set};
@@ -14,19 +13,19 @@ ghost use Rattle.cell.specs.Cell.{total};
 ghost use Rattle.cell.specs.Binomial.{binomial};
 ghost use Rattle.spacing.specs.Sizes.{FAR};
 ghost use Rattle.spacing.specs.Pascal.{Pascal};
-ghost use Rattle.count_step.specs.Task.{TaskFits, spacingIn, taskStep, Filled};
+ghost use Rattle.count_step.specs.Task.{TaskFits, TaskGaps, spacingIn, taskStep, Filled};
 
 // One step: fills one cell and changes no other.
 pub fn fill_one(
     table: &mut [u64],
     at: usize,
     task: Task,
-    gaps: [[u8; COMPONENTS]; GAPS],
+    gaps: &[u8],
     g: [u8; COMPONENTS],
     b: &[usize],
 )
-    requires { ⌜ TaskFits task × (total (spacingIn (task .length) g) ≡ task .total) × Pascal (now b) ⌝ }
-    ensures { λ r. ⌜ now (table .exit) ≡ set (now (table .entry)) at (taskStep task gaps (now (table .entry)) (spacingIn (task .length) g)) ⌝ }
+    requires { ⌜ TaskFits task × TaskGaps task (now gaps) × (total (spacingIn (task .length) g) ≡ task .total) × Pascal (now b) ⌝ }
+    ensures { λ r. ⌜ now (table .exit) ≡ set (now (table .entry)) at (taskStep task (now (gaps .entry)) (now (table .entry)) (spacingIn (task .length) g)) ⌝ }
 {
     let x = value_at(table, task, gaps, g, b);
     store(table, at, x);
@@ -38,11 +37,11 @@ pub fn fill_cells(
     at: usize,
     size: usize,
     task: Task,
-    gaps: [[u8; COMPONENTS]; GAPS],
+    gaps: &[u8],
     b: &[usize],
 )
-    requires { ⌜ TaskFits task × (size ≡ binomial (task .length + task .total) (task .length)) × (at ≤ FAR) × Pascal (now b) ⌝ }
-    ensures { λ r. ⌜ Filled (taskStep task gaps) (task .length) (task .total) at size size (now (table .entry)) (now (table .exit)) ⌝ }
+    requires { ⌜ TaskFits task × TaskGaps task (now gaps) × (size ≡ binomial (task .length + task .total) (task .length)) × (at ≤ FAR) × Pascal (now b) ⌝ }
+    ensures { λ r. ⌜ Filled (taskStep task (now (gaps .entry))) (task .length) (task .total) at size size (now (table .entry)) (now (table .exit)) ⌝ }
 {
     let k = task.length;
     let mut g = first_spacing(k, narrow(task.total));

@@ -6,11 +6,16 @@ use native.Mathlib.Nat.{add-zero, add-suc, suc-add}
 use native.Mathlib.Numerals.{add-one}
 use native.Mathlib.Omega.{arith}
 use mathlib.Core.Path.{_≡_, refl, sym, ap, _∙_}
-use mathlib.Core.List.{List, [], _∷_, _++_}
+use mathlib.Core.List.{List, [], _∷_, _++_, map, List·Memᴰ}
 use lib.ListN.{length, getD, take, drop, set, length-drop}
-use lib.Seq.{take-suc, take-suc-set, getD-drop, take-all, length-take-le, set-out, sets}
+use lib.Seq.{take-suc, take-suc-set, getD-drop, take-all, length-take-le, set-out, sets, take-take}
 use Rattle.word.specs.Ceilings.{COMPONENTS, GAPS, PARTS}
-use Rattle.forms.specs.SchemeMemory.{partsAt}
+use Rattle.word.specs.Lists.{row}
+use Rattle.word.specs.ListLaws.{map-same, row-out}
+use Rattle.forms.specs.SchemeMemory.{padded, partsAt, gapAt}
+use Rattle.forms.specs.MemoryLaws.{padded-within}
+use Rattle.forms.specs.GapRows.{vectorAt, gapsOf}
+use Rattle.forms.specs.declared.memory.Entry.{Entry}
 
 -- one number more, copied from place `at` of the list l on
 pub copied-more : (l : List ℕ) (at i : ℕ) (b : List ℕ) → i < length b → at + i < length l → take i b ≡ take i (drop at l)
@@ -45,3 +50,16 @@ pub length-parts : (l : List ℕ) (j : ℕ) → length l ≡ PARTS → j < GAPS 
 length-parts l j h k =
     let inside : COMPONENTS ≤ length (drop (COMPONENTS * j) l) = omega (arith, length-drop (COMPONENTS * j) l) in
     length-take-le COMPONENTS (drop (COMPONENTS * j) l) inside
+
+-- the first n vectors of an entry, where all of them have this width
+pub gaps-stand : (e : Entry) (width n : ℕ) → length (e .gaps) ≡ PARTS → width ≤ COMPONENTS → n ≤ GAPS →
+    ((j : ℕ) → j < n → getD (e .widths) j 0 ≡ width) → gapsOf (e .gaps) width n ≡ map (gapAt e) (row 0 n)
+unfolding gapsOf
+gaps-stand e width n all h few wide =
+    map-same (vectorAt (e .gaps) width) (gapAt e) (row 0 n) (λ (j : ℕ) (m : List·Memᴰ j (row 0 n)). at j (omega (arith, row-out 0 n m)))
+  where
+    at : (j : ℕ) → j < n → vectorAt (e .gaps) width j ≡ gapAt e j
+    at j l =
+        let seven = length-parts (e .gaps) j all (omega arith) in
+        sym (take-take width COMPONENTS (drop (COMPONENTS * j) (e .gaps)) h) ∙ sym (padded-within width (partsAt (e .gaps) j) (omega (arith, seven))) ∙
+        ap (λ w. padded w (partsAt (e .gaps) j)) (sym (wide j l))

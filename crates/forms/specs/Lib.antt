@@ -3,7 +3,9 @@ pub mod SchemeList
 pub mod SchemeMemory
 pub mod Codes
 pub mod GapForm
-pub mod GapFormLaws
+pub mod SetMemory
+pub mod GapRows
 pub mod MemoryLaws
+pub mod GapFormLaws
 pub mod ToldLaws
 pub mod CodeLaws

@@ -1,11 +1,12 @@
 // One gap vector of the array in which an entry keeps the components of all of them.
 use crate::memory::Entry;
 use crate::memory::Gap;
+use word::bytes::wide;
 use word::limits::COMPONENTS;
 use word::limits::GAPS;
 use word::limits::PARTS;
 ghost use mathlib.Core.Path.{_≡_};
-ghost use Prim.Native.Nat.{_*_, _<_, _≤_};
+ghost use Prim.Native.Nat.{_*_, _<_};
 ghost use lib.Seq.{sets};
 ghost use Rattle.word.specs.Ceilings.{COMPONENTS, GAPS};
 ghost use Rattle.forms.specs.GapForm.{gapFrom, entryGap};
@@ -49,11 +50,4 @@ pub fn with_gap(gaps: [u8; PARTS], j: usize, parts: [u8; COMPONENTS]) -> [u8; PA
         i += 1;
     }
     stored
-}
-
-// A byte as a number of the width of places.
-pub fn wide(x: u8) -> usize
-    ensures { λ r. ⌜ (r ≡ x) × (r ≤ 255) ⌝ }
-{
-    x as usize
 }

@@ -4,3 +4,4 @@ pub mod codes;
 pub mod gaps;
 pub mod memory;
 pub mod order;
+pub mod sets;

@@ -6,6 +6,7 @@ use mathlib.Core.Path.{_≡_, refl, sym, ap, ap₂, _∙_}
 use mathlib.Core.Bool.{Bool, true, false}
 use mathlib.Core.List.{List, [], _∷_, _++_, List·Memᴰ}
 use lib.ListN.{length}
+use Rattle.word.specs.Ceilings.{PATTERNS}
 use Rattle.word.specs.Word.{isPerm, longest}
 use Rattle.word.specs.Finding.{Finding, clean, firstFault}
 use Rattle.word.specs.declared.refusal.Refusal.the-variants.{LiveGap, Irreversible}
@@ -26,7 +27,9 @@ use Rattle.wellformed.proofs.OrderLaws.{or-else-fault, or-else-clean, not-fault
 use Rattle.verdict.specs.Verdict.{claimTests, comparedCells, answered, verdictOf}
 use Rattle.verdict.specs.Truth.{WellFormed}
 use Rattle.claims.specs.EntryMemory.{ProperSet}
-use Rattle.judge.specs.SetMemory.{HasDigits, HasLengths, ProperScheme, ComparesCells}
+use Rattle.forms.specs.SetMemory.{HasDigits, HasLengths}
+use Rattle.judge.specs.SetMemory.{ComparesCells}
+use Rattle.scheme.specs.Proper.{Proper}
 use Rattle.judge.specs.SetLaws.{set-held}
 use Rattle.judge.specs.JudgementLaws.{verdict-parts, live-same, differs-same, refused-answer}
 use Rattle.judge.proofs.EntryWalkLaws.{liveEntry, differingEntry}
@@ -63,7 +66,7 @@ module _ (P : List (List ℕ)) (E : List EntryList) where
 
 -- The basis of a set, as the code makes it.
 module _ (set : List (List ℕ)) (lengths : List ℕ) (count : ℕ) (q : ProperSet set lengths count) (b : Patterns) (is-basis : IsBasis set lengths count b)
-    (rows : List (List ℕ)) (sizes : List ℕ) (hr : length rows ≡ 24) (hs : length sizes ≡ 24)
+    (rows : List (List ℕ)) (sizes : List ℕ) (hr : length rows ≡ PATTERNS) (hs : length sizes ≡ PATTERNS)
     (has : HasDigits (b .items) rows) (sized : HasLengths (b .items) sizes) where
   basis-holds : patternsOf rows sizes (b .count) ≡ basis (patternsOf set lengths count)
   basis-holds = set-held b (is-basis .few) (is-basis .short) rows sizes hr hs has sized ∙ is-basis .holds
@@ -75,7 +78,7 @@ module _ (set : List (List ℕ)) (lengths : List ℕ) (count : ℕ) (q : ProperS
         perms = λ (β : List ℕ) (m : List·Memᴰ β (patternsOf rows sizes (b .count))). q .perms β (basis-in (patternsOf set lengths count) (rw basis-holds at m));
       }
 
-  module _ (s : Scheme) (p : ProperScheme s) (live : Fault) (is : live ≡ faultOf (firstAt LiveGap (liveEntry (patternsOf rows sizes (b .count))) 0 (schemeIn s))) where
+  module _ (s : Scheme) (p : Proper (schemeIn s)) (live : Fault) (is : live ≡ faultOf (firstAt LiveGap (liveEntry (patternsOf rows sizes (b .count))) 0 (schemeIn s))) where
     live-is : live ≡ faultOf (firstAt LiveGap (liveEntry (patternsOf set lengths count)) 0 (schemeIn s))
     live-is =
         is ∙ ap (λ (Q : List (List ℕ)). faultOf (firstAt LiveGap (liveEntry Q) 0 (schemeIn s))) basis-holds ∙
@@ -88,15 +91,20 @@ module _ (set : List (List ℕ)) (lengths : List ℕ) (count : ℕ) (q : ProperS
         two-faults (firstAt LiveGap (liveEntry (patternsOf set lengths count)) 0 (schemeIn s))
         (firstAt Irreversible (differingEntry (patternsOf set lengths count)) 0 (schemeIn s))
 
-    -- the earlier of the two findings on the basis is that of the tests
-    pub claims-found : (lost : Fault) → orElse live lost ≡ orElse live (faultOf (firstAt Irreversible (differingEntry (patternsOf rows sizes (b .count))) 0 (schemeIn s))) →
-        orElse live lost ≡ faultOf (firstFault (claimTests (patternsOf set lengths count) (schemeIn s)))
-    claims-found lost e =
-        e ∙
-        ap₂ orElse live-is
-        (ap (λ (Q : List (List ℕ)). faultOf (firstAt Irreversible (differingEntry Q) 0 (schemeIn s))) basis-holds ∙
-        ap faultOf (differs-same (patternsOf set lengths count) (q .perms) s p)) ∙
-        sym tests-parts
+    lost-is : faultOf (firstAt Irreversible (differingEntry (patternsOf rows sizes (b .count))) 0 (schemeIn s)) ≡
+        faultOf (firstAt Irreversible (differingEntry (patternsOf set lengths count)) 0 (schemeIn s))
+    lost-is =
+        ap (λ (Q : List (List ℕ)). faultOf (firstAt Irreversible (differingEntry Q) 0 (schemeIn s))) basis-holds ∙
+        ap faultOf (differs-same (patternsOf set lengths count) (q .perms) s p)
+
+    -- a fault of test 10 on the basis is the first of the tests on the set
+    pub claims-live : faulty live ≡ true → live ≡ faultOf (firstFault (claimTests (patternsOf set lengths count) (schemeIn s)))
+    claims-live h = earlier-first live _ _ live-is h ∙ sym tests-parts
+
+    -- where it finds none, what test 11 finds on the basis is
+    pub claims-lost : (lost : Fault) → lost ≡ faultOf (firstAt Irreversible (differingEntry (patternsOf rows sizes (b .count))) 0 (schemeIn s)) → faulty live ≡ false →
+        lost ≡ faultOf (firstFault (claimTests (patternsOf set lengths count) (schemeIn s)))
+    claims-lost lost e h = e ∙ lost-is ∙ earlier-second live _ _ live-is h ∙ sym tests-parts
 
 -- the answer on the claims, from the set in memory
 pub claims-answer : (patterns : Patterns) (s : Scheme) (Q : List (List ℕ)) (f : Fault) (m cells : ℕ) → Q ≡ patternsIn patterns →

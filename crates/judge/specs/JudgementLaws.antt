@@ -3,12 +3,11 @@ use Prim.Native.Nat.{ℕ, suc, _≤_, _<_}
 use native.Mathlib.Omega.{arith}
 use mathlib.Core.Path.{_≡_, refl, sym, ap, ap₂, _∙_, fun-ext}
 use mathlib.Core.Bool.{Bool, true, false, not, cond}
-use mathlib.Core.List.{List, [], _∷_, _++_, map, List·Memᴰ, List·Memᴰ·head, List·Memᴰ·tail, Memᴰ·of-map}
+use mathlib.Core.List.{List, [], _∷_, _++_, map, List·Memᴰ, List·Memᴰ·head, List·Memᴰ·tail}
 use mathlib.Core.Logic.{_↔_}
-use lib.ListN.{length, getD}
+use lib.ListN.{length}
 use Rattle.word.specs.Lists.{any, row}
 use Rattle.word.specs.Word.{isPerm}
-use Rattle.word.specs.ListLaws.{row-out}
 use Rattle.word.specs.Finding.{Finding, clean, fault, firstFault}
 use Rattle.word.specs.declared.refusal.Refusal.{Refusal}
 use Rattle.word.specs.declared.refusal.Refusal.the-variants.{LiveGap, Irreversible}
@@ -18,7 +17,7 @@ use Rattle.cell.specs.Basis.{basis}
 use Rattle.cell.specs.BasisLaws.{basis-in, basis-cell, basis-deletion}
 use Rattle.forms.specs.SchemeList.{Does, expands, deletes, EntryList}
 use Rattle.scheme.specs.WellFormed.{firstAt, outside, patternTests, schemeTests}
-use Rattle.forms.specs.SchemeMemory.{noEntry, entryIn, schemeIn, faultOf, orElse, faulty, toldOr}
+use Rattle.forms.specs.SchemeMemory.{schemeIn, faultOf, orElse, faulty, toldOr}
 use Rattle.forms.specs.ToldLaws.{told-found}
 use Rattle.forms.specs.declared.memory.Scheme.{Scheme}
 use Rattle.forms.specs.declared.memory.Fault.{Fault}
@@ -27,11 +26,10 @@ use Rattle.wellformed.proofs.OrderLaws.{faults-append}
 use Rattle.verdict.specs.Verdict.{isEmpty, liveGap, differs, claimTests, comparedCells, judgeTests, answered, verdictOf, toldVerdict, accepted}
 use Rattle.verdict.specs.Truth.{WellFormed, RuleClaim, AllTrue}
 use Rattle.scheme.specs.FindingLaws.{same-failure}
-use Rattle.scheme.specs.Proper.{ProperEntry}
+use Rattle.scheme.specs.Proper.{Proper}
 use Rattle.verdict.specs.VerdictLaws.{differs-law, accepted-exactly}
 use Rattle.verdict.specs.declared.answer.Verdict.{Verdict}
 use Rattle.verdict.specs.declared.answer.Verdict.the-variants.{Accepted, Refused}
-use Rattle.judge.specs.SetMemory.{ProperScheme}
 use Rattle.judge.specs.Judgement.{Judges}
 
 -- tests that agree on the items find the same
@@ -56,13 +54,7 @@ module _ (P : List (List ℕ)) (perms : (β : List ℕ) → List·Memᴰ β P �
       let (up, down) = differs-law (basis P) p B rule perm inside in
       same-failure (differs (basis P) p B rule) (differs P p B rule) (λ e. there (up e), λ h. down (back h)) (differs-law P p B rule perm inside)
 
-  -- each entry of a proper scheme
-  entry-of : (s : Scheme) → ProperScheme s → (e : EntryList) → List·Memᴰ e (schemeIn s) → ProperEntry e
-  entry-of s q e m =
-      let (i, n, is) = Memᴰ·of-map (λ j. entryIn (getD (s .entries) j noEntry)) (row 0 (s .count)) m in
-      rw (← is) (q .each i (omega (arith, row-out 0 (s .count) n)))
-
-  module _ (s : Scheme) (q : ProperScheme s) where
+  module _ (s : Scheme) (q : Proper (schemeIn s)) where
     -- the tests on the basis are those on the set
     pub live-same : firstAt LiveGap (λ (e : EntryList). liveGap (basis P) (e .prefix) (e .gaps)) 0 (schemeIn s) ≡
         firstAt LiveGap (λ (e : EntryList). liveGap P (e .prefix) (e .gaps)) 0 (schemeIn s)
@@ -75,7 +67,7 @@ module _ (P : List (List ℕ)) (perms : (β : List ℕ) → List·Memᴰ β P �
     differs-same =
         first-same Irreversible (λ (e : EntryList). differs (basis P) (e .prefix) (e .gaps) (e .rule)) (λ (e : EntryList). differs P (e .prefix) (e .gaps) (e .rule))
         0 (schemeIn s)
-        (λ e m. differs-basis (e .prefix) (e .gaps) (e .rule) (entry-of s q e m .perm) (entry-of s q e m .inside))
+        (λ e m. differs-basis (e .prefix) (e .gaps) (e .rule) (q .each e m .perm) (q .each e m .inside))
 
 -- the first of three findings
 pub or-else-assoc : (a b c : Fault) → orElse a (orElse b c) ≡ orElse (orElse a b) c

@@ -1,4 +1,4 @@
--- A set of patterns in memory as containment takes it holds the patterns; a well-formed scheme is proper.
+-- A set of patterns in memory as containment takes it holds the patterns.
 use Prim.Native.Nat.{ℕ, zero, suc, _%_, _≤_, _<_}
 use native.Mathlib.Omega.{arith}
 use mathlib.Core.Path.{_≡_, refl, sym, ap, ap₂, _∙_}
@@ -12,16 +12,15 @@ use Rattle.word.specs.ListLaws.{map-same, row-out, row-in}
 use Rattle.word.specs.Finding.{clean, firstFault}
 use Rattle.word.specs.Containment.{patternsOf}
 use Rattle.candidate.specs.Ready.{patternAt}
-use Rattle.scheme.specs.WellFormed.{patternTests, schemeTests}
-use Rattle.forms.specs.SchemeMemory.{padded, noPattern, noEntry, patternIn, patternsIn, entryIn, schemeIn}
+use Rattle.scheme.specs.WellFormed.{patternTests}
+use Rattle.forms.specs.SchemeMemory.{padded, noPattern, patternIn, patternsIn}
 use Rattle.forms.specs.MemoryLaws.{padded-within, length-padded}
 use Rattle.scheme.specs.TestLaws.{length-items}
 use Rattle.forms.specs.declared.memory.Patterns.{Patterns}
-use Rattle.forms.specs.declared.memory.Scheme.{Scheme}
 use Rattle.scheme.specs.Proper.{ProperPattern}
-use Rattle.scheme.specs.ProperLaws.{few-patterns, proper-pattern, few-entries, proper-entry}
+use Rattle.scheme.specs.ProperLaws.{few-patterns, proper-pattern}
 use Rattle.claims.specs.EntryMemory.{ProperSet}
-use Rattle.judge.specs.SetMemory.{HasDigits, HasLengths, ProperScheme}
+use Rattle.forms.specs.SetMemory.{HasDigits, HasLengths}
 
 -- the patterns of a set, place by place
 patterns-row : (rows : List (List ℕ)) (lengths : List ℕ) (n : ℕ) → n ≤ length rows → n ≤ length lengths →
@@ -76,13 +75,3 @@ module _ (s : Patterns) (formed : firstFault (patternTests (patternsIn s)) ≡ c
           few = few;
           perms = λ (β : List ℕ) (m : List·Memᴰ β (patternsOf rows lengths (s .count))). proper-pattern (patternsIn s) formed β (rw set-holds at m) .perm;
         }
-
--- a well-formed scheme in memory
-pub proper-scheme : (s : Scheme) → firstFault (schemeTests (schemeIn s)) ≡ clean → ProperScheme s
-proper-scheme s formed =
-    record {
-      few = omega (arith, few-entries (schemeIn s) formed, length-items (λ i. entryIn (getD (s .entries) i noEntry)) (s .count));
-      each = λ (i : ℕ) (h : i < s .count).
-          proper-entry (schemeIn s) formed (entryIn (getD (s .entries) i noEntry))
-          (Memᴰ·map (λ j. entryIn (getD (s .entries) j noEntry)) (row-in 0 (s .count) i (omega arith) (omega arith)));
-    }

@@ -13,7 +13,7 @@ ghost use Rattle.scheme.specs.WellFormed.{firstAt};
 ghost use Rattle.forms.specs.SchemeMemory.{schemeIn, faultOf};
 ghost use Rattle.verdict.specs.Verdict.{differs};
 ghost use Rattle.claims.specs.EntryMemory.{ProperSet};
-ghost use Rattle.judge.specs.SetMemory.{ProperScheme};
+ghost use Rattle.scheme.specs.Proper.{Proper};
 
 // Test 11: the first entry some of whose compared sizes differ.
 pub fn irreversible_fault(
@@ -22,7 +22,7 @@ pub fn irreversible_fault(
     count: usize,
     s: Scheme,
 ) -> Fault
-    requires { ⌜ ProperSet set lengths count × ProperScheme s ⌝ }
+    requires { ⌜ ProperSet set lengths count × Proper (schemeIn s) ⌝ }
     ensures { λ r. ⌜ r ≡ faultOf (firstAt Irreversible (λ e. differs (patternsOf set lengths count) (e .prefix) (e .gaps) (e .rule)) 0 (schemeIn s)) ⌝ }
 {
     let m = longest_length(set, lengths, count);

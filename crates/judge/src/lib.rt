@@ -3,5 +3,4 @@ pub mod compared;
 pub mod deletions;
 pub mod judging;
 pub mod live_gaps;
-pub mod sets;
 pub mod texts;

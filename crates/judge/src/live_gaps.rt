@@ -11,7 +11,7 @@ ghost use Rattle.word.specs.declared.refusal.Refusal.the-variants.{LiveGap};
 ghost use Rattle.scheme.specs.WellFormed.{firstAt};
 ghost use Rattle.forms.specs.SchemeMemory.{schemeIn, faultOf};
 ghost use Rattle.verdict.specs.Verdict.{liveGap};
-ghost use Rattle.judge.specs.SetMemory.{ProperScheme};
+ghost use Rattle.scheme.specs.Proper.{Proper};
 
 // Test 10: the first entry with a gap vector whose cell is not empty.
 pub fn live_fault(
@@ -20,7 +20,7 @@ pub fn live_fault(
     count: usize,
     s: Scheme,
 ) -> Fault
-    requires { ⌜ ProperScheme s ⌝ }
+    requires { ⌜ Proper (schemeIn s) ⌝ }
     ensures { λ r. ⌜ r ≡ faultOf (firstAt LiveGap (λ e. liveGap (patternsOf set lengths count) (e .prefix) (e .gaps)) 0 (schemeIn s)) ⌝ }
 {
     let n = s.count;

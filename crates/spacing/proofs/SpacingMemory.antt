@@ -1,19 +1,21 @@
 -- Spacings in memory: the array steps of the first and the next spacing, and the tests on components and gap vectors from a place on.
 -- Assumes nothing.
-use Prim.Native.Nat.{ℕ, zero, suc, _+_, _-_, _≤_, _<_}
+use Prim.Native.Nat.{ℕ, zero, suc, _+_, _*_, _-_, _≤_, _<_}
 use mathlib.Core.Path.{_≡_, refl, sym, ap, _∙_}
 use mathlib.Core.Bool.{Bool, true, false, not, _&&_}
-use mathlib.Core.List.{List, [], _∷_, _++_}
+use mathlib.Core.List.{List, [], _∷_, _++_, map}
 use native.Mathlib.Nat.{sub-zero}
 use native.Mathlib.Numerals.{add-one}
 use native.Mathlib.Omega.{arith}
-use lib.ListN.{length, getD, take, drop, set, replicate, drop-of-length-le}
+use lib.ListN.{length, getD, take, drop, set, replicate, drop-of-length-le, length-drop}
 use lib.Dec.{leb}
-use lib.Seq.{drop-cons, split-at, take-set-lt, drop-set-lt, getD-take, length-take-le}
+use lib.Seq.{drop-cons, split-at, take-set-lt, drop-set-lt, getD-take, getD-drop, length-take-le}
 use borrow.Author.Tests.{le-leb, lt-leb}
+use Rattle.word.specs.Ceilings.{COMPONENTS}
+use Rattle.word.specs.Lists.{row}
 use Rattle.word.specs.ListLaws.{true-not-false}
 use Rattle.cell.specs.Cell.{total, atLeast, free}
-use Rattle.spacing.specs.GapRows.{gapsOf}
+use Rattle.forms.specs.GapRows.{vectorAt, gapsOf, HasVectors}
 use Rattle.spacing.specs.Following.{firstVector, later, Follows, Steps}
 use Rattle.spacing.specs.SpacingOrder.{stepFrom, stepTo, later-none, later-next, next-total}
 
@@ -175,36 +177,35 @@ module _ (g b : List ℕ) (k i : ℕ) (lg : k < length g) (lb : k < length b) wh
       let nb : length (take (k + 1) b) ≤ i = omega (arith, taken-length b k lb) in
       rw (drop-of-length-le (take (k + 1) g) ng, drop-of-length-le (take (k + 1) b) nb) refl
 
--- the test against the gap vectors from i on
+-- the comparison with one of the vectors that stand in one array, place by place
+pub part-at : (parts : List ℕ) (j i : ℕ) → getD (drop (COMPONENTS * j) parts) i 0 ≡ getD parts (COMPONENTS * j + i) 0
+part-at parts j i = getD-drop (COMPONENTS * j) parts i 0
 
-unfoldable pub free-from : List (List ℕ) → ℕ → ℕ → List ℕ → ℕ → Bool
-free-from rows w n v i = free (gapsOf (drop i rows) w (n - i)) v
+pub part-room : (parts : List ℕ) (j : ℕ) → HasVectors parts (j + 1) → COMPONENTS ≤ length (drop (COMPONENTS * j) parts)
+part-room parts j h = omega (arith, length-drop (COMPONENTS * j) parts)
 
-module _ (rows : List (List ℕ)) (w n : ℕ) (v : List ℕ) where
-  pub free-start : free (gapsOf rows w n) v ≡ free-from rows w n v 0
-  unfolding free-from
+-- the test against the gap vectors from j on
+
+unfoldable pub free-from : List ℕ → ℕ → ℕ → List ℕ → ℕ → Bool
+free-from parts w n v j = free (map (vectorAt parts w) (row j (n - j))) v
+
+module _ (parts : List ℕ) (w n : ℕ) (v : List ℕ) where
+  pub free-start : free (gapsOf parts w n) v ≡ free-from parts w n v 0
+  unfolding free-from gapsOf
   free-start = rw (sub-zero n) refl
 
-  pub free-counted : (i : ℕ) → n ≤ i → free-from rows w n v i ≡ true
-  unfolding free-from free gapsOf
-  free-counted i h = let z : n - i ≡ 0 = omega arith in rw z refl
+  pub free-end : (j : ℕ) → n ≤ j → free-from parts w n v j ≡ true
+  unfolding free-from free
+  free-end j h = let z : n - j ≡ 0 = omega arith in rw z refl
 
-  pub free-end : (i : ℕ) → length rows ≤ i → free-from rows w n v i ≡ true
-  unfolding free-from free gapsOf
-  free-end i h = rw (drop-of-length-le rows h) (go (n - i))
-    where
-      go : (m : ℕ) → free (gapsOf [] w m) v ≡ true
-      go zero = refl
-      go (suc m) = refl
+  free-cons : (j : ℕ) → j < n → free-from parts w n v j ≡ not (atLeast v (vectorAt parts w j)) && free-from parts w n v (j + 1)
+  unfolding free-from free
+  free-cons j l =
+      let z : n - j ≡ suc (n - suc j) = omega arith in
+      rw (add-one j, z) refl
 
-  free-cons : (i : ℕ) → i < length rows → i < n → free-from rows w n v i ≡ not (atLeast v (take w (getD rows i []))) && free-from rows w n v (i + 1)
-  unfolding free-from free gapsOf
-  free-cons i h l =
-      let z : n - i ≡ suc (n - suc i) = omega arith in
-      rw (drop-cons rows i [] h, add-one i, z) refl
+  pub free-fails : (j : ℕ) → j < n → atLeast v (vectorAt parts w j) ≡ true → free-from parts w n v j ≡ false
+  free-fails j l e = free-cons j l ∙ rw e refl
 
-  pub free-fails : (i : ℕ) → i < length rows → i < n → atLeast v (take w (getD rows i [])) ≡ true → free-from rows w n v i ≡ false
-  free-fails i h l e = free-cons i h l ∙ rw e refl
-
-  pub free-passes : (i : ℕ) → i < length rows → i < n → atLeast v (take w (getD rows i [])) ≡ false → free-from rows w n v i ≡ free-from rows w n v (i + 1)
-  free-passes i h l e = free-cons i h l ∙ rw e refl
+  pub free-passes : (j : ℕ) → j < n → atLeast v (vectorAt parts w j) ≡ false → free-from parts w n v j ≡ free-from parts w n v (j + 1)
+  free-passes j l e = free-cons j l ∙ rw e refl

@@ -4,14 +4,13 @@ pub mod binomials;
 pub mod walk;
 
 use word::limits::COMPONENTS;
-use word::limits::GAPS;
 ghost use mathlib.Core.Path.{_≡_};
 ghost use Prim.Native.Nat.{suc, _+_, _<_, _≤_};
 ghost use lib.ListN.{length, take};
 ghost use Rattle.word.specs.Ceilings.{DIGITS, COMPONENTS};
 ghost use Rattle.word.specs.Lists.{keep, each, row};
 ghost use Rattle.cell.specs.Cell.{total, atLeast, free, vectors};
-ghost use Rattle.spacing.specs.GapRows.{gapsOf};
+ghost use Rattle.forms.specs.GapRows.{vectorAt, gapsOf, HasVectors};
 ghost use Rattle.spacing.specs.Following.{firstVector, Steps};
 
 // The first spacing with k + 1 components and total t: all of the total in the last component.
@@ -65,28 +64,41 @@ pub fn at_least(g: [u8; COMPONENTS], b: [u8; COMPONENTS], k: usize) -> bool
     true
 }
 
-// Whether g is at least none of the first n gap vectors.
-pub fn is_free(gaps: [[u8; COMPONENTS]; GAPS], n: usize, k: usize, g: [u8; COMPONENTS]) -> bool
-    requires { ⌜ k < COMPONENTS ⌝ }
-    ensures { λ r. ⌜ r ≡ free (gapsOf gaps (k + 1) n) (take (k + 1) g) ⌝ }
+// Whether g is at least the gap vector with index j in each of its k + 1 components.
+fn at_least_gap(g: [u8; COMPONENTS], gaps: &[u8], j: usize, k: usize) -> bool
+    requires { ⌜ (k < COMPONENTS) × HasVectors (now gaps) (j + 1) ⌝ }
+    ensures { λ r. ⌜ r ≡ atLeast (take (k + 1) g) (vectorAt (now (gaps .entry)) (k + 1) j) ⌝ }
 {
-    let mut i: usize = 0;
-    while i < GAPS {
-        if n <= i {
-            return true;
-        }
-        if at_least(g, gaps[i], k) {
+    let at = COMPONENTS * j;
+    let mut p: usize = 0;
+    while p <= k {
+        if g[p] < gaps[at + p] {
             return false;
         }
-        i += 1;
+        p += 1;
+    }
+    true
+}
+
+// Whether g is at least none of the first n gap vectors.
+pub fn is_free(gaps: &[u8], n: usize, k: usize, g: [u8; COMPONENTS]) -> bool
+    requires { ⌜ (k < COMPONENTS) × HasVectors (now gaps) n ⌝ }
+    ensures { λ r. ⌜ r ≡ free (gapsOf (now (gaps .entry)) (k + 1) n) (take (k + 1) g) ⌝ }
+{
+    let mut j: usize = 0;
+    while j < n {
+        if at_least_gap(g, gaps, j, k) {
+            return false;
+        }
+        j += 1;
     }
     true
 }
 
 // How many spacings of total t are at least none of the first n gap vectors.
-fn free_count(gaps: [[u8; COMPONENTS]; GAPS], n: usize, k: usize, t: u8) -> usize
-    requires { ⌜ (k < COMPONENTS) × (t < DIGITS) ⌝ }
-    ensures { λ r. ⌜ r ≡ length (keep (free (gapsOf gaps (k + 1) n)) (vectors (suc k) t)) ⌝ }
+fn free_count(gaps: &[u8], n: usize, k: usize, t: u8) -> usize
+    requires { ⌜ (k < COMPONENTS) × (t < DIGITS) × HasVectors (now gaps) n ⌝ }
+    ensures { λ r. ⌜ r ≡ length (keep (free (gapsOf (now (gaps .entry)) (k + 1) n)) (vectors (suc k) t)) ⌝ }
 {
     let mut g = first_spacing(k, t);
     let mut count: usize = 0;
@@ -103,9 +115,9 @@ fn free_count(gaps: [[u8; COMPONENTS]; GAPS], n: usize, k: usize, t: u8) -> usiz
 }
 
 // How many spacings are compared for an entry of length k: those with a total below m that are at least none of the first n gap vectors.
-pub fn compared_count(m: usize, k: usize, gaps: [[u8; COMPONENTS]; GAPS], n: usize) -> usize
-    requires { ⌜ (k < COMPONENTS) × (m ≤ DIGITS) ⌝ }
-    ensures { λ r. ⌜ r ≡ length (keep (free (gapsOf gaps (k + 1) n)) (each (vectors (suc k)) (row 0 m))) ⌝ }
+pub fn compared_count(m: usize, k: usize, gaps: &[u8], n: usize) -> usize
+    requires { ⌜ (k < COMPONENTS) × (m ≤ DIGITS) × HasVectors (now gaps) n ⌝ }
+    ensures { λ r. ⌜ r ≡ length (keep (free (gapsOf (now (gaps .entry)) (k + 1) n)) (each (vectors (suc k)) (row 0 m))) ⌝ }
 {
     let mut count: usize = 0;
     let mut t: usize = 0;

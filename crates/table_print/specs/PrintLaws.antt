@@ -37,7 +37,7 @@ use Rattle.verdict.specs.Value.{countOf}
 use Rattle.verdict.specs.ValueLaws.{count-avoiders}
 use Rattle.count_plan.specs.Layout.{needOf}
 use Rattle.count_rows.specs.Run.{Counts}
-use Rattle.claims.specs.EntryMemoryLaws.{take-row}
+use Rattle.forms.specs.MemoryLaws.{take-row}
 use Rattle.judge.specs.TextJudgement.{verdictRead, verdictOfTexts, TextsTrue, JudgesAndReads}
 use Rattle.judge.specs.TextVerdictLaws.{set-clean, set-list, scheme-clean, scheme-list}
 use Rattle.judge.specs.declared.texts.TextsJudged.{TextsJudged}

@@ -3,7 +3,7 @@ use crate::parts::GapRead;
 use crate::parts::Gaps;
 use crate::parts::GapsRead;
 use crate::parts::NumberRead;
-use forms::gaps::wide;
+use word::bytes::wide;
 use forms::gaps::with_gap;
 use forms::memory::Gap;
 use text_grammar::cursor::Cursor;

@@ -1,6 +1,6 @@
 // The tests 2, 3, 4, 6 and 7 of one entry in memory, and test 2 over the whole list.
 use forms::gaps::entry_gap;
-use forms::gaps::wide;
+use word::bytes::wide;
 use forms::memory::Entry;
 use forms::memory::Fault;
 use forms::memory::Gap;

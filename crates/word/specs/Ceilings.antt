@@ -27,7 +27,7 @@ COMPONENTS = PREFIX + 1
 abbrev pub GAPS : ℕ
 GAPS = 8
 
--- components of all gap vectors of an entry
+-- the components of the gap vectors of an entry, one vector after the other
 abbrev pub PARTS : ℕ
 PARTS = GAPS * COMPONENTS
 

@@ -16,7 +16,7 @@ pub const PREFIX: usize = 6;
 pub const COMPONENTS: usize = PREFIX + 1;
 // gap vectors of an entry
 pub const GAPS: usize = 8;
-// components of all gap vectors of an entry
+// components of the gap vectors of an entry, one vector after the other
 pub const PARTS: usize = GAPS * COMPONENTS;
 // total of a gap vector
 pub const TOTAL: usize = 8;

@@ -1,4 +1,5 @@
 // Whether a list is a permutation.
+use crate::bytes::wide;
 ghost use mathlib.Core.Path.{_≡_};
 ghost use lib.ListN.{drop};
 ghost use Rattle.word.specs.Word.{isPerm, has};
@@ -36,11 +37,4 @@ pub fn is_permutation(s: &[u8]) -> bool
         i += 1;
     }
     true
-}
-
-// A byte as a length.
-fn wide(x: u8) -> usize
-    ensures { λ r. ⌜ r ≡ x ⌝ }
-{
-    x as usize
 }

@@ -1,12 +1,13 @@
 -- `spacing::compared_count` meets its contract: what was counted and what passes from total t on are the whole.
 -- Assumes nothing.
+use denote.Ref.{now}
 use Prim.Native.Nat.{suc, _+_, _-_, _≤_}
 use mathlib.Core.Path.{_≡_}
 use borrow.Author.Needs.{needs}
 use native.Mathlib.Omega.{arith}
 use Rattle.word.specs.Lists.{each, row}
 use Rattle.cell.specs.Cell.{free, vectors}
-use Rattle.spacing.specs.GapRows.{gapsOf}
+use Rattle.forms.specs.GapRows.{gapsOf}
 use Rattle.spacing.proofs.SpacingCount.{passing, from-total, totals-start, totals-step, totals-end, totals-bound}
 use Rattle.spacing.proofs.compared_count.Statement.{statement}
 use Rattle.spacing.proofs.compared_count.Tie as tie
@@ -20,8 +21,8 @@ abbrev μ-loop : tie.MeasureT-loop
 
 loop-holds : tie.Need-loop-holds Inv-loop μ-loop
 loop-holds c =
-    let a = c .args in
-    (omega arith, omega (arith, totals-start (free (gapsOf (a .gaps) (a .k + 1) (a .n))) (a .k) (a .m)))
+    let a = c .before .args in
+    (omega arith, omega (arith, totals-start (free (gapsOf (now (a .gaps)) (a .k + 1) (a .n))) (a .k) (a .m)))
 
 add-loop : tie.Need-add-loop Inv-loop μ-loop
 add-loop c = search needs
@@ -34,9 +35,9 @@ free-count-requires c κs = search needs
 
 add-count : tie.Need-add-count Inv-loop μ-loop
 add-count c =
-    let a = c .before .before .before .args in
+    let a = c .before .before .before .before .args in
     let l = c .before .before .loop in
-    let f = free (gapsOf (a .gaps) (a .k + 1) (a .n)) in
+    let f = free (gapsOf (now (a .gaps)) (a .k + 1) (a .n)) in
     let most = totals-bound f (a .k) (a .m) (omega arith) (omega arith) in
     omega (arith, most, l .inv .1, totals-step f (a .k) (a .m) (l .t) (omega arith), c .free-count .ensures)
 
@@ -48,16 +49,16 @@ loop-less c = search needs
 
 loop-again : tie.Need-loop-again Inv-loop μ-loop
 loop-again c =
-    let a = c .before .before .before .args in
+    let a = c .before .before .before .before .args in
     let l = c .before .before .loop in
-    let f = free (gapsOf (a .gaps) (a .k + 1) (a .n)) in
+    let f = free (gapsOf (now (a .gaps)) (a .k + 1) (a .n)) in
     (omega arith, omega (arith, l .inv .1, totals-step f (a .k) (a .m) (l .t) (omega arith), c .free-count .ensures))
 
 returns : tie.Need-returns Inv-loop μ-loop
 returns c =
-    let a = c .before .before .args in
+    let a = c .before .before .before .args in
     let l = c .before .loop in
-    let f = free (gapsOf (a .gaps) (a .k + 1) (a .n)) in
+    let f = free (gapsOf (now (a .gaps)) (a .k + 1) (a .n)) in
     omega (arith, l .inv .1, totals-end f (a .k) (a .m) (l .t) (omega arith))
 
 pub compared-count-spec : {M : Type 1} → statement M

@@ -1,5 +1,6 @@
 -- `spacing::free_count` meets its contract: what was counted and what passes from g on are the whole.
 -- Assumes nothing.
+use denote.Ref.{now}
 use Prim.Native.Nat.{suc, _+_}
 use mathlib.Core.Path.{_≡_, sym, _∙_}
 use mathlib.Core.Logic.{⊎-elim}
@@ -8,7 +9,7 @@ use borrow.Author.Needs.{needs}
 use borrow.Author.Tests.{not-true, not-false}
 use native.Mathlib.Omega.{arith}
 use Rattle.cell.specs.Cell.{free, vectors}
-use Rattle.spacing.specs.GapRows.{gapsOf}
+use Rattle.forms.specs.GapRows.{gapsOf}
 use Rattle.spacing.specs.Following.{later}
 use Rattle.spacing.proofs.SpacingCount.{passing, Walk, walk-start, walk-passes, walk-fails, walk-end, walk-on, walk-bound, less-later}
 use Rattle.spacing.proofs.free_count.Statement.{statement}
@@ -25,17 +26,17 @@ first-spacing-requires c κs = search needs
 
 loop-holds : tie.Need-loop-holds Inv-loop μ-loop
 loop-holds c =
-    let a = c .before .args in
-    walk-start (free (gapsOf (a .gaps) (a .k + 1) (a .n))) (a .k) (a .t) (take (a .k + 1) (c .first-spacing .result)) (c .first-spacing .ensures)
+    let a = c .before .before .args in
+    walk-start (free (gapsOf (now (a .gaps)) (a .k + 1) (a .n))) (a .k) (a .t) (take (a .k + 1) (c .first-spacing .result)) (c .first-spacing .ensures)
 
 is-free-requires : tie.Need-is-free-requires Inv-loop μ-loop
 is-free-requires c κs = search needs
 
 add-count : tie.Need-add-count Inv-loop μ-loop
 add-count c =
-    let a = c .before .before .before .before .args in
+    let a = c .before .before .before .before .before .args in
     let l = c .before .before .loop in
-    let f = free (gapsOf (a .gaps) (a .k + 1) (a .n)) in
+    let f = free (gapsOf (now (a .gaps)) (a .k + 1) (a .n)) in
     let v = take (a .k + 1) (l .g) in
     let whole = walk-passes f (a .k) (a .t) v (l .count) (l .inv) (sym (c .before .is-free .ensures) ∙ c .if1 .taken) in
     omega (arith, whole, walk-bound f (a .k) (a .t) (omega arith) (omega arith))
@@ -43,13 +44,13 @@ add-count c =
 -- what was counted up to g, and what passes after it, are the whole
 passed :
     (c : tie.Joined1 Inv-loop μ-loop) →
-    let a = c .before .before .before .before .args in
-    let f = free (gapsOf (a .gaps) (a .k + 1) (a .n)) in
+    let a = c .before .before .before .before .before .args in
+    let f = free (gapsOf (now (a .gaps)) (a .k + 1) (a .n)) in
     c .if1 .count + passing f (later (take (a .k + 1) (c .before .before .loop .g))) ≡ passing f (vectors (suc (a .k)) (a .t))
 passed c =
-    let a = c .before .before .before .before .args in
+    let a = c .before .before .before .before .before .args in
     let l = c .before .before .loop in
-    let f = free (gapsOf (a .gaps) (a .k + 1) (a .n)) in
+    let f = free (gapsOf (now (a .gaps)) (a .k + 1) (a .n)) in
     let v = take (a .k + 1) (l .g) in
     ⊎-elim
     (λ w. rw (w .1) (walk-passes f (a .k) (a .t) v (l .count) (l .inv) (sym (c .before .is-free .ensures) ∙ w .0 .taken)))
@@ -63,21 +64,21 @@ next-spacing-requires c κs =
 
 returns : tie.Need-returns Inv-loop μ-loop
 returns c =
-    let a = c .before .before .before .before .before .before .before .args in
-    let f = free (gapsOf (a .gaps) (a .k + 1) (a .n)) in
+    let a = c .before .before .before .before .before .before .before .before .args in
+    let f = free (gapsOf (now (a .gaps)) (a .k + 1) (a .n)) in
     let n = c .before .before .next-spacing in
     walk-end f (a .k) (a .t) (take (a .k + 1) (c .before .before .before .before .before .loop .g)) (take (a .k + 1) (n .result .g)) (c .before .before .before .if1 .count) (n .result .found) (passed (c .before .before .before)) (n .ensures .follows) (not-true _ (c .if2 .taken))
 
 loop-less : tie.Need-loop-less Inv-loop μ-loop
 loop-less c =
-    let a = c .before .before .before .before .before .before .before .before .args in
+    let a = c .before .before .before .before .before .before .before .before .before .args in
     let n = c .before .before .before .next-spacing in
     less-later (take (a .k + 1) (c .before .before .before .before .before .before .loop .g)) (take (a .k + 1) (n .result .g)) (n .result .found) (n .ensures .follows) (not-false _ (c .before .if2 .left))
 
 loop-again : tie.Need-loop-again Inv-loop μ-loop
 loop-again c =
-    let a = c .before .before .before .before .before .before .before .before .args in
-    let f = free (gapsOf (a .gaps) (a .k + 1) (a .n)) in
+    let a = c .before .before .before .before .before .before .before .before .before .args in
+    let f = free (gapsOf (now (a .gaps)) (a .k + 1) (a .n)) in
     let n = c .before .before .before .next-spacing in
     walk-on f (a .k) (a .t) (take (a .k + 1) (c .before .before .before .before .before .before .loop .g)) (take (a .k + 1) (n .result .g)) (c .before .before .before .before .if1 .count) (n .result .found) (c .before .before .before .before .before .before .loop .inv .held) (passed (c .before .before .before .before)) (n .ensures .follows) (not-false _ (c .before .if2 .left))
 

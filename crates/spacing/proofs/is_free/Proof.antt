@@ -1,69 +1,54 @@
--- `spacing::is_free` meets its contract: g is at least no gap vector if it is at least none from i on.
+-- `spacing::is_free` meets its contract: g is at least no gap vector if it is at least none from j on.
 -- Assumes nothing.
+use denote.Ref.{now}
 use Prim.Native.Nat.{_+_, _-_}
 use mathlib.Core.Path.{_≡_, sym, _∙_}
-use lib.ListN.{length, take}
+use lib.ListN.{take}
 use borrow.Author.Needs.{needs}
 use native.Mathlib.Omega.{arith}
-use Rattle.word.specs.Ceilings.{GAPS}
 use Rattle.cell.specs.Cell.{free}
-use Rattle.spacing.specs.GapRows.{gapsOf}
-use Rattle.spacing.proofs.SpacingMemory.{free-from, free-start, free-counted, free-end, free-fails, free-passes}
+use Rattle.forms.specs.GapRows.{gapsOf}
+use Rattle.spacing.proofs.SpacingMemory.{free-from, free-start, free-end, free-fails, free-passes}
 use Rattle.spacing.proofs.is_free.Statement.{statement}
 use Rattle.spacing.proofs.is_free.Tie as tie
 
 abbrev Inv-loop : tie.InvT-loop
-Inv-loop n k g gaps i₀ i = free (gapsOf gaps (k + 1) n) (take (k + 1) g) ≡ free-from gaps (k + 1) n (take (k + 1) g) i
+Inv-loop gaps n k g j₀ j = free (gapsOf gaps (k + 1) n) (take (k + 1) g) ≡ free-from gaps (k + 1) n (take (k + 1) g) j
 
 abbrev μ-loop : tie.MeasureT-loop
-μ-loop n k g gaps i₀ i = GAPS - i
+μ-loop gaps n k g j₀ j = n - j
 
 loop-holds : tie.Need-loop-holds Inv-loop μ-loop
 loop-holds c =
-    let a = c .args in
-    free-start (a .t1) (a .k + 1) (a .n) (take (a .k + 1) (a .g))
+    let a = c .before .args in
+    free-start (now (a .gaps)) (a .k + 1) (a .n) (take (a .k + 1) (a .g))
+
+at-least-gap-requires : tie.Need-at-least-gap-requires Inv-loop μ-loop
+at-least-gap-requires c κs = search needs
 
 returns : tie.Need-returns Inv-loop μ-loop
 returns c =
-    let a = c .before .before .before .args in
-    let l = c .before .before .loop in
-    sym (l .inv ∙ free-counted (a .t1) (a .k + 1) (a .n) (take (a .k + 1) (a .g)) (l .i) (omega arith))
+    let a = c .before .before .before .before .before .args in
+    let l = c .before .before .before .loop in
+    sym (l .inv ∙ free-fails (now (a .gaps)) (a .k + 1) (a .n) (take (a .k + 1) (a .g)) (l .j) (omega arith) (sym (c .before .at-least-gap .ensures) ∙ c .if1 .taken))
 
-mul-at-least : tie.Need-mul-at-least Inv-loop μ-loop
-mul-at-least c = search needs
-
-array-copy-out-at-least : tie.Need-array-copy-out-at-least Inv-loop μ-loop
-array-copy-out-at-least c = search needs
-
-at-least-requires : tie.Need-at-least-requires Inv-loop μ-loop
-at-least-requires c κs = search needs
-
-returns-2 : tie.Need-returns-2 Inv-loop μ-loop
-returns-2 c =
-    let a = c .before .before .before .before .before .before .args in
-    let l = c .before .before .before .before .before .loop in
-    let eight : length (a .t1) ≡ GAPS = search needs in
-    sym (l .inv ∙ free-fails (a .t1) (a .k + 1) (a .n) (take (a .k + 1) (a .g)) (l .i) (omega arith) (omega arith) (sym (c .before .at-least .ensures) ∙ c .if2 .taken))
-
-add-i : tie.Need-add-i Inv-loop μ-loop
-add-i c = search needs
+add-j : tie.Need-add-j Inv-loop μ-loop
+add-j c = search needs
 
 loop-less : tie.Need-loop-less Inv-loop μ-loop
 loop-less c = search needs
 
 loop-again : tie.Need-loop-again Inv-loop μ-loop
 loop-again c =
-    let a = c .before .before .before .before .before .before .args in
-    let l = c .before .before .before .before .before .loop in
-    let eight : length (a .t1) ≡ GAPS = search needs in
-    l .inv ∙ free-passes (a .t1) (a .k + 1) (a .n) (take (a .k + 1) (a .g)) (l .i) (omega arith) (omega arith) (sym (c .before .at-least .ensures) ∙ c .if2 .left)
+    let a = c .before .before .before .before .before .args in
+    let l = c .before .before .before .loop in
+    l .inv ∙ free-passes (now (a .gaps)) (a .k + 1) (a .n) (take (a .k + 1) (a .g)) (l .j) (omega arith) (sym (c .before .at-least-gap .ensures) ∙ c .if1 .left)
 
-returns-3 : tie.Need-returns-3 Inv-loop μ-loop
-returns-3 c =
-    let a = c .before .before .args in
+returns-2 : tie.Need-returns-2 Inv-loop μ-loop
+returns-2 c =
+    let a = c .before .before .before .args in
     let l = c .before .loop in
-    let eight : length (a .t1) ≡ GAPS = search needs in
-    sym (l .inv ∙ free-end (a .t1) (a .k + 1) (a .n) (take (a .k + 1) (a .g)) (l .i) (omega arith))
+    sym (l .inv ∙ free-end (now (a .gaps)) (a .k + 1) (a .n) (take (a .k + 1) (a .g)) (l .j) (omega arith))
 
 pub is-free-spec : {M : Type 1} → statement M
 is-free-spec =
@@ -72,12 +57,9 @@ is-free-spec =
     Inv-loop
     μ-loop
     loop-holds
+    at-least-gap-requires
     returns
-    mul-at-least
-    array-copy-out-at-least
-    at-least-requires
-    returns-2
-    add-i
+    add-j
     loop-less
     loop-again
-    returns-3)
+    returns-2)

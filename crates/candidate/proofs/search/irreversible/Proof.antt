@@ -1,6 +1,7 @@
 -- `candidate::search::irreversible` meets its contract: the totals before the one at hand have no
 -- violation, and the candidates decide the claim.
 -- Assumes nothing.
+use denote.Ref.{now}
 use Prim.Native.Nat.{ℕ, suc, _-_, _+_, _≤_}
 use mathlib.Core.Path.{_≡_, sym, ap, _∙_}
 use mathlib.Core.Bool.{true, false}
@@ -13,7 +14,7 @@ use Rattle.word.specs.Lists.{all, any, each, row}
 use Rattle.word.specs.Word.{within}
 use Rattle.word.specs.Containment.{patternsOf}
 use Rattle.cell.specs.Cell.{vectors}
-use Rattle.spacing.specs.GapRows.{gapsOf}
+use Rattle.forms.specs.GapRows.{gapsOf}
 use Rattle.candidate.specs.Ready.{FlaggedFor}
 use Rattle.candidate.proofs.CandidateWalk.{lost, from-total, totals-start, totals-end, totals-here, totals-later, entry-defined, entry-answer}
 use Rattle.candidate.proofs.search.irreversible.Statement.{statement}
@@ -31,38 +32,38 @@ abbrev μ-loop : tie.MeasureT-loop
 
 deleted-values-requires : tie.Need-deleted-values-requires Inv-loop μ-loop
 deleted-values-requires c κs =
-    let a = c .before .before .args in
+    let a = c .before .before .before .args in
     let six : length (a .deletion .prefix) ≡ 6 = search needs in
-    let wide : length (take (a .deletion .length) (a .deletion .prefix)) ≡ a .deletion .length = length-take-le (a .deletion .length) (a .deletion .prefix) (omega (arith, c .before .before .pre .0)) in
-    (c .before .before .pre .0, c .before .before .pre .1, c .before .before .pre .4 .perm, ap (λ (n : ℕ). all (within n) (take (a .deletion .«position_count») (a .deletion .positions))) (sym wide) ∙ c .before .before .pre .4 .inside)
+    let wide : length (take (a .deletion .length) (a .deletion .prefix)) ≡ a .deletion .length = length-take-le (a .deletion .length) (a .deletion .prefix) (omega (arith, c .before .before .before .pre .0)) in
+    (c .before .before .before .pre .0, c .before .before .before .pre .1, c .before .before .before .pre .5 .perm, ap (λ (n : ℕ). all (within n) (take (a .deletion .«position_count») (a .deletion .positions))) (sym wide) ∙ c .before .before .before .pre .5 .inside)
 
 loop-holds : tie.Need-loop-holds Inv-loop μ-loop
 loop-holds c =
-    let a = c .before .before .before .args in
-    (c .before .before .before .pre .3, omega arith, λ R F. totals-start (lost (gapsOf (a .gaps) (a .deletion .length + 1) (a .deletion .«gap_count»)) (patternsOf (a .set) (a .lengths) (a .count)) (take (a .deletion .length) (a .deletion .prefix)) R) (a .deletion .length) (a .deletion .longest))
+    let a = c .before .before .before .before .args in
+    (c .before .before .before .before .pre .3, omega arith, λ R F. totals-start (lost (gapsOf (now (a .gaps)) (a .deletion .length + 1) (a .deletion .«gap_count»)) (patternsOf (a .set) (a .lengths) (a .count)) (take (a .deletion .length) (a .deletion .prefix)) R) (a .deletion .length) (a .deletion .longest))
 
 add-loop : tie.Need-add-loop Inv-loop μ-loop
 add-loop c = search needs
 
 total-violated-requires : tie.Need-total-violated-requires Inv-loop μ-loop
-total-violated-requires c κs = (c .before .before .before .before .before .pre .4 .few, c .before .before .before .before .before .pre .0, omega (arith, c .before .loop .inv .0))
+total-violated-requires c κs = (c .before .before .before .before .before .before .pre .5 .few, c .before .before .before .before .before .before .pre .0, omega (arith, c .before .loop .inv .0), c .before .before .before .before .before .before .pre .4)
 
 returns : tie.Need-returns Inv-loop μ-loop
 returns c =
-    let a = c .before .before .before .before .before .before .before .args in
+    let a = c .before .before .before .before .before .before .before .before .args in
     let R = take (a .deletion .«position_count») (a .deletion .positions) in
     let P = patternsOf (a .set) (a .lengths) (a .count) in
-    let A = gapsOf (a .gaps) (a .deletion .length + 1) (a .deletion .«gap_count») in
-    let G = c .before .before .before .before .before .before .before .pre .4 in
-    let six : length (a .deletion .prefix) ≡ 6 = (let o = c .before .before .before .before .before .before .before .good in search needs) in
-    let wide : length (take (a .deletion .length) (a .deletion .prefix)) ≡ a .deletion .length = length-take-le (a .deletion .length) (a .deletion .prefix) (omega (arith, c .before .before .before .before .before .before .before .pre .0)) in
+    let A = gapsOf (now (a .gaps)) (a .deletion .length + 1) (a .deletion .«gap_count») in
+    let G = c .before .before .before .before .before .before .before .before .pre .5 in
+    let six : length (a .deletion .prefix) ≡ 6 = (let o = c .before .before .before .before .before .before .before .before .good in search needs) in
+    let wide : length (take (a .deletion .length) (a .deletion .prefix)) ≡ a .deletion .length = length-take-le (a .deletion .length) (a .deletion .prefix) (omega (arith, c .before .before .before .before .before .before .before .before .pre .0)) in
     let F : FlaggedFor (a .set) (a .lengths) (a .count) (take (a .deletion .length) (a .deletion .prefix)) R (c .before .before .before .before .deleted-values .result) = (G, c .before .before .before .before .deleted-values .ensures) in
     let l = c .before .before .before .loop in
     let here = c .before .total-violated .ensures R F (sym wide) in
     let found : from-total (lost A P (take (a .deletion .length) (a .deletion .prefix)) R) (a .deletion .length) (a .deletion .longest) (l .t) ≡ true =
     totals-here (lost A P (take (a .deletion .length) (a .deletion .prefix)) R) (a .deletion .length) (a .deletion .longest) (l .t) (omega arith) (sym here ∙ c .if1 .taken) in
     entry-answer (a .set) (a .lengths) (a .count) (take (a .deletion .length) (a .deletion .prefix)) A R true G
-    (sym (entry-defined P (take (a .deletion .length) (a .deletion .prefix)) A R (a .deletion .length) (a .deletion .longest) (sym wide) (c .before .before .before .before .before .before .before .pre .2) ∙ l .inv .2 R F ∙ found))
+    (sym (entry-defined P (take (a .deletion .length) (a .deletion .prefix)) A R (a .deletion .length) (a .deletion .longest) (sym wide) (c .before .before .before .before .before .before .before .before .pre .2) ∙ l .inv .2 R F ∙ found))
 
 add-t : tie.Need-add-t Inv-loop μ-loop
 add-t c = search needs
@@ -72,12 +73,12 @@ loop-less c = search needs
 
 loop-again : tie.Need-loop-again Inv-loop μ-loop
 loop-again c =
-    let a = c .before .before .before .before .before .before .before .args in
+    let a = c .before .before .before .before .before .before .before .before .args in
     let P = patternsOf (a .set) (a .lengths) (a .count) in
-    let A = gapsOf (a .gaps) (a .deletion .length + 1) (a .deletion .«gap_count») in
+    let A = gapsOf (now (a .gaps)) (a .deletion .length + 1) (a .deletion .«gap_count») in
     let l = c .before .before .before .loop in
-    let six : length (a .deletion .prefix) ≡ 6 = (let o = c .before .before .before .before .before .before .before .good in search needs) in
-    let wide : length (take (a .deletion .length) (a .deletion .prefix)) ≡ a .deletion .length = length-take-le (a .deletion .length) (a .deletion .prefix) (omega (arith, c .before .before .before .before .before .before .before .pre .0)) in (
+    let six : length (a .deletion .prefix) ≡ 6 = (let o = c .before .before .before .before .before .before .before .before .good in search needs) in
+    let wide : length (take (a .deletion .length) (a .deletion .prefix)) ≡ a .deletion .length = length-take-le (a .deletion .length) (a .deletion .prefix) (omega (arith, c .before .before .before .before .before .before .before .before .pre .0)) in (
       l .inv .0,
       omega arith,
       λ R F. l .inv .2 R F ∙
@@ -86,17 +87,17 @@ loop-again c =
 
 returns-2 : tie.Need-returns-2 Inv-loop μ-loop
 returns-2 c =
-    let a = c .before .before .before .before .before .args in
+    let a = c .before .before .before .before .before .before .args in
     let R = take (a .deletion .«position_count») (a .deletion .positions) in
     let P = patternsOf (a .set) (a .lengths) (a .count) in
-    let A = gapsOf (a .gaps) (a .deletion .length + 1) (a .deletion .«gap_count») in
-    let G = c .before .before .before .before .before .pre .4 in
-    let six : length (a .deletion .prefix) ≡ 6 = (let o = c .before .before .before .before .before .good in search needs) in
-    let wide : length (take (a .deletion .length) (a .deletion .prefix)) ≡ a .deletion .length = length-take-le (a .deletion .length) (a .deletion .prefix) (omega (arith, c .before .before .before .before .before .pre .0)) in
+    let A = gapsOf (now (a .gaps)) (a .deletion .length + 1) (a .deletion .«gap_count») in
+    let G = c .before .before .before .before .before .before .pre .5 in
+    let six : length (a .deletion .prefix) ≡ 6 = (let o = c .before .before .before .before .before .before .good in search needs) in
+    let wide : length (take (a .deletion .length) (a .deletion .prefix)) ≡ a .deletion .length = length-take-le (a .deletion .length) (a .deletion .prefix) (omega (arith, c .before .before .before .before .before .before .pre .0)) in
     let F : FlaggedFor (a .set) (a .lengths) (a .count) (take (a .deletion .length) (a .deletion .prefix)) R (c .before .before .deleted-values .result) = (G, c .before .before .deleted-values .ensures) in
     let l = c .before .loop in
     entry-answer (a .set) (a .lengths) (a .count) (take (a .deletion .length) (a .deletion .prefix)) A R false G
-    (sym (entry-defined P (take (a .deletion .length) (a .deletion .prefix)) A R (a .deletion .length) (a .deletion .longest) (sym wide) (c .before .before .before .before .before .pre .2) ∙ l .inv .2 R F ∙
+    (sym (entry-defined P (take (a .deletion .length) (a .deletion .prefix)) A R (a .deletion .length) (a .deletion .longest) (sym wide) (c .before .before .before .before .before .before .pre .2) ∙ l .inv .2 R F ∙
     totals-end (lost A P (take (a .deletion .length) (a .deletion .prefix)) R) (a .deletion .length) (a .deletion .longest) (l .t) (omega arith)))
 
 pub irreversible-spec : {M : Type 1} → statement M

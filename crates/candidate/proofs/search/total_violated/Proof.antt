@@ -1,6 +1,7 @@
 -- `candidate::search::total_violated` meets its contract: the spacings before the one at hand have
 -- no violation.
 -- Assumes nothing.
+use denote.Ref.{now}
 use Prim.Native.Nat.{suc, _+_}
 use mathlib.Core.Path.{_≡_, sym, _∙_}
 use borrow.Author.Needs.{needs}
@@ -9,7 +10,7 @@ use native.Mathlib.Omega.{arith}
 use native.Mathlib.Numerals.{add-one}
 use lib.ListN.{length, take}
 use lib.Seq.{length-take-le}
-use Rattle.spacing.specs.GapRows.{gapsOf}
+use Rattle.forms.specs.GapRows.{gapsOf}
 use Rattle.spacing.specs.Following.{later}
 use Rattle.spacing.proofs.SpacingCount.{less-later}
 use Rattle.candidate.proofs.CandidateWalk.{Walked, walked-start, walked-found, walked-none, walked-next}
@@ -35,45 +36,45 @@ first-spacing-requires c κs = search needs
 
 loop-holds : tie.Need-loop-holds Inv-loop μ-loop
 loop-holds c =
-    let a = c .before .before .args in
-    walked-start (a .set) (a .lengths) (a .count) (c .before .needs-of .result) (take (a .deleted .length) (a .deleted .prefix)) (a .deleted .gone) (gapsOf (a .gaps) (a .deleted .length + 1) (a .deleted .«gap_count»)) (a .deleted .length) (a .t) (take (a .deleted .length + 1) (c .first-spacing .result)) (c .first-spacing .ensures)
+    let a = c .before .before .before .args in
+    walked-start (a .set) (a .lengths) (a .count) (c .before .needs-of .result) (take (a .deleted .length) (a .deleted .prefix)) (a .deleted .gone) (gapsOf (now (a .gaps)) (a .deleted .length + 1) (a .deleted .«gap_count»)) (a .deleted .length) (a .t) (take (a .deleted .length + 1) (c .first-spacing .result)) (c .first-spacing .ensures)
 
 free-and-violated-requires : tie.Need-free-and-violated-requires Inv-loop μ-loop
 free-and-violated-requires c κs = search needs
 
 returns : tie.Need-returns Inv-loop μ-loop
 returns c =
-    let a = c .before .before .before .before .before .args in
+    let a = c .before .before .before .before .before .before .args in
     let f = c .before .free-and-violated in
-    walked-found (a .set) (a .lengths) (a .count) (c .before .before .before .before .needs-of .result) (take (a .deleted .length) (a .deleted .prefix)) (a .deleted .gone) (gapsOf (a .gaps) (a .deleted .length + 1) (a .deleted .«gap_count»)) (a .deleted .length) (a .t) (take (a .deleted .length + 1) (c .before .before .loop .g)) (c .before .before .loop .inv) (c .before .before .before .before .needs-of .ensures) (f .result) (f .ensures) (c .if1 .taken)
+    walked-found (a .set) (a .lengths) (a .count) (c .before .before .before .before .needs-of .result) (take (a .deleted .length) (a .deleted .prefix)) (a .deleted .gone) (gapsOf (now (a .gaps)) (a .deleted .length + 1) (a .deleted .«gap_count»)) (a .deleted .length) (a .t) (take (a .deleted .length + 1) (c .before .before .loop .g)) (c .before .before .loop .inv) (c .before .before .before .before .needs-of .ensures) (f .result) (f .ensures) (c .if1 .taken)
 
 next-spacing-requires : tie.Need-next-spacing-requires Inv-loop μ-loop
 next-spacing-requires c κs = search needs
 
 returns-2 : tie.Need-returns-2 Inv-loop μ-loop
 returns-2 c =
-    let a = c .before .before .before .before .before .before .before .before .args in
+    let a = c .before .before .before .before .before .before .before .before .before .args in
     let f = c .before .before .before .before .free-and-violated in
     let n = c .before .before .next-spacing in
-    walked-none (a .set) (a .lengths) (a .count) (c .before .before .before .before .before .before .before .needs-of .result) (take (a .deleted .length) (a .deleted .prefix)) (a .deleted .gone) (gapsOf (a .gaps) (a .deleted .length + 1) (a .deleted .«gap_count»)) (a .deleted .length) (a .t) (take (a .deleted .length + 1) (c .before .before .before .before .before .loop .g)) (c .before .before .before .before .before .loop .inv) (c .before .before .before .before .before .before .before .needs-of .ensures) (f .result) (f .ensures) (c .before .before .before .if1 .left)
+    walked-none (a .set) (a .lengths) (a .count) (c .before .before .before .before .before .before .before .needs-of .result) (take (a .deleted .length) (a .deleted .prefix)) (a .deleted .gone) (gapsOf (now (a .gaps)) (a .deleted .length + 1) (a .deleted .«gap_count»)) (a .deleted .length) (a .t) (take (a .deleted .length + 1) (c .before .before .before .before .before .loop .g)) (c .before .before .before .before .before .loop .inv) (c .before .before .before .before .before .before .before .needs-of .ensures) (f .result) (f .ensures) (c .before .before .before .if1 .left)
     (take (a .deleted .length + 1) (n .result .g)) (n .result .found) (n .ensures .follows) (not-true _ (c .if2 .taken))
 
 loop-less : tie.Need-loop-less Inv-loop μ-loop
 loop-less c =
-    let a = c .before .before .before .before .before .before .before .before .before .args in
+    let a = c .before .before .before .before .before .before .before .before .before .before .args in
     let n = c .before .before .before .next-spacing in
     less-later (take (a .deleted .length + 1) (c .before .before .before .before .before .before .loop .g)) (take (a .deleted .length + 1) (n .result .g)) (n .result .found) (n .ensures .follows) (not-false _ (c .before .if2 .left))
 
 loop-again : tie.Need-loop-again Inv-loop μ-loop
 loop-again c =
-    let a = c .before .before .before .before .before .before .before .before .before .args in
+    let a = c .before .before .before .before .before .before .before .before .before .before .args in
     let f = c .before .before .before .before .before .free-and-violated in
     let n = c .before .before .before .next-spacing in
-    let six : length (a .deleted .prefix) ≡ 6 = (let o = c .before .before .before .before .before .before .before .before .before .good in search needs) in
+    let six : length (a .deleted .prefix) ≡ 6 = (let o = c .before .before .before .before .before .before .before .before .before .before .good in search needs) in
     let seven : length (n .result .g) ≡ 7 = (let o = n .ok in search needs) in
-    let wide : a .deleted .length ≡ length (take (a .deleted .length) (a .deleted .prefix)) = sym (length-take-le (a .deleted .length) (a .deleted .prefix) (omega (arith, c .before .before .before .before .before .before .before .before .before .pre .1))) in
-    let size : length (take (a .deleted .length + 1) (n .result .g)) ≡ suc (a .deleted .length) = length-take-le (a .deleted .length + 1) (n .result .g) (omega (arith, c .before .before .before .before .before .before .before .before .before .pre .1)) ∙ add-one (a .deleted .length) in
-    walked-next (a .set) (a .lengths) (a .count) (c .before .before .before .before .before .before .before .before .needs-of .result) (take (a .deleted .length) (a .deleted .prefix)) (a .deleted .gone) (gapsOf (a .gaps) (a .deleted .length + 1) (a .deleted .«gap_count»)) (a .deleted .length) (a .t) (take (a .deleted .length + 1) (c .before .before .before .before .before .before .loop .g)) (c .before .before .before .before .before .before .loop .inv) (c .before .before .before .before .before .before .before .before .needs-of .ensures) (f .result) (f .ensures) (c .before .before .before .before .if1 .left)
+    let wide : a .deleted .length ≡ length (take (a .deleted .length) (a .deleted .prefix)) = sym (length-take-le (a .deleted .length) (a .deleted .prefix) (omega (arith, c .before .before .before .before .before .before .before .before .before .before .pre .1))) in
+    let size : length (take (a .deleted .length + 1) (n .result .g)) ≡ suc (a .deleted .length) = length-take-le (a .deleted .length + 1) (n .result .g) (omega (arith, c .before .before .before .before .before .before .before .before .before .before .pre .1)) ∙ add-one (a .deleted .length) in
+    walked-next (a .set) (a .lengths) (a .count) (c .before .before .before .before .before .before .before .before .needs-of .result) (take (a .deleted .length) (a .deleted .prefix)) (a .deleted .gone) (gapsOf (now (a .gaps)) (a .deleted .length + 1) (a .deleted .«gap_count»)) (a .deleted .length) (a .t) (take (a .deleted .length + 1) (c .before .before .before .before .before .before .loop .g)) (c .before .before .before .before .before .before .loop .inv) (c .before .before .before .before .before .before .before .before .needs-of .ensures) (f .result) (f .ensures) (c .before .before .before .before .if1 .left)
     (take (a .deleted .length + 1) (n .result .g)) (n .result .found) (n .ensures .follows) (not-false _ (c .before .if2 .left)) wide size
 
 pub total-violated-spec : {M : Type 1} → statement M

@@ -9,16 +9,16 @@ use lib.ListN.{length, getD, take}
 use Rattle.word.specs.Ceilings.{PREFIX, GAPS}
 use Rattle.word.specs.Lists.{any}
 use Rattle.word.specs.Containment.{patternsOf}
-use Rattle.forms.specs.SchemeMemory.{entryIn}
+use Rattle.forms.specs.SchemeMemory.{gapAt, entryIn}
 use Rattle.scheme.specs.TestLaws.{from, any-here, any-later, any-end}
 use Rattle.verdict.specs.Verdict.{liveGap}
 use Rattle.claims.specs.EntryMemoryLaws.{entry-short, entry-few, gap-width, gap-total, prefix-is, prefix-perm}
-use Rattle.claims.proofs.GapClaimLaws.{vectorAt, liveAt, live-start}
+use Rattle.claims.proofs.GapClaimLaws.{liveAt, live-start}
 use Rattle.claims.proofs.entries.has_live_gap.Statement.{statement}
 use Rattle.claims.proofs.entries.has_live_gap.Tie as tie
 
 abbrev Inv-loop : tie.InvT-loop
-Inv-loop set lengths count e prefix k n j₀ j = (n ≤ GAPS) × (j ≤ n) × (liveGap (patternsOf set lengths count) ((entryIn e) .prefix) ((entryIn e) .gaps) ≡ any (liveAt (patternsOf set lengths count) ((entryIn e) .prefix)) (from (vectorAt e) n j))
+Inv-loop set lengths count e prefix k n j₀ j = (n ≤ GAPS) × (j ≤ n) × (liveGap (patternsOf set lengths count) ((entryIn e) .prefix) ((entryIn e) .gaps) ≡ any (liveAt (patternsOf set lengths count) ((entryIn e) .prefix)) (from (gapAt e) n j))
 
 abbrev μ-loop : tie.MeasureT-loop
 μ-loop set lengths count e prefix k n j₀ j = n - j
@@ -26,21 +26,19 @@ abbrev μ-loop : tie.MeasureT-loop
 loop-holds : tie.Need-loop-holds Inv-loop μ-loop
 loop-holds c =
     let a = c .before .args in
-    (entry-few (a .t4) (c .before .pre), omega arith, live-start (patternsOf (a .set) (a .lengths) (a .count)) (a .t4))
+    (entry-few (a .e) (c .before .pre), omega arith, live-start (patternsOf (a .set) (a .lengths) (a .count)) (a .e))
 
-mul-b : tie.Need-mul-b Inv-loop μ-loop
-mul-b c = search needs
-
-element-copy-out-b : tie.Need-element-copy-out-b Inv-loop μ-loop
-element-copy-out-b c = search needs
+entry-gap-requires : tie.Need-entry-gap-requires Inv-loop μ-loop
+entry-gap-requires c κs = search needs
 
 is-live-requires : tie.Need-is-live-requires Inv-loop μ-loop
 is-live-requires c κs =
     let a = c .before .before .before .before .args in
     let q = c .before .before .before .before .pre in
     let l = c .before .before .loop in
-    let six : length (a .t4 .prefix) ≡ PREFIX = (let g = c .before .before .before .before .good in search needs) in
-    (entry-short (a .t4) q, prefix-perm (a .t4) q six, gap-width (a .t4) q (l .j) (omega arith), gap-total (a .t4) q (l .j) (omega arith))
+    let six : length (a .e .prefix) ≡ PREFIX = (let g = c .before .before .before .before .good in search needs) in
+    let is = c .entry-gap .ensures in
+    (entry-short (a .e) q, prefix-perm (a .e) q six, rw is (gap-width (a .e) q (l .j) (omega arith)), rw is (gap-total (a .e) q (l .j) (omega arith)))
 
 returns : tie.Need-returns Inv-loop μ-loop
 returns c =
@@ -48,10 +46,10 @@ returns c =
     let q = c .before .before .before .before .before .before .pre in
     let l = c .before .before .before .before .loop in
     let P = patternsOf (a .set) (a .lengths) (a .count) in
-    let p = (entryIn (a .t4)) .prefix in
-    let six : length (a .t4 .prefix) ≡ PREFIX = (let g = c .before .before .before .before .before .before .good in search needs) in
-    let live = ap (λ (u : List ℕ). liveAt P u (vectorAt (a .t4) (l .j))) (prefix-is (a .t4) q six) ∙ sym (c .before .is-live .ensures) ∙ c .if1 .taken in
-    sym (l .inv .2 ∙ any-here (liveAt P p) (vectorAt (a .t4)) (a .t4 .«gap_count») (l .j) (omega arith) live)
+    let p = (entryIn (a .e)) .prefix in
+    let six : length (a .e .prefix) ≡ PREFIX = (let g = c .before .before .before .before .before .before .good in search needs) in
+    let live = ap (λ (u : List ℕ). liveAt P u (gapAt (a .e) (l .j))) (prefix-is (a .e) q six) ∙ sym (rw (c .before .before .entry-gap .ensures) at (c .before .is-live .ensures)) ∙ c .if1 .taken in
+    sym (l .inv .2 ∙ any-here (liveAt P p) (gapAt (a .e)) (a .e .«gap_count») (l .j) (omega arith) live)
 
 add-j : tie.Need-add-j Inv-loop μ-loop
 add-j c = search needs
@@ -65,18 +63,18 @@ loop-again c =
     let q = c .before .before .before .before .before .before .pre in
     let l = c .before .before .before .before .loop in
     let P = patternsOf (a .set) (a .lengths) (a .count) in
-    let p = (entryIn (a .t4)) .prefix in
-    let six : length (a .t4 .prefix) ≡ PREFIX = (let g = c .before .before .before .before .before .before .good in search needs) in
-    let dead = ap (λ (u : List ℕ). liveAt P u (vectorAt (a .t4) (l .j))) (prefix-is (a .t4) q six) ∙ sym (c .before .is-live .ensures) ∙ c .if1 .left in
-    (l .inv .0, omega arith, l .inv .2 ∙ any-later (liveAt P p) (vectorAt (a .t4)) (a .t4 .«gap_count») (l .j) (omega arith) dead)
+    let p = (entryIn (a .e)) .prefix in
+    let six : length (a .e .prefix) ≡ PREFIX = (let g = c .before .before .before .before .before .before .good in search needs) in
+    let dead = ap (λ (u : List ℕ). liveAt P u (gapAt (a .e) (l .j))) (prefix-is (a .e) q six) ∙ sym (rw (c .before .before .entry-gap .ensures) at (c .before .is-live .ensures)) ∙ c .if1 .left in
+    (l .inv .0, omega arith, l .inv .2 ∙ any-later (liveAt P p) (gapAt (a .e)) (a .e .«gap_count») (l .j) (omega arith) dead)
 
 returns-2 : tie.Need-returns-2 Inv-loop μ-loop
 returns-2 c =
     let a = c .before .before .before .args in
     let l = c .before .loop in
     let P = patternsOf (a .set) (a .lengths) (a .count) in
-    let p = (entryIn (a .t4)) .prefix in
-    sym (l .inv .2 ∙ any-end (liveAt P p) (vectorAt (a .t4)) (a .t4 .«gap_count») (l .j) (omega arith))
+    let p = (entryIn (a .e)) .prefix in
+    sym (l .inv .2 ∙ any-end (liveAt P p) (gapAt (a .e)) (a .e .«gap_count») (l .j) (omega arith))
 
 pub has-live-gap-spec : {M : Type 1} → statement M
 has-live-gap-spec =
@@ -85,8 +83,7 @@ has-live-gap-spec =
     Inv-loop
     μ-loop
     loop-holds
-    mul-b
-    element-copy-out-b
+    entry-gap-requires
     is-live-requires
     returns
     add-j

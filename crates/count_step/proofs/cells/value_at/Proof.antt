@@ -8,7 +8,7 @@ use mathlib.Core.Bool.{true}
 use lib.ListN.{take}
 use borrow.Author.Tests.{not-true, not-false}
 use Rattle.cell.specs.Cell.{free}
-use Rattle.spacing.specs.GapRows.{gapsOf}
+use Rattle.forms.specs.GapRows.{gapsOf}
 use Rattle.count_step.proofs.FillLaws.{step-covered, step-deletes, step-alone, step-sums}
 use borrow.Author.Needs.{needs}
 use Rattle.count_step.proofs.cells.value_at.Statement.{statement}
@@ -19,10 +19,10 @@ is-free-requires c κs = search needs
 
 returns : tie.Need-returns
 returns c =
-    let a = c .before .before .before .before .args in
+    let a = c .before .before .before .before .before .args in
     let t = a .task in
     let G = take (t .length + 1) (a .g) in
-    let B = gapsOf (a .gaps) (t .length + 1) (t .«gap_count») in
+    let B = gapsOf (now (a .gaps)) (t .length + 1) (t .«gap_count») in
     sym (step-covered (now (a .table)) B (t .deleted) (t .alone) (t .links) G (sym (c .before .is-free .ensures) ∙ not-true (c .before .is-free .result) (c .if1 .taken)))
 
 rank-without-requires : tie.Need-rank-without-requires
@@ -33,40 +33,40 @@ array-read-read c = search needs
 
 add-read : tie.Need-add-read
 add-read c =
-    omega (arith, c .rank-without .ensures .1, c .before .before .before .before .before .before .before .before .pre .0 .near 0)
+    omega (arith, c .rank-without .ensures .1, c .before .before .before .before .before .before .before .before .before .pre .0 .near 0)
 
 read-requires : tie.Need-read-requires
 read-requires c κs = search needs
 
 returns-2 : tie.Need-returns-2
 returns-2 c =
-    let a = c .before .before .before .before .before .before .before .before .before .args in
+    let a = c .before .before .before .before .before .before .before .before .before .before .args in
     let t = a .task in
     let G = take (t .length + 1) (a .g) in
-    let B = gapsOf (a .gaps) (t .length + 1) (t .«gap_count») in
+    let B = gapsOf (now (a .gaps)) (t .length + 1) (t .«gap_count») in
     let fr : free B G ≡ true = sym (c .before .before .before .before .before .before .is-free .ensures) ∙ not-false (c .before .before .before .before .before .before .is-free .result) (c .before .before .before .before .before .if1 .left) in
     c .read .ensures ∙ step-deletes (now (a .table)) B (t .deleted) (t .alone) (t .links) G (c .before .rank-without .result) fr (c .before .before .if2 .taken) (c .before .rank-without .ensures .0)
 
 returns-3 : tie.Need-returns-3
 returns-3 c =
-    let a = c .before .before .before .before .before .before .before .before .before .args in
+    let a = c .before .before .before .before .before .before .before .before .before .before .args in
     let t = a .task in
     let G = take (t .length + 1) (a .g) in
-    let B = gapsOf (a .gaps) (t .length + 1) (t .«gap_count») in
+    let B = gapsOf (now (a .gaps)) (t .length + 1) (t .«gap_count») in
     let fr : free B G ≡ true = sym (c .before .before .before .before .before .before .is-free .ensures) ∙ not-false (c .before .before .before .before .before .before .is-free .result) (c .before .before .before .before .before .if1 .left) in
-    step-alone (now (a .table)) B (t .deleted) (t .alone) (t .links) G fr (c .before .before .if2 .left) (c .before .before .before .before .before .before .before .before .before .pre .1 ∙ c .if3 .taken)
+    step-alone (now (a .table)) B (t .deleted) (t .alone) (t .links) G fr (c .before .before .if2 .left) (c .before .before .before .before .before .before .before .before .before .before .pre .2 ∙ c .if3 .taken)
 
 child-sum-requires : tie.Need-child-sum-requires
 child-sum-requires c κs = search needs
 
 returns-4 : tie.Need-returns-4
 returns-4 c =
-    let a = c .before .before .before .before .before .before .before .before .before .before .args in
+    let a = c .before .before .before .before .before .before .before .before .before .before .before .args in
     let t = a .task in
     let G = take (t .length + 1) (a .g) in
-    let B = gapsOf (a .gaps) (t .length + 1) (t .«gap_count») in
+    let B = gapsOf (now (a .gaps)) (t .length + 1) (t .«gap_count») in
     let fr : free B G ≡ true = sym (c .before .before .before .before .before .before .before .is-free .ensures) ∙ not-false (c .before .before .before .before .before .before .before .is-free .result) (c .before .before .before .before .before .before .if1 .left) in
-    c .child-sum .ensures ∙ step-sums (now (a .table)) B (t .deleted) (t .alone) (t .links) G fr (c .before .before .before .if2 .left) (λ e. c .before .if3 .left (sym (c .before .before .before .before .before .before .before .before .before .before .pre .1) ∙ e))
+    c .child-sum .ensures ∙ step-sums (now (a .table)) B (t .deleted) (t .alone) (t .links) G fr (c .before .before .before .if2 .left) (λ e. c .before .if3 .left (sym (c .before .before .before .before .before .before .before .before .before .before .before .pre .2) ∙ e))
 
 pub value-at-spec : {M : Type 1} → statement M
 value-at-spec =

@@ -18,7 +18,7 @@ same-length c = search needs
 
 returns : tie.Need-returns
 returns c =
-    let a = c .before .before .before .before .before .before .before .before .args in
+    let a = c .before .before .before .before .before .before .before .before .before .args in
     c .before .before .store .ensures ∙ ap (set (now (a .table)) (a .at)) (c .before .before .before .before .value-at .ensures)
 
 pub fill-one-spec : {M : Type 1} → statement M

@@ -10,6 +10,7 @@ use Rattle.cell.specs.Cell.{mOf}
 use Rattle.forms.specs.SchemeMemory.{schemeIn}
 use Rattle.verdict.specs.Verdict.{comparedCells}
 use Rattle.claims.specs.EntryMemory.{COMPARED}
+use Rattle.scheme.specs.ProperLaws.{proper-count, proper-at}
 use Rattle.judge.proofs.EntryWalkLaws.{cellsFrom, cells-start, cells-next, cells-end}
 use Rattle.judge.proofs.compared.compared_cells.Statement.{statement}
 use Rattle.judge.proofs.compared.compared_cells.Tie as tie
@@ -23,7 +24,7 @@ abbrev μ-loop : tie.MeasureT-loop
 loop-holds : tie.Need-loop-holds Inv-loop μ-loop
 loop-holds c =
     let a = c .args in
-    (c .pre .1 .few, omega arith, omega arith, λ P h. cells-start P (a .t2))
+    (proper-count (a .t2) (c .pre .1), omega arith, omega arith, λ P h. cells-start P (a .t2))
 
 mul-e : tie.Need-mul-e Inv-loop μ-loop
 mul-e c = search needs
@@ -35,7 +36,7 @@ compared-with-requires : tie.Need-compared-with-requires Inv-loop μ-loop
 compared-with-requires c κs =
     let l = c .before .before .loop in
     let q = c .before .before .before .pre in
-    (q .0, q .1 .each (l .i) (omega arith))
+    (q .0, proper-at (c .before .before .before .args .t2) (q .1) (l .i) (omega arith))
 
 add-sum : tie.Need-add-sum Inv-loop μ-loop
 add-sum c =

@@ -11,6 +11,7 @@ use Rattle.scheme.specs.WellFormed.{firstAt}
 use Rattle.forms.specs.SchemeMemory.{schemeIn, faultOf}
 use Rattle.scheme.specs.TestLaws.{from, first-start, first-here, first-later, first-end}
 use Rattle.forms.specs.SchemeMemory.{entryAt}
+use Rattle.scheme.specs.ProperLaws.{proper-count, proper-at}
 use Rattle.judge.proofs.EntryWalkLaws.{differingEntry}
 use Rattle.judge.proofs.deletions.irreversible_fault.Statement.{statement}
 use Rattle.judge.proofs.deletions.irreversible_fault.Tie as tie
@@ -28,7 +29,7 @@ loop-holds : tie.Need-loop-holds Inv-loop μ-loop
 loop-holds c =
     let a = c .before .args in
     let P = patternsOf (a .set) (a .lengths) (a .count) in
-    (c .before .pre .1 .few, omega arith, first-start Irreversible (differingEntry P) (entryAt (a .t4)) (a .t4 .count))
+    (proper-count (a .t4) (c .before .pre .1), omega arith, first-start Irreversible (differingEntry P) (entryAt (a .t4)) (a .t4 .count))
 
 mul-e : tie.Need-mul-e Inv-loop μ-loop
 mul-e c = search needs
@@ -41,7 +42,7 @@ is-irreversible-requires c κs =
     let l = c .before .before .loop in
     let q = c .before .before .before .before .pre in
     let m = c .before .before .before .longest-length in
-    (q .0, m .ensures .0, m .ensures .1, q .1 .each (l .i) (omega arith))
+    (q .0, m .ensures .0, m .ensures .1, proper-at (c .before .before .before .before .args .t4) (q .1) (l .i) (omega arith))
 
 returns : tie.Need-returns Inv-loop μ-loop
 returns c =

@@ -1,21 +1,96 @@
--- `judge::judging::judge_claims` meets its contract: the arrays hold the patterns.
+-- `judge::judging::judge_claims` meets its contract: the arrays hold the patterns, and the tests on
+-- the basis are those on the set.
 -- Assumes nothing.
 use Prim.Native.Nat.{ℕ}
 use mathlib.Core.Path.{_≡_, sym, ap, _∙_}
+use mathlib.Core.Bool.{true, false}
 use mathlib.Core.List.{List}
 use lib.ListN.{length}
 use Rattle.word.specs.Ceilings.{PATTERNS}
 use Rattle.word.specs.Finding.{firstFault}
 use Rattle.word.specs.Containment.{patternsOf}
-use Rattle.forms.specs.SchemeMemory.{patternsIn, schemeIn, faultOf}
+use Rattle.forms.specs.SchemeMemory.{patternsIn, schemeIn, faultOf, faulty}
+use Rattle.word.specs.declared.refusal.Refusal.the-variants.{Irreversible}
+use Rattle.scheme.specs.WellFormed.{firstAt}
+use Rattle.verdict.specs.declared.answer.Verdict.{Verdict}
+use Rattle.claims.specs.EntryMemory.{ProperSet}
+use Rattle.scheme.specs.ProperLaws.{proper}
+use Rattle.judge.proofs.EntryWalkLaws.{differingEntry}
 use Rattle.forms.specs.declared.memory.Fault.{Fault}
 use Rattle.verdict.specs.Verdict.{claimTests, comparedCells, answered}
-use Rattle.judge.specs.SetLaws.{set-holds, proper-set, proper-scheme}
-use Rattle.judge.proofs.JudgeLaws.{claims-answer}
+use Rattle.judge.specs.SetLaws.{set-holds, proper-set}
+use Rattle.judge.proofs.JudgeLaws.{basis-proper, claims-live, claims-lost, claims-answer}
 use Rattle.judge.specs.JudgementLaws.{refused-answer}
 use borrow.Author.Needs.{needs}
 use Rattle.judge.proofs.judging.judge_claims.Statement.{statement}
 use Rattle.judge.proofs.judging.judge_claims.Tie as tie
+
+-- the set in memory, and its basis
+holds : (c : tie.After-lengths-of2) → patternsOf (c .before .before .before .before .rows-of .result) (c .before .before .before .lengths-of .result) (c .before .before .before .before .before .args .patterns .count) ≡ patternsIn (c .before .before .before .before .before .args .patterns)
+holds c =
+    let r = c .before .before .before .before .rows-of in
+    let k = c .before .before .before .lengths-of in
+    let hr : length (r .result) ≡ PATTERNS = search needs in
+    let hk : length (k .result) ≡ PATTERNS = search needs in
+    set-holds (c .before .before .before .before .before .args .patterns) (c .before .before .before .before .before .pre .patterns) (r .result) (k .result) hr hk (r .ensures) (k .ensures)
+
+proper : (c : tie.After-lengths-of2) → ProperSet (c .before .before .before .before .rows-of .result) (c .before .before .before .lengths-of .result) (c .before .before .before .before .before .args .patterns .count)
+proper c =
+    let r = c .before .before .before .before .rows-of in
+    let k = c .before .before .before .lengths-of in
+    let hr : length (r .result) ≡ PATTERNS = search needs in
+    let hk : length (k .result) ≡ PATTERNS = search needs in
+    proper-set (c .before .before .before .before .before .args .patterns) (c .before .before .before .before .before .pre .patterns) (r .result) (k .result) hr hk (r .ensures) (k .ensures)
+
+small-proper : (c : tie.After-lengths-of2) → ProperSet (c .before .rows-of2 .result) (c .lengths-of2 .result) (c .before .before .basis-of .result .count)
+small-proper c =
+    let r = c .before .rows-of2 in
+    let k = c .lengths-of2 in
+    let b = c .before .before .basis-of in
+    let hr : length (r .result) ≡ PATTERNS = (let o = r .ok in search needs) in
+    let hk : length (k .result) ≡ PATTERNS = (let o = k .ok in search needs) in
+    basis-proper (c .before .before .before .before .rows-of .result) (c .before .before .before .lengths-of .result) (c .before .before .before .before .before .args .patterns .count) (proper c) (b .result) (b .ensures) (r .result) (k .result) hr hk (r .ensures) (k .ensures)
+
+-- what the tests on the basis find is what those on the set find
+live-first : (c : tie.After-live-fault) → faulty (c .live-fault .result) ≡ true →
+    c .live-fault .result ≡
+    faultOf (firstFault (claimTests (patternsOf (c .before .before .before .before .before .rows-of .result) (c .before .before .before .before .lengths-of .result) (c .before .before .before .before .before .before .args .patterns .count)) (schemeIn (c .before .before .before .before .before .before .args .scheme))))
+live-first c h =
+    let at-sets = c .before in
+    let r = at-sets .before .rows-of2 in
+    let k = at-sets .lengths-of2 in
+    let b = at-sets .before .before .basis-of in
+    let hr : length (r .result) ≡ PATTERNS = (let o = r .ok in search needs) in
+    let hk : length (k .result) ≡ PATTERNS = (let o = k .ok in search needs) in
+    let start = c .before .before .before .before .before .before in
+    claims-live (c .before .before .before .before .before .rows-of .result) (c .before .before .before .before .lengths-of .result) (start .args .patterns .count) (proper at-sets) (b .result) (b .ensures) (r .result) (k .result) hr hk (r .ensures) (k .ensures)
+    (start .args .scheme) (proper (schemeIn (start .args .scheme)) (start .pre .scheme)) (c .live-fault .result) (c .live-fault .ensures) h
+
+lost-first : (c : tie.After-live-fault) (lost : Fault) →
+    lost ≡ faultOf (firstAt Irreversible (differingEntry (patternsOf (c .before .before .rows-of2 .result) (c .before .lengths-of2 .result) (c .before .before .before .basis-of .result .count))) 0 (schemeIn (c .before .before .before .before .before .before .args .scheme))) →
+    faulty (c .live-fault .result) ≡ false →
+    lost ≡ faultOf (firstFault (claimTests (patternsOf (c .before .before .before .before .before .rows-of .result) (c .before .before .before .before .lengths-of .result) (c .before .before .before .before .before .before .args .patterns .count)) (schemeIn (c .before .before .before .before .before .before .args .scheme))))
+lost-first c lost e h =
+    let at-sets = c .before in
+    let r = at-sets .before .rows-of2 in
+    let k = at-sets .lengths-of2 in
+    let b = at-sets .before .before .basis-of in
+    let hr : length (r .result) ≡ PATTERNS = (let o = r .ok in search needs) in
+    let hk : length (k .result) ≡ PATTERNS = (let o = k .ok in search needs) in
+    let start = c .before .before .before .before .before .before in
+    claims-lost (c .before .before .before .before .before .rows-of .result) (c .before .before .before .before .lengths-of .result) (start .args .patterns .count) (proper at-sets) (b .result) (b .ensures) (r .result) (k .result) hr hk (r .ensures) (k .ensures)
+    (start .args .scheme) (proper (schemeIn (start .args .scheme)) (start .pre .scheme)) (c .live-fault .result) (c .live-fault .ensures) lost e h
+
+-- a fault that the tests find is the answer
+refused : (c : tie.After-lengths-of2) (f : Fault) (r : Verdict) → faulty f ≡ true →
+    f ≡ faultOf (firstFault (claimTests (patternsOf (c .before .before .before .before .rows-of .result) (c .before .before .before .lengths-of .result) (c .before .before .before .before .before .args .patterns .count)) (schemeIn (c .before .before .before .before .before .args .scheme)))) →
+    r ≡ answered f 0 →
+    r ≡ answered (faultOf (firstFault (claimTests (patternsIn (c .before .before .before .before .before .args .patterns)) (schemeIn (c .before .before .before .before .before .args .scheme))))) (comparedCells (patternsIn (c .before .before .before .before .before .args .patterns)) (schemeIn (c .before .before .before .before .before .args .scheme)))
+refused c f r h first e =
+    let P = patternsIn (c .before .before .before .before .before .args .patterns) in
+    let E = schemeIn (c .before .before .before .before .before .args .scheme) in
+    e ∙ refused-answer f 0 (comparedCells P E) h ∙
+    ap (λ (x : Fault). answered x (comparedCells P E)) (first ∙ ap (λ (Q : List (List ℕ)). faultOf (firstFault (claimTests Q E))) (holds c))
 
 rows-of-requires : tie.Need-rows-of-requires
 rows-of-requires c κs = search needs
@@ -23,15 +98,17 @@ rows-of-requires c κs = search needs
 lengths-of-requires : tie.Need-lengths-of-requires
 lengths-of-requires c κs = search needs
 
-claims-fault-requires : tie.Need-claims-fault-requires
-claims-fault-requires c κs =
-    let a = c .before .before .args in
-    let q = c .before .before .pre in
-    let r = c .before .rows-of in
-    let k = c .lengths-of in
-    let hr : length (r .result) ≡ PATTERNS = search needs in
-    let hk : length (k .result) ≡ PATTERNS = search needs in
-    (proper-set (a .patterns) (q .patterns) (r .result) (k .result) hr hk (r .ensures) (k .ensures), proper-scheme (a .scheme) (q .scheme))
+basis-of-requires : tie.Need-basis-of-requires
+basis-of-requires c κs = (proper-set (c .before .before .args .patterns) (c .before .before .pre .patterns) (c .before .rows-of .result) (c .lengths-of .result) (search needs) (search needs) (c .before .rows-of .ensures) (c .lengths-of .ensures)) .few
+
+rows-of-requires-2 : tie.Need-rows-of-requires-2
+rows-of-requires-2 c κs = search needs
+
+lengths-of-requires-2 : tie.Need-lengths-of-requires-2
+lengths-of-requires-2 c κs = search needs
+
+live-fault-requires : tie.Need-live-fault-requires
+live-fault-requires c κs = proper (schemeIn (c .before .before .before .before .before .args .scheme)) (c .before .before .before .before .before .pre .scheme)
 
 is-fault-requires : tie.Need-is-fault-requires
 is-fault-requires c κs = search needs
@@ -41,45 +118,54 @@ answer-requires c κs = search needs
 
 returns : tie.Need-returns
 returns c =
-    let a = c .before .before .before .before .before .before .args in
-    let q = c .before .before .before .before .before .before .pre in
-    let r = c .before .before .before .before .before .rows-of in
-    let k = c .before .before .before .before .lengths-of in
-    let f = c .before .before .before .claims-fault in
-    let hr : length (r .result) ≡ PATTERNS = search needs in
-    let hk : length (k .result) ≡ PATTERNS = search needs in
-    let holds = set-holds (a .patterns) (q .patterns) (r .result) (k .result) hr hk (r .ensures) (k .ensures) in
-    let P = patternsIn (a .patterns) in
-    let E = schemeIn (a .scheme) in
-    c .answer .ensures ∙ refused-answer (f .result) 0 (comparedCells P E) (sym (c .before .before .is-fault .ensures) ∙ c .before .if1 .taken) ∙
-    ap (λ (x : Fault). answered x (comparedCells P E)) (f .ensures ∙ ap (λ (Q : List (List ℕ)). faultOf (firstFault (claimTests Q E))) holds)
+    let l = c .before .before .before .live-fault in
+    let at-sets = c .before .before .before .before in
+    refused (at-sets) (l .result) (c .answer .result) (sym (c .before .before .is-fault .ensures) ∙ c .before .if1 .taken)
+    (live-first (c .before .before .before) (sym (c .before .before .is-fault .ensures) ∙ c .before .if1 .taken)) (c .answer .ensures)
 
-longest-length-requires : tie.Need-longest-length-requires
-longest-length-requires c κs = search needs
+irreversible-fault-requires : tie.Need-irreversible-fault-requires
+irreversible-fault-requires c κs =
+    let at-sets = c .before .before .before in
+    (small-proper at-sets, proper (schemeIn (at-sets .before .before .before .before .before .args .scheme)) (at-sets .before .before .before .before .before .pre .scheme))
 
-compared-cells-requires : tie.Need-compared-cells-requires
-compared-cells-requires c κs =
-    let a = c .before .before .before .before .before .before .args in
-    let q = c .before .before .before .before .before .before .pre in
-    (c .longest-length .ensures .1, proper-scheme (a .scheme) (q .scheme))
+is-fault-requires-2 : tie.Need-is-fault-requires-2
+is-fault-requires-2 c κs = search needs
 
 answer-requires-2 : tie.Need-answer-requires-2
 answer-requires-2 c κs = search needs
 
 returns-2 : tie.Need-returns-2
 returns-2 c =
-    let a = c .before .before .before .before .before .before .before .before .args in
-    let q = c .before .before .before .before .before .before .before .before .pre in
-    let r = c .before .before .before .before .before .before .before .rows-of in
-    let k = c .before .before .before .before .before .before .lengths-of in
-    let f = c .before .before .before .before .before .claims-fault in
+    let at-lost = c .before .before .before in
+    let clean = sym (at-lost .before .before .is-fault .ensures) ∙ at-lost .before .if1 .left in
+    let at-live = at-lost .before .before .before in
+    let f = at-lost .irreversible-fault in
+    let h = sym (c .before .before .is-fault2 .ensures) ∙ c .before .if2 .taken in
+    refused (at-live .before) (f .result) (c .answer2 .result) h (lost-first at-live (f .result) (f .ensures) clean) (c .answer2 .ensures)
+
+longest-length-requires : tie.Need-longest-length-requires
+longest-length-requires c κs = search needs
+
+compared-cells-requires : tie.Need-compared-cells-requires
+compared-cells-requires c κs =
+    let start = c .before .before .before .before .before .before .before .before .before .before .before .before in
+    (c .longest-length .ensures .1, proper (schemeIn (start .args .scheme)) (start .pre .scheme))
+
+answer-requires-3 : tie.Need-answer-requires-3
+answer-requires-3 c κs = search needs
+
+returns-3 : tie.Need-returns-3
+returns-3 c =
+    let at-lost = c .before .before .before .before .before in
+    let at-live = at-lost .before .before .before in
+    let clean = sym (at-lost .before .before .is-fault .ensures) ∙ at-lost .before .if1 .left in
+    let f = at-lost .irreversible-fault in
     let m = c .before .before .longest-length in
-    let hr : length (r .result) ≡ PATTERNS = search needs in
-    let hk : length (k .result) ≡ PATTERNS = search needs in
-    let holds = set-holds (a .patterns) (q .patterns) (r .result) (k .result) hr hk (r .ensures) (k .ensures) in
-    c .answer2 .ensures ∙
-    claims-answer (a .patterns) (a .scheme) (patternsOf (r .result) (k .result) (a .patterns .count)) (f .result) (m .result) (c .before .compared-cells .result)
-    holds (f .ensures) (m .ensures .0) (c .before .compared-cells .ensures)
+    let at-sets = at-live .before in
+    let a = at-sets .before .before .before .before .before .args in
+    c .answer3 .ensures ∙
+    claims-answer (a .patterns) (a .scheme) (patternsOf (at-sets .before .before .before .before .rows-of .result) (at-sets .before .before .before .lengths-of .result) (a .patterns .count)) (f .result) (m .result) (c .before .compared-cells .result)
+    (holds at-sets) (lost-first at-live (f .result) (f .ensures) clean) (m .ensures .0) (c .before .compared-cells .ensures)
 
 pub judge-claims-spec : {M : Type 1} → statement M
 judge-claims-spec =
@@ -87,11 +173,18 @@ judge-claims-spec =
     (tie.spec
     rows-of-requires
     lengths-of-requires
-    claims-fault-requires
+    basis-of-requires
+    rows-of-requires-2
+    lengths-of-requires-2
+    live-fault-requires
     is-fault-requires
     answer-requires
     returns
+    irreversible-fault-requires
+    is-fault-requires-2
+    answer-requires-2
+    returns-2
     longest-length-requires
     compared-cells-requires
-    answer-requires-2
-    returns-2)
+    answer-requires-3
+    returns-3)

@@ -11,6 +11,7 @@ use Rattle.scheme.specs.WellFormed.{firstAt}
 use Rattle.forms.specs.SchemeMemory.{schemeIn, faultOf}
 use Rattle.scheme.specs.TestLaws.{from, first-start, first-here, first-later, first-end}
 use Rattle.forms.specs.SchemeMemory.{entryAt}
+use Rattle.scheme.specs.ProperLaws.{proper-count, proper-at}
 use Rattle.judge.proofs.EntryWalkLaws.{liveEntry}
 use Rattle.judge.proofs.live_gaps.live_fault.Statement.{statement}
 use Rattle.judge.proofs.live_gaps.live_fault.Tie as tie
@@ -25,7 +26,7 @@ loop-holds : tie.Need-loop-holds Inv-loop μ-loop
 loop-holds c =
     let a = c .args in
     let P = patternsOf (a .set) (a .lengths) (a .count) in
-    (c .pre .few, omega arith, first-start LiveGap (liveEntry P) (entryAt (a .t4)) (a .t4 .count))
+    (proper-count (a .t4) (c .pre), omega arith, first-start LiveGap (liveEntry P) (entryAt (a .t4)) (a .t4 .count))
 
 mul-e : tie.Need-mul-e Inv-loop μ-loop
 mul-e c = search needs
@@ -37,7 +38,7 @@ has-live-gap-requires : tie.Need-has-live-gap-requires Inv-loop μ-loop
 has-live-gap-requires c κs =
     let l = c .before .before .loop in
     let q = c .before .before .before .pre in
-    q .each (l .i) (omega arith)
+    proper-at (c .before .before .before .args .t4) q (l .i) (omega arith)
 
 returns : tie.Need-returns Inv-loop μ-loop
 returns c =

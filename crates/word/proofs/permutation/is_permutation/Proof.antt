@@ -35,7 +35,7 @@ returns-2 : tie.Need-returns-2 Inv-loop μ-loop
 returns-2 c =
     let s = c .before .before .before .before .before .before .before .args .s .now in
     let l = c .before .before .before .before .before .loop in
-    let above : length s < getD s (l .i) 0 = omega (arith, c .before .wide .ensures) in
+    let above : length s < getD s (l .i) 0 = omega (arith, c .before .wide .ensures .0) in
     sym (l .inv ∙ listed-above (length s) s (l .i) (omega arith) above)
 
 add-stands : tie.Need-add-stands Inv-loop μ-loop
@@ -60,7 +60,7 @@ loop-again : tie.Need-loop-again Inv-loop μ-loop
 loop-again c =
     let s = c .before .before .before .before .before .before .before .before .before .args .s .now in
     let l = c .before .before .before .before .before .before .before .loop in
-    let inside : getD s (l .i) 0 ≤ length s = omega (arith, c .before .before .before .wide .ensures) in
+    let inside : getD s (l .i) 0 ≤ length s = omega (arith, c .before .before .before .wide .ensures .0) in
     l .inv ∙ listed-next (length s) s (l .i) (omega arith) (c .before .before .before .before .if1 .left) inside (sym (c .before .stands .ensures) ∙ c .if3 .left)
 
 returns-4 : tie.Need-returns-4 Inv-loop μ-loop

@@ -1,13 +1,13 @@
 // A set of patterns as containment takes it: an array of arrays of digits, with lengths beside it.
-use forms::memory::Pattern;
-use forms::memory::Patterns;
+use crate::memory::Pattern;
+use crate::memory::Patterns;
 use word::limits::DIGITS;
 use word::limits::PATTERNS;
 ghost use mathlib.Core.Path.{_≡_};
 ghost use Prim.Native.Nat.{_%_};
 ghost use lib.ListN.{length};
 ghost use Rattle.word.specs.Ceilings.{DIGITS};
-ghost use Rattle.judge.specs.SetMemory.{HasDigits, HasLengths};
+ghost use Rattle.forms.specs.SetMemory.{HasDigits, HasLengths};
 
 // The digits of a pattern.
 fn digits_of(p: Pattern) -> [u8; DIGITS]

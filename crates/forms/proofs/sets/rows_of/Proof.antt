@@ -1,4 +1,4 @@
--- `judge::sets::rows_of` meets its contract: the rows up to the index have the digits of their patterns.
+-- `forms::sets::rows_of` meets its contract: the rows up to the index have the digits of their patterns.
 -- Assumes nothing.
 use borrow.Author.Needs.{needs}
 use Prim.Native.Nat.{ℕ, _-_, _≤_, _<_}
@@ -7,10 +7,10 @@ use mathlib.Core.List.{List, []}
 use native.Mathlib.Omega.{arith}
 use lib.ListN.{length, getD, length-set}
 use Rattle.word.specs.Ceilings.{DIGITS, PATTERNS}
 use Rattle.forms.specs.SchemeMemory.{noPattern}
-use Rattle.claims.specs.EntryMemoryLaws.{rows-more}
-use Rattle.judge.proofs.sets.rows_of.Statement.{statement}
-use Rattle.judge.proofs.sets.rows_of.Tie as tie
+use Rattle.forms.specs.MemoryLaws.{rows-more}
+use Rattle.forms.proofs.sets.rows_of.Statement.{statement}
+use Rattle.forms.proofs.sets.rows_of.Tie as tie
 
 abbrev Inv-loop : tie.InvT-loop
 Inv-loop s rows₀ i₀ rows i = (length rows ≡ PATTERNS) × (i ≤ PATTERNS) × ((j : ℕ) → j < i → (getD rows j [] ≡ (getD (s .items) j noPattern) .digits) × (length (getD rows j []) ≡ DIGITS))

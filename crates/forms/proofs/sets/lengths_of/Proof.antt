@@ -1,4 +1,4 @@
--- `judge::sets::lengths_of` meets its contract: the numbers up to the index are the lengths of their patterns.
+-- `forms::sets::lengths_of` meets its contract: the numbers up to the index are the lengths of their patterns.
 -- Assumes nothing.
 use borrow.Author.Needs.{needs}
 use Prim.Native.Nat.{ℕ, _-_, _%_, _≤_, _<_}
@@ -6,10 +6,10 @@ use mathlib.Core.Path.{_≡_, refl, _∙_}
 use native.Mathlib.Omega.{arith}
 use lib.ListN.{length, getD, length-set}
 use Rattle.word.specs.Ceilings.{PATTERNS}
 use Rattle.forms.specs.SchemeMemory.{noPattern}
-use Rattle.claims.specs.EntryMemoryLaws.{rows-more}
-use Rattle.judge.proofs.sets.lengths_of.Statement.{statement}
-use Rattle.judge.proofs.sets.lengths_of.Tie as tie
+use Rattle.forms.specs.MemoryLaws.{rows-more}
+use Rattle.forms.proofs.sets.lengths_of.Statement.{statement}
+use Rattle.forms.proofs.sets.lengths_of.Tie as tie
 
 abbrev Inv-loop : tie.InvT-loop
 Inv-loop s lengths₀ i₀ lengths i = (length lengths ≡ PATTERNS) × (i ≤ PATTERNS) × ((j : ℕ) → j < i → getD lengths j 0 ≡ (getD (s .items) j noPattern) .length % 256)

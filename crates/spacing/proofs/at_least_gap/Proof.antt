@@ -1,0 +1,86 @@
+-- `spacing::at_least_gap` meets its contract: the vectors compare as their components from p on do.
+-- Assumes nothing.
+use denote.Ref.{now}
+use Prim.Native.Nat.{_≤_, _-_, _+_, _*_}
+use mathlib.Core.Path.{_≡_, refl, sym, _∙_}
+use lib.ListN.{length, take, drop}
+use borrow.Author.Needs.{needs}
+use native.Mathlib.Omega.{arith}
+use Rattle.word.specs.Ceilings.{COMPONENTS}
+use Rattle.cell.specs.Cell.{atLeast}
+use Rattle.forms.specs.GapRows.{vectorAt}
+use Rattle.spacing.proofs.SpacingMemory.{least-from, least-fails, least-passes, least-end, part-at, part-room}
+use Rattle.spacing.proofs.at_least_gap.Statement.{statement}
+use Rattle.spacing.proofs.at_least_gap.Tie as tie
+
+abbrev Inv-loop : tie.InvT-loop
+Inv-loop gaps j k g at p₀ p = (p ≤ k + 1) × (atLeast (take (k + 1) g) (vectorAt gaps (k + 1) j) ≡ least-from g (drop (COMPONENTS * j) gaps) k p)
+
+abbrev μ-loop : tie.MeasureT-loop
+μ-loop gaps j k g at p₀ p = k + 1 - p
+
+mul-at : tie.Need-mul-at Inv-loop μ-loop
+mul-at c = search needs
+
+loop-holds : tie.Need-loop-holds Inv-loop μ-loop
+loop-holds c = (omega arith, refl)
+
+array-read-if1 : tie.Need-array-read-if1 Inv-loop μ-loop
+array-read-if1 c = search needs
+
+add-if1 : tie.Need-add-if1 Inv-loop μ-loop
+add-if1 c = search needs
+
+shared-slice-read-if1 : tie.Need-shared-slice-read-if1 Inv-loop μ-loop
+shared-slice-read-if1 c = search needs
+
+returns : tie.Need-returns Inv-loop μ-loop
+returns c =
+    let a = c .before .before .before .before .args in
+    let l = c .before .before .before .loop in
+    let parts = now (a .gaps) in
+    let seven : length (a .t1) ≡ COMPONENTS = search needs in
+    sym (l .inv .1 ∙ least-fails (a .t1) (drop (COMPONENTS * a .j) parts) (a .k) (l .p) (omega arith) (omega (arith, part-room parts (a .j) (c .before .before .before .before .pre .1)))
+    (omega arith) (omega (arith, part-at parts (a .j) (l .p), c .if1 .taken)))
+
+add-p : tie.Need-add-p Inv-loop μ-loop
+add-p c = search needs
+
+loop-less : tie.Need-loop-less Inv-loop μ-loop
+loop-less c = search needs
+
+loop-again : tie.Need-loop-again Inv-loop μ-loop
+loop-again c =
+    let a = c .before .before .before .before .args in
+    let l = c .before .before .before .loop in
+    let parts = now (a .gaps) in
+    let seven : length (a .t1) ≡ COMPONENTS = search needs in (
+      omega arith,
+      l .inv .1 ∙ least-passes (a .t1) (drop (COMPONENTS * a .j) parts) (a .k) (l .p) (omega arith) (omega (arith, part-room parts (a .j) (c .before .before .before .before .pre .1)))
+          (omega arith) (omega (arith, part-at parts (a .j) (l .p), c .if1 .left)),
+    )
+
+returns-2 : tie.Need-returns-2 Inv-loop μ-loop
+returns-2 c =
+    let a = c .before .before .args in
+    let l = c .before .loop in
+    let parts = now (a .gaps) in
+    let seven : length (a .t1) ≡ COMPONENTS = search needs in
+    sym (l .inv .1 ∙ least-end (a .t1) (drop (COMPONENTS * a .j) parts) (a .k) (l .p) (omega arith) (omega (arith, part-room parts (a .j) (c .before .before .pre .1))) (omega arith))
+
+pub at-least-gap-spec : {M : Type 1} → statement M
+at-least-gap-spec =
+    tie.close
+    (tie.spec
+    Inv-loop
+    μ-loop
+    mul-at
+    loop-holds
+    array-read-if1
+    add-if1
+    shared-slice-read-if1
+    returns
+    add-p
+    loop-less
+    loop-again
+    returns-2)
