@@ -14,7 +14,7 @@ use Rattle.word.specs.declared.refusal.Refusal.the-variants.{Irreversible}
 use Rattle.scheme.specs.WellFormed.{firstAt}
 use Rattle.verdict.specs.declared.answer.Verdict.{Verdict}
 use Rattle.claims.specs.EntryMemory.{ProperSet}
-use Rattle.scheme.specs.ProperLaws.{proper}
+use Rattle.scheme.specs.ProperLaws.{proper as proper-scheme}
 use Rattle.judge.proofs.EntryWalkLaws.{differingEntry}
 use Rattle.forms.specs.declared.memory.Fault.{Fault}
 use Rattle.verdict.specs.Verdict.{claimTests, comparedCells, answered}
@@ -64,7 +64,7 @@ live-first c h =
     let hk : length (k .result) ≡ PATTERNS = (let o = k .ok in search needs) in
     let start = c .before .before .before .before .before .before in
     claims-live (c .before .before .before .before .before .rows-of .result) (c .before .before .before .before .lengths-of .result) (start .args .patterns .count) (proper at-sets) (b .result) (b .ensures) (r .result) (k .result) hr hk (r .ensures) (k .ensures)
-    (start .args .scheme) (proper (schemeIn (start .args .scheme)) (start .pre .scheme)) (c .live-fault .result) (c .live-fault .ensures) h
+    (start .args .scheme) (proper-scheme (schemeIn (start .args .scheme)) (start .pre .scheme)) (c .live-fault .result) (c .live-fault .ensures) h
 
 lost-first : (c : tie.After-live-fault) (lost : Fault) →
     lost ≡ faultOf (firstAt Irreversible (differingEntry (patternsOf (c .before .before .rows-of2 .result) (c .before .lengths-of2 .result) (c .before .before .before .basis-of .result .count))) 0 (schemeIn (c .before .before .before .before .before .before .args .scheme))) →
@@ -79,7 +79,7 @@ lost-first c lost e h =
     let hk : length (k .result) ≡ PATTERNS = (let o = k .ok in search needs) in
     let start = c .before .before .before .before .before .before in
     claims-lost (c .before .before .before .before .before .rows-of .result) (c .before .before .before .before .lengths-of .result) (start .args .patterns .count) (proper at-sets) (b .result) (b .ensures) (r .result) (k .result) hr hk (r .ensures) (k .ensures)
-    (start .args .scheme) (proper (schemeIn (start .args .scheme)) (start .pre .scheme)) (c .live-fault .result) (c .live-fault .ensures) lost e h
+    (start .args .scheme) (proper-scheme (schemeIn (start .args .scheme)) (start .pre .scheme)) (c .live-fault .result) (c .live-fault .ensures) lost e h
 
 -- a fault that the tests find is the answer
 refused : (c : tie.After-lengths-of2) (f : Fault) (r : Verdict) → faulty f ≡ true →
@@ -108,7 +108,7 @@ lengths-of-requires-2 : tie.Need-lengths-of-requires-2
 lengths-of-requires-2 c κs = search needs
 
 live-fault-requires : tie.Need-live-fault-requires
-live-fault-requires c κs = proper (schemeIn (c .before .before .before .before .before .args .scheme)) (c .before .before .before .before .before .pre .scheme)
+live-fault-requires c κs = proper-scheme (schemeIn (c .before .before .before .before .before .args .scheme)) (c .before .before .before .before .before .pre .scheme)
 
 is-fault-requires : tie.Need-is-fault-requires
 is-fault-requires c κs = search needs
@@ -126,7 +126,7 @@ returns c =
 irreversible-fault-requires : tie.Need-irreversible-fault-requires
 irreversible-fault-requires c κs =
     let at-sets = c .before .before .before in
-    (small-proper at-sets, proper (schemeIn (at-sets .before .before .before .before .before .args .scheme)) (at-sets .before .before .before .before .before .pre .scheme))
+    (small-proper at-sets, proper-scheme (schemeIn (at-sets .before .before .before .before .before .args .scheme)) (at-sets .before .before .before .before .before .pre .scheme))
 
 is-fault-requires-2 : tie.Need-is-fault-requires-2
 is-fault-requires-2 c κs = search needs
@@ -149,7 +149,7 @@ longest-length-requires c κs = search needs
 compared-cells-requires : tie.Need-compared-cells-requires
 compared-cells-requires c κs =
     let start = c .before .before .before .before .before .before .before .before .before .before .before .before in
-    (c .longest-length .ensures .1, proper (schemeIn (start .args .scheme)) (start .pre .scheme))
+    (c .longest-length .ensures .1, proper-scheme (schemeIn (start .args .scheme)) (start .pre .scheme))
 
 answer-requires-3 : tie.Need-answer-requires-3
 answer-requires-3 c κs = search needs
