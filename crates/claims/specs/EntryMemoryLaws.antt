@@ -11,7 +11,7 @@ use Rattle.word.specs.Word.{isPerm}
 use Rattle.word.specs.ListLaws.{row-in}
 use Rattle.cell.specs.Cell.{total}
 use Rattle.forms.specs.GapRows.{gapsOf, HasVectors}
-use Rattle.forms.specs.GapFormLaws.{gaps-stand}
+use Rattle.forms.specs.GapRowLaws.{gaps-stand}
 use Rattle.forms.specs.SchemeMemory.{partsAt, gapAt, entryIn}
 use Rattle.forms.specs.MemoryLaws.{padded-within, length-padded}
 use Rattle.scheme.specs.TestLaws.{length-items}

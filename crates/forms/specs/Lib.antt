@@ -3,9 +3,10 @@ pub mod SchemeList
 pub mod SchemeMemory
 pub mod Codes
 pub mod GapForm
-pub mod SetMemory
 pub mod GapRows
+pub mod SetMemory
+pub mod StoredLaws
 pub mod MemoryLaws
-pub mod GapFormLaws
+pub mod GapRowLaws
 pub mod ToldLaws
 pub mod CodeLaws

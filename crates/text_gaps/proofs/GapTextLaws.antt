@@ -5,16 +5,16 @@ use native.Mathlib.Numerals.{add-one}
 use native.Mathlib.Omega.{arith}
 use mathlib.Core.Path.{_≡_, refl, sym, ap, ap₂, _∙_, subst}
 use mathlib.Core.Logic.{_⊎_, inl, inr}
-use mathlib.Core.Bool.{Bool, true, false, cond, true≢false, false≢true}
+use mathlib.Core.Bool.{Bool, true, false, true≢false, false≢true}
 use mathlib.Core.List.{List, [], _∷_, _++_, map, append-nil}
 use lib.ListN.{length, drop, set}
 use lib.Seq.{set-out, sets}
 use lib.Dec.{leb}
-use borrow.Author.Tests.{le-leb, lt-leb, ne-eqb}
+use borrow.Author.Tests.{ne-eqb}
 use Rattle.word.specs.Ceilings.{COMPONENTS, GAPS, PARTS}
 use Rattle.word.specs.Lists.{each}
 use Rattle.word.specs.ListLaws.{below-or-not, each-append, length-each}
-use Rattle.forms.specs.GapFormLaws.{sets-out}
+use Rattle.forms.specs.StoredLaws.{sets-out}
 use Rattle.forms.specs.declared.memory.Gap.{Gap}
 use Rattle.text_grammar.specs.declared.cursor.Cursor.{Cursor}
 use Rattle.text_grammar.specs.declared.cursor.Kind.{Kind}
@@ -44,12 +44,6 @@ use Rattle.text_patterns.proofs.FilledLaws.{length-filled, sets-filled, length-
 use Rattle.text_patterns.specs.PatternReading.{no-empty}
 
 -- one item more in memory
-
-pub part-small : (n : ℕ) → n ≤ 255 → n ≡ partOf n
-part-small n h = sym (ap (λ (b : Bool). cond b n 255) (le-leb n 255 h))
-
-pub part-large : (n : ℕ) → 255 < n → 255 ≡ partOf n
-part-large n h = sym (ap (λ (b : Bool). cond b n 255) (lt-leb n 255 h))
 
 abbrev gapMade : List ℕ → ℕ → Gap
 gapMade l n = record { parts = l; width = n }

@@ -3,10 +3,12 @@
 use Prim.Native.Nat.{ℕ, zero, suc, _+_, _*_, _≤_, _<_}
 use native.Mathlib.Nat.{zero-add, suc-add, zero-mul, suc-mul}
 use native.Mathlib.Omega.{arith}
-use mathlib.Core.Path.{_≡_, refl, sym, ap, _∙_}
+use mathlib.Core.Path.{_≡_, refl, ap, _∙_}
+use mathlib.Core.Bool.{Bool, cond}
 use mathlib.Core.List.{List, [], _∷_, _++_, map}
 use lib.ListN.{length, getD, take, drop, length-map, List·getD-map}
 use lib.Seq.{take-at, drop-append-add}
+use borrow.Author.Tests.{le-leb, lt-leb}
 use Rattle.word.specs.Ceilings.{COMPONENTS, GAPS, PARTS}
 use Rattle.word.specs.Lists.{each}
 use Rattle.forms.specs.SchemeMemory.{partsAt}
@@ -14,6 +16,13 @@ use Rattle.text_patterns.specs.PatternMemory.{filled}
 use Rattle.text_patterns.specs.PatternLoading.{filled-at}
 use Rattle.text_patterns.proofs.FilledLaws.{length-filled}
 use Rattle.text_gaps.specs.GapMemory.{partOf, partsOf, partsOfAll, widthsOf}
+
+-- a component, or a number of components, as a byte
+pub part-same : (n : ℕ) → n ≤ 255 → partOf n ≡ n
+part-same n h = ap (λ (b : Bool). cond b n 255) (le-leb n 255 h)
+
+pub part-most : (n : ℕ) → 255 < n → partOf n ≡ 255
+part-most n h = ap (λ (b : Bool). cond b n 255) (lt-leb n 255 h)
 
 module _ {A : Type 0} (z : A) where
   filled-append : (xs l : List A) (n : ℕ) → filled (length xs + n) z (xs ++ l) ≡ xs ++ filled n z l

@@ -1,6 +1,7 @@
 -- Laws on lists of a fixed length that hold the front of another, on the digits of a run, and on patterns stored one after the other.
 -- Assumes nothing.
 use Prim.Native.Nat.{ℕ, zero, suc, _+_, _-_, _≤_, _<_}
+use native.Mathlib.Nat.{zero-add}
 use native.Mathlib.Numerals.{add-one}
 use native.Mathlib.Omega.{arith}
 use mathlib.Core.Path.{_≡_, refl, sym, ap, ap₂, _∙_}
@@ -11,6 +12,7 @@ use lib.ListN.{length, getD, take, drop, set, length-map, length-drop}
 use lib.Seq.{length-take-le, take-suc, take-all, getD-drop, set-out, sets}
 use Rattle.forms.specs.declared.memory.Pattern.{Pattern}
 use Rattle.forms.specs.declared.memory.Patterns.{Patterns}
+use Rattle.forms.specs.StoredLaws.{stored-more, sets-front}
 use Rattle.text_grammar.specs.Tokens.{isDigit, run}
 use Rattle.text_grammar.specs.TokenLaws.{digit-value}
 use Rattle.text_patterns.specs.PatternMemory.{filled, patternOf, loadedPatterns, storedIn, added, patternText}
@@ -37,12 +39,6 @@ module _ {A : Type 0} where
   sets-filled n z l [] = rw (append-nil l) refl
   sets-filled n z l (x ∷ xs) = rw (set-filled n z l x, length-more l x, sets-filled n z (l ++ (x ∷ [])) xs, append-assoc l (x ∷ []) xs) refl
 
-  -- the first n elements are what is held
-  pub filled-take : (n : ℕ) (z : A) (l : List A) → filled n z (take n l) ≡ filled n z l
-  filled-take zero z l = refl
-  filled-take (suc n) z [] = refl
-  filled-take (suc n) z (x ∷ l) = ap (λ (r : List A). x ∷ r) (filled-take n z l)
-
 -- the digits of a run are the values of its bytes
 
 run-at : (t : List ℕ) (i : ℕ) → i < length (run t) → (getD (run t) i 0 ≡ getD t i 0 - 0x30) × (0x30 ≤ getD t i 0) × (i < length t)
@@ -66,20 +62,15 @@ digits-in s from i h =
     (r .0 ∙ ap (λ (x : ℕ). x - 0x30) g, omega (arith, r .1), omega (arith, r .2))
 
 -- one digit more, and the last
-module _ (n : ℕ) (u d : List ℕ) (i : ℕ) (e : d ≡ filled n 0 (take i u)) where
-  pub digits-next : (x : ℕ) → i < length u → getD u i 0 ≡ x → set d i x ≡ filled n 0 (take (i + 1) u)
-  digits-next x h q =
-      let k : i ≤ length u = omega arith in
-      ap (λ (l : List ℕ). set l i x) e
-      ∙ ap (λ (j : ℕ). set (filled n 0 (take i u)) j x) (sym (length-take-le i u k))
-      ∙ set-filled n 0 (take i u) x
-      ∙ ap (λ (l : List ℕ). filled n 0 l) (ap (λ (y : ℕ). take i u ++ (y ∷ [])) (sym q) ∙ sym (take-suc u i 0 h) ∙ ap (λ (j : ℕ). take j u) (sym (add-one i)))
+module _ (t u d : List ℕ) (i : ℕ) (e : d ≡ sets t 0 (take i u)) where
+  pub digits-next : (x : ℕ) → i < length u → getD u i 0 ≡ x → set d i x ≡ sets t 0 (take (i + 1) u)
+  digits-next x h q = rw (← q, ← stored-more t u 0 i d h e, zero-add i) refl
 
-  pub digits-all : length u ≤ i → d ≡ filled n 0 u
-  digits-all h = e ∙ ap (λ (l : List ℕ). filled n 0 l) (take-all i u h)
+  pub digits-all : length u ≤ i → d ≡ sets t 0 u
+  digits-all h = e ∙ ap (sets t 0) (take-all i u h)
 
-  pub digits-full : i ≡ n → d ≡ filled n 0 u
-  digits-full h = e ∙ ap (λ (j : ℕ). filled n 0 (take j u)) h ∙ filled-take n 0 u
+  pub digits-full : length t ≤ i → d ≡ sets t 0 u
+  digits-full h = let k : length t ≤ 0 + i = omega arith in e ∙ sets-front t 0 u i k
 
 -- patterns stored one after the other
 

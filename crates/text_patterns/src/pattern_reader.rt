@@ -1,4 +1,5 @@
 // A pattern set read from a text into memory, in one pass.
+use crate::digits::put_digits;
 use forms::memory::Pattern;
 use forms::memory::Patterns;
 use text_grammar::cursor::Cursor;
@@ -220,15 +221,7 @@ fn digits_at(s: &[u8], from: usize, len: usize) -> [u8; DIGITS]
     ensures { λ r. ⌜ r ≡ filled DIGITS 0 (run (drop from (now (s .entry)))) ⌝ }
 {
     let mut digits = [0u8; DIGITS];
-    let mut i: usize = 0;
-    while i < DIGITS {
-        if len <= i {
-            return digits;
-        }
-        let k = from + i;
-        digits[i] = s[k] - b'0';
-        i += 1;
-    }
+    put_digits(&mut digits, s, from, len);
     digits
 }
 

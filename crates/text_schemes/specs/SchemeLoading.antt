@@ -3,11 +3,11 @@ use Prim.Native.Nat.{ℕ, _+_, _≤_, _<_}
 use native.Mathlib.Omega.{arith}
 use mathlib.Core.Path.{_≡_, refl, sym, ap, ap₂, _∙_}
 use mathlib.Core.Logic.{_⊎_, inl, inr}
-use mathlib.Core.Bool.{Bool, true, false, not, cond, _||_}
+use mathlib.Core.Bool.{Bool, true, false, not, _||_}
 use mathlib.Core.List.{List, [], _∷_, _++_, map}
 use lib.ListN.{length, getD, take, replicate, length-map}
 use lib.Dec.{ltb}
-use borrow.Author.Tests.{ltb-false, lt-ltb, le-leb, lt-leb}
+use borrow.Author.Tests.{ltb-false, lt-ltb}
 use Rattle.word.specs.Ceilings.{ENTRIES, PREFIX, COMPONENTS, GAPS, TOTAL}
 use Rattle.word.specs.Lists.{row, any}
 use Rattle.word.specs.ListLaws.{below-or-not}
@@ -21,20 +21,12 @@ use Rattle.forms.specs.SchemeMemory.{padded, partsAt, noEntry, doesOf, entryIn,
 use Rattle.text_patterns.specs.PatternMemory.{filled}
 use Rattle.text_patterns.specs.PatternLoading.{places-same, places-length, places-kept, take-filled, sized-faults, sized-same}
 use Rattle.text_gaps.specs.GapMemory.{partOf, partsOf, partsOfAll, widthsOf}
-use Rattle.text_gaps.specs.GapMemoryLaws.{kept-parts, kept-width}
+use Rattle.text_gaps.specs.GapMemoryLaws.{part-same, part-most, kept-parts, kept-width}
 use Rattle.text_schemes.specs.SchemeLoaded.{ruleOf, entryOf, plainEntry, loadedScheme}
 use Rattle.forms.specs.MemoryLaws.{length-padded}
 use Rattle.scheme.specs.TestLaws.{or-left, or-right, length-items}
 
--- a disjunction that is false, and its parts
-
 -- components as bytes
-
-part-same : (n : ℕ) → n ≤ 255 → partOf n ≡ n
-part-same n h = ap (λ (b : Bool). cond b n 255) (le-leb n 255 h)
-
-part-most : (n : ℕ) → 255 < n → partOf n ≡ 255
-part-most n h = ap (λ (b : Bool). cond b n 255) (lt-leb n 255 h)
 
 -- all components are kept, or both totals are beyond every bound that is tested
 capped : (b : List ℕ) → (map partOf b ≡ b) ⊎ ((255 ≤ total (map partOf b)) × (255 ≤ total b))

@@ -16,6 +16,7 @@ use text_grammar::kinds::is_digits;
 use text_grammar::kinds::is_empty;
 use text_grammar::kinds::is_end;
 use text_grammar::kinds::is_epsilon;
+use text_patterns::digits::put_digits;
 use word::limits::ENTRIES;
 use word::limits::GAPS;
 use word::limits::PARTS;
@@ -150,15 +151,7 @@ fn digits_at(s: &[u8], from: usize, len: usize) -> [u8; PREFIX]
     ensures { λ r. ⌜ r ≡ filled PREFIX 0 (run (drop from (now (s .entry)))) ⌝ }
 {
     let mut digits = [0u8; PREFIX];
-    let mut i: usize = 0;
-    while i < PREFIX {
-        if len <= i {
-            return digits;
-        }
-        let k = from + i;
-        digits[i] = s[k] - b'0';
-        i += 1;
-    }
+    put_digits(&mut digits, s, from, len);
     digits
 }
 

@@ -14,6 +14,7 @@ use Rattle.forms.specs.SchemeList.{EntryList, deletes}
 use Rattle.forms.specs.declared.memory.Patterns.{Patterns}
 use Rattle.forms.specs.declared.memory.Entry.{Entry}
 use Rattle.forms.specs.declared.memory.Scheme.{Scheme}
+use Rattle.scheme.specs.TestLaws.{row-next, row-end}
 use Rattle.text_grammar.specs.Spelling.{Token, bytesOf, byte, digits, epsilon, empty, left, right, comma, separated, braced, permPiece, numeral, vectorPieces, rulePieces, entryPieces}
 use Rattle.text_grammar.specs.Spelling.{writtenPatterns, writtenScheme}
 use Rattle.text_grammar.specs.GrammarLaws.{numeral-one, numeral-two, numeral-three}
@@ -22,19 +23,6 @@ use Rattle.text_page.specs.PageLaws.{ToCome, step, again, finish, room-next, wr
 use Rattle.text_page.specs.Decimal.{decimal}
 use Rattle.text_page.specs.DecimalLaws.{decimal-one, decimal-more}
 use Rattle.text_writer.specs.Writable.{text, next, further, number, patternAt, vectorAt, gapPieces, entryAt}
-
--- a row with an element has its first and the row after it
-pub row-cons : (i n : ℕ) → i < n → row i (n - i) ≡ i ∷ row (i + 1) (n - (i + 1))
-row-cons i n h = go (n - i) (n - (i + 1)) (omega arith)
-  where
-    go : (a b : ℕ) → a ≡ suc b → row i a ≡ i ∷ row (i + 1) b
-    go a b e = rw (e, add-one i) refl
-
-pub row-end : (i n : ℕ) → n ≤ i → row i (n - i) ≡ []
-row-end i n h = go (n - i) (omega arith)
-  where
-    go : (a : ℕ) → a ≡ 0 → row i a ≡ []
-    go a e = rw e refl
 
 -- the first items, by their places
 
@@ -57,10 +45,10 @@ shown-start n l h =
     rw (e, padded-row n l h) (map-map (λ (d : ℕ). 48 + d) (λ (k : ℕ). getD l k 0) (row 0 n))
 
 pub shown-step : (l : List ℕ) (i n : ℕ) → i < n → shown l (row i (n - i)) ≡ ((48 + getD l i 0) ∷ []) ++ shown l (row (i + 1) (n - (i + 1)))
-shown-step l i n h = ap (shown l) (row-cons i n h)
+shown-step l i n h = rw (add-one i) (ap (shown l) (row-next n i h))
 
 pub shown-end : (l : List ℕ) (i n : ℕ) → n ≤ i → shown l (row i (n - i)) ≡ []
-shown-end l i n h = ap (shown l) (row-end i n h)
+shown-end l i n h = ap (shown l) (row-end n i h)
 
 -- a permutation: ε, or its digits
 

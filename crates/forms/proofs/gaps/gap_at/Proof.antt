@@ -7,7 +7,7 @@ use native.Mathlib.Omega.{arith}
 use lib.ListN.{length, take, drop, length-set}
 use borrow.Author.Needs.{needs}
 use Rattle.word.specs.Ceilings.{COMPONENTS, GAPS, PARTS}
-use Rattle.forms.specs.GapFormLaws.{copied-more, copied-all}
+use Rattle.forms.specs.StoredLaws.{copied-more, copied-all}
 use Rattle.forms.proofs.gaps.gap_at.Statement.{statement}
 use Rattle.forms.proofs.gaps.gap_at.Tie as tie
 

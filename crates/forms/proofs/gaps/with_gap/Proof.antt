@@ -7,7 +7,7 @@ use lib.ListN.{length, take}
 use lib.Seq.{sets, take-all}
 use borrow.Author.Needs.{needs}
 use Rattle.word.specs.Ceilings.{COMPONENTS}
-use Rattle.forms.specs.GapFormLaws.{stored-more}
+use Rattle.forms.specs.StoredLaws.{stored-more}
 use Rattle.forms.proofs.gaps.with_gap.Statement.{statement}
 use Rattle.forms.proofs.gaps.with_gap.Tie as tie
 
