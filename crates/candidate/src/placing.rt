@@ -1,9 +1,6 @@
 // Placing the head of a pattern in a prefix: the part of the candidate search that says whether a
 // copy stands.
-use crate::tables::Tables;
-use crate::tables::flag_of_value;
-use crate::tables::level_of_value;
-use crate::tables::need_of_entry;
+use crate::tables::told;
 use word::limits::DIGITS;
 ghost use mathlib.Core.Path.{_≡_};
 ghost use mathlib.Core.Bool.{_||_};
@@ -14,9 +11,11 @@ ghost use Rattle.word.specs.Vocabulary.{fits};
 ghost use Rattle.cell.specs.Candidate.{place};
 ghost use Rattle.candidate.specs.Lookup.{entryOf, flagged};
 
-// How far the head of a pattern is placed: how many of its entries are, the index in the prefix from
-// which the next one is sought, and whether a value among them is deleted.
+// How far the head of a pattern is placed: the values that its first entries stand at, how many they
+// are, the index in the prefix from which the next one is sought, and whether a value among them is
+// deleted.
 pub struct Placing {
+    pub chosen: [u8; DIGITS],
     pub placed: usize,
     pub from: usize,
     pub used: bool,
@@ -30,10 +29,10 @@ fn either(a: bool, b: bool) -> bool
 }
 
 // Whether a prefix value is deleted.
-fn is_flagged(tables: Tables, v: u8) -> bool
-    ensures { λ r. ⌜ r ≡ flagged (tables .gone) v ⌝ }
+fn is_flagged(gone: &[u8], v: u8) -> bool
+    ensures { λ r. ⌜ r ≡ flagged (now (gone .entry)) v ⌝ }
 {
-    flag_of_value(tables, v) != 0
+    told(gone, v) != 0
 }
 
 // Whether the new pair compares with the first s pairs alike.
@@ -54,29 +53,32 @@ fn pairs_fit(chosen: [u8; DIGITS], head: &[u8], s: usize, x: u8, a: u8) -> bool
 }
 
 // Whether the entries of the head that are not placed yet can be placed in the prefix, behind those
-// that stand at the values `chosen`.
+// that are. The three lists are indexed by values: the level that an entry of the head needs, the level
+// of a prefix value, and whether it is deleted.
 pub fn placed(
-    chosen: [u8; DIGITS],
     head: &[u8],
     prefix: &[u8],
     state: Placing,
-    tables: Tables,
+    need: &[u8],
+    levels: &[u8],
+    gone: &[u8],
 ) -> bool
     requires { ⌜ length (now head) ≤ DIGITS ⌝ }
-    ensures { λ r. ⌜ r ≡ place (entryOf (tables .need)) (entryOf (tables .levels)) (flagged (tables .gone)) (state .used) (take (state .placed) (now (head .entry))) (take (state .placed) chosen) (drop (state .placed) (now (head .entry))) (drop (state .from) (now (prefix .entry))) ⌝ }
+    ensures { λ r. ⌜ r ≡ place (entryOf (now (need .entry))) (entryOf (now (levels .entry))) (flagged (now (gone .entry))) (state .used) (take (state .placed) (now (head .entry))) (take (state .placed) (state .chosen)) (drop (state .placed) (now (head .entry))) (drop (state .from) (now (prefix .entry))) ⌝ }
 {
     let s = state.placed;
     let used = state.used;
     if head.len() <= s {
         return used;
     }
+    let chosen = state.chosen;
     let x = head[s];
-    let level = need_of_entry(tables, x);
+    let level = told(need, x);
     let mut j = state.from;
     while j < prefix.len() {
         let a = prefix[j];
         j += 1;
-        if level_of_value(tables, a) != level {
+        if told(levels, a) != level {
             continue;
         }
         if !pairs_fit(chosen, head, s, x, a) {
@@ -84,14 +86,15 @@ pub fn placed(
         }
         let mut next = chosen;
         next[s] = a;
-        let more = either(used, is_flagged(tables, a));
+        let more = either(used, is_flagged(gone, a));
         let count = s + 1;
         let longer = Placing {
+            chosen: next,
             placed: count,
             from: j,
             used: more,
         };
-        if placed(next, head, prefix, longer, tables) {
+        if placed(head, prefix, longer, need, levels, gone) {
             return true;
         }
     }

@@ -28,6 +28,13 @@ ghost use Rattle.claims.specs.EmptyBelow.{showsEmpty, emptyAt, emptyBelo
 // A flag for each value from 0 to DIGITS.
 const FLAGS: usize = DIGITS + 1;
 
+// A prefix, its length, and the components of one of its gap vectors.
+struct PrefixGap {
+    prefix: [u8; PREFIX],
+    length: usize,
+    parts: [u8; COMPONENTS],
+}
+
 // The components of a gap vector.
 fn parts_of(b: Gap) -> [u8; COMPONENTS]
     ensures { λ r. ⌜ (r ≡ b .parts) × (length r ≡ COMPONENTS) ⌝ }
@@ -86,12 +93,17 @@ fn has_empty_below(
     requires { ⌜ (k ≤ PREFIX) × (isPerm (take k prefix) ≡ true) × (total (take (k + 1) parts) ≤ TOTAL) ⌝ }
     ensures { λ r. ⌜ r ≡ emptyBelow (patternsOf set lengths count) (take k prefix) (take (k + 1) parts) k ⌝ }
 {
+    let at = PrefixGap {
+        prefix: prefix,
+        length: k,
+        parts: parts,
+    };
     let mut t: usize = 0;
     while t < TOTAL {
         if is_at_most(parts, k, t) {
             return false;
         }
-        if has_empty(set, lengths, count, prefix, k, parts, t) {
+        if has_empty(set, lengths, count, at, t) {
             return true;
         }
         t += 1;
@@ -118,17 +130,16 @@ fn has_empty(
     set: [[u8; DIGITS]; PATTERNS],
     lengths: [u8; PATTERNS],
     count: usize,
-    prefix: [u8; PREFIX],
-    k: usize,
-    parts: [u8; COMPONENTS],
+    at: PrefixGap,
     t: usize,
 ) -> bool
-    requires { ⌜ (k ≤ PREFIX) × (isPerm (take k prefix) ≡ true) × (t ≤ TOTAL) ⌝ }
-    ensures { λ r. ⌜ r ≡ emptyAt (patternsOf set lengths count) (take k prefix) (take (k + 1) parts) k t ⌝ }
+    requires { ⌜ (at .length ≤ PREFIX) × (isPerm (take (at .length) (at .prefix)) ≡ true) × (t ≤ TOTAL) ⌝ }
+    ensures { λ r. ⌜ r ≡ emptyAt (patternsOf set lengths count) (take (at .length) (at .prefix)) (take (at .length + 1) (at .parts)) (at .length) t ⌝ }
 {
+    let k = at.length;
     let mut g = first_spacing(k, t as u8);
     loop {
-        if is_empty_below(set, lengths, count, prefix, k, parts, g) {
+        if is_empty_below(set, lengths, count, at, g) {
             return true;
         }
         let next = next_spacing(g, k);
@@ -144,16 +155,17 @@ fn is_empty_below(
     set: [[u8; DIGITS]; PATTERNS],
     lengths: [u8; PATTERNS],
     count: usize,
-    prefix: [u8; PREFIX],
-    k: usize,
-    parts: [u8; COMPONENTS],
+    at: PrefixGap,
     g: [u8; COMPONENTS],
 ) -> bool
-    requires { ⌜ (k ≤ PREFIX) × (isPerm (take k prefix) ≡ true) × (total (take (k + 1) g) ≤ TOTAL) ⌝ }
-    ensures { λ r. ⌜ r ≡ showsEmpty (patternsOf set lengths count) (take k prefix) (take (k + 1) parts) (take (k + 1) g) ⌝ }
+    requires { ⌜ (at .length ≤ PREFIX) × (isPerm (take (at .length) (at .prefix)) ≡ true) × (total (take (at .length + 1) g) ≤ TOTAL) ⌝ }
+    ensures { λ r. ⌜ r ≡ showsEmpty (patternsOf set lengths count) (take (at .length) (at .prefix)) (take (at .length + 1) (at .parts)) (take (at .length + 1) g) ⌝ }
 {
+    let k = at.length;
+    let parts = at.parts;
     if !at_least(parts, g, k) {
         return false;
     }
+    let prefix = at.prefix;
     !is_live_at(set, lengths, count, prefix, k, g)
 }

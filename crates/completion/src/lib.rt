@@ -1,5 +1,6 @@
 // The emptiness search: whether a word of first entries can be completed to an avoider of a given
 // length.
+use word::bytes::wide;
 use word::containment::any_in;
 use word::limits::DIGITS;
 use word::limits::PATTERNS;
@@ -157,11 +158,4 @@ pub fn contained(
     ensures { λ r. ⌜ r ≡ not (avoids (patternsOf set lengths count) (take len word)) ⌝ }
 {
     any_in(set, lengths, count, &word[..len])
-}
-
-// A byte as a length.
-fn wide(x: u8) -> usize
-    ensures { λ r. ⌜ r ≡ x ⌝ }
-{
-    x as usize
 }

@@ -96,13 +96,7 @@ fn child_sum(
 
 // The value at the spacing g: 0 where a gap vector covers it; else, for a deleting entry, the value at its target, and for an expanding entry the sum
 // over every next entry.
-pub fn value_at(
-    table: &[u64],
-    task: Task,
-    gaps: &[u8],
-    g: [u8; COMPONENTS],
-    b: &[usize],
-) -> u64
+pub fn value_at(table: &[u64], task: Task, gaps: &[u8], g: [u8; COMPONENTS], b: &[usize]) -> u64
     requires { ⌜ TaskFits task × TaskGaps task (now gaps) × (total (spacingIn (task .length) g) ≡ task .total) × Pascal (now b) ⌝ }
     ensures { λ r. ⌜ r ≡ taskStep task (now (gaps .entry)) (now (table .entry)) (spacingIn (task .length) g) ⌝ }
 {

@@ -1,11 +1,11 @@
 // Judging two texts: the set's text, then the scheme's, then the claims.
 use crate::judging::judge_claims;
-use notation::patterns::read_patterns;
-use notation::schemes::read_scheme;
 use forms::memory::Patterns;
 use forms::memory::Scheme;
 use forms::order::earlier;
 use forms::order::is_fault;
+use notation::patterns::read_patterns;
+use notation::schemes::read_scheme;
 use verdict::answer::Verdict;
 use verdict::answer::answer;
 ghost use Rattle.judge.specs.TextJudgement.{JudgesTexts, JudgesAndReads};

@@ -40,7 +40,7 @@ returns-2 c =
     let a = c .before .before .before .before .before .args in
     let long : length (a .t1) ≡ 20 = search needs in
     sym (begun-fails (a .n) (a .t1) (c .before .before .before .before .loop .i) (a .len) (omega arith) (omega arith)
-    (λ l (m : getD (a .t1) (c .before .before .before .before .loop .i) 0 ≤ a .n) e. omega (arith, c .before .wide .ensures)))
+    (λ l (m : getD (a .t1) (c .before .before .before .before .loop .i) 0 ≤ a .n) e. omega (arith, c .before .wide .ensures .0)))
 
 stands-requires : tie.Need-stands-requires Inv-loop μ-loop
 stands-requires c κs = search needs
@@ -63,7 +63,7 @@ loop-again c =
     let a = c .before .before .before .before .before .before .before .args in
     let i = c .before .before .before .before .before .before .loop .i in
     let long : length (a .t1) ≡ 20 = search needs in
-    let high : getD (a .t1) i 0 ≤ a .n = omega (arith, c .before .before .before .wide .ensures) in
+    let high : getD (a .t1) i 0 ≤ a .n = omega (arith, c .before .before .before .wide .ensures .0) in
     (begun-more (a .n) (a .t1) i (omega arith) (c .before .before .before .before .before .before .loop .inv .0) (c .before .before .before .before .if1 .left) high (sym (c .before .stands .ensures) ∙ c .if3 .left), omega arith)
 
 returns-4 : tie.Need-returns-4 Inv-loop μ-loop

@@ -18,34 +18,31 @@ use Rattle.candidate.proofs.placing.+placed.Lts-placed as placed-lts
 use Rattle.candidate.proofs.placing.either.Reads as either-reads
 use Rattle.candidate.proofs.placing.is_flagged.Reads as is-flagged-reads
 use Rattle.candidate.proofs.placing.pairs_fit.Reads as pairs-fit-reads
-use Rattle.candidate.proofs.tables.level_of_value.Reads as level-of-value-reads
-use Rattle.candidate.proofs.tables.need_of_entry.Reads as need-of-entry-reads
+use Rattle.candidate.proofs.tables.told.Reads as told-reads
 use Rattle.candidate.proofs.placing.+placed.{statement}
 use Rattle.candidate.proofs.placing.+placed.Tie.{close}
 
-abbrev μ-placed : Measures 2 placed-kinds.ps ℕ
-μ-placed κs a = length (a .1 .1 .0 .now) - a .1 .1 .1 .0 .from
+abbrev μ-placed : Measures 5 placed-kinds.ps ℕ
+μ-placed κs a = length (a .1 .0 .now) - a .1 .1 .0 .from
 
-abbrev placed-at : ℕ → In 2 placed-kinds.ps
-placed-at t = and 2 placed-kinds.ps (is 2 placed-kinds.ps μ-placed t) placed.Pre
+abbrev placed-at : ℕ → In 5 placed-kinds.ps
+placed-at t = and 5 placed-kinds.ps (is 5 placed-kinds.ps μ-placed t) placed.Pre
 
-abbrev placed-below : ℕ → In 2 placed-kinds.ps
-placed-below t = and 2 placed-kinds.ps (falls 2 placed-kinds.ps _<_ μ-placed t) placed.Pre
+abbrev placed-below : ℕ → In 5 placed-kinds.ps
+placed-below t = and 5 placed-kinds.ps (falls 5 placed-kinds.ps _<_ μ-placed t) placed.Pre
 
 abbrev placed-Inv-loop : placed-lts.InvT-loop
-placed-Inv-loop chosen head prefix tables s used x level j₀ j =
+placed-Inv-loop head prefix need levels gone s used chosen x level j₀ j =
     (j₀ ≤ j) ×
-    (state (entryOf (tables .need)) (entryOf (tables .levels)) (flagged (tables .gone)) head prefix used chosen s j₀ ≡
-    state (entryOf (tables .need)) (entryOf (tables .levels)) (flagged (tables .gone)) head prefix used chosen s j)
+    (state (entryOf need) (entryOf levels) (flagged gone) head prefix used chosen s j₀ ≡
+    state (entryOf need) (entryOf levels) (flagged gone) head prefix used chosen s j)
 
 abbrev placed-μ-loop : placed-lts.MeasureT-loop
-placed-μ-loop chosen head prefix tables s used x level j₀ j = length prefix - j
+placed-μ-loop head prefix need levels gone s used chosen x level j₀ j = length prefix - j
 
 placed-returns : (t : ℕ) → placed-lts.Need-returns (
-  need-of-entry-reads.Asked,
-  need-of-entry-reads.Learnt,
-  level-of-value-reads.Asked,
-  level-of-value-reads.Learnt,
+  told-reads.Asked,
+  told-reads.Learnt,
   pairs-fit-reads.Asked,
   pairs-fit-reads.Learnt,
   is-flagged-reads.Asked,
@@ -56,14 +53,12 @@ placed-returns : (t : ℕ) → placed-lts.Need-returns (
   placed.Post,
 ) (placed-at t) placed.Post placed-Inv-loop placed-μ-loop
 placed-returns t c =
-    let a = c .before .before .before .args in
-    sym (placed-done (entryOf (a .tables .need)) (entryOf (a .tables .levels)) (flagged (a .tables .gone)) (a .head .now) (a .prefix .now) (a .state .used) (a .chosen) (a .state .placed) (a .state .from) (c .if1 .taken))
+    let a = c .before .before .before .before .before .before .args in
+    sym (placed-done (entryOf (a .need .now)) (entryOf (a .levels .now)) (flagged (a .gone .now)) (a .head .now) (a .prefix .now) (a .state .used) (a .state .chosen) (a .state .placed) (a .state .from) (c .if1 .taken))
 
 placed-shared-slice-read-x : (t : ℕ) → placed-lts.Need-shared-slice-read-x (
-  need-of-entry-reads.Asked,
-  need-of-entry-reads.Learnt,
-  level-of-value-reads.Asked,
-  level-of-value-reads.Learnt,
+  told-reads.Asked,
+  told-reads.Learnt,
   pairs-fit-reads.Asked,
   pairs-fit-reads.Learnt,
   is-flagged-reads.Asked,
@@ -75,11 +70,9 @@ placed-shared-slice-read-x : (t : ℕ) → placed-lts.Need-shared-slice-read-x (
 ) (placed-at t) placed.Post placed-Inv-loop placed-μ-loop
 placed-shared-slice-read-x t c = search needs
 
-placed-need-of-entry-requires : (t : ℕ) → placed-lts.Need-need-of-entry-requires (
-  need-of-entry-reads.Asked,
-  need-of-entry-reads.Learnt,
-  level-of-value-reads.Asked,
-  level-of-value-reads.Learnt,
+placed-told-requires : (t : ℕ) → placed-lts.Need-told-requires (
+  told-reads.Asked,
+  told-reads.Learnt,
   pairs-fit-reads.Asked,
   pairs-fit-reads.Learnt,
   is-flagged-reads.Asked,
@@ -89,13 +82,11 @@ placed-need-of-entry-requires : (t : ℕ) → placed-lts.Need-need-of-entry-requ
   placed-below t,
   placed.Post,
 ) (placed-at t) placed.Post placed-Inv-loop placed-μ-loop
-placed-need-of-entry-requires t c κs = search needs
+placed-told-requires t c κs = search needs
 
 placed-loop-holds : (t : ℕ) → placed-lts.Need-loop-holds (
-  need-of-entry-reads.Asked,
-  need-of-entry-reads.Learnt,
-  level-of-value-reads.Asked,
-  level-of-value-reads.Learnt,
+  told-reads.Asked,
+  told-reads.Learnt,
   pairs-fit-reads.Asked,
   pairs-fit-reads.Learnt,
   is-flagged-reads.Asked,
@@ -108,10 +99,8 @@ placed-loop-holds : (t : ℕ) → placed-lts.Need-loop-holds (
 placed-loop-holds t c = (omega arith, refl)
 
 placed-shared-slice-read-a : (t : ℕ) → placed-lts.Need-shared-slice-read-a (
-  need-of-entry-reads.Asked,
-  need-of-entry-reads.Learnt,
-  level-of-value-reads.Asked,
-  level-of-value-reads.Learnt,
+  told-reads.Asked,
+  told-reads.Learnt,
   pairs-fit-reads.Asked,
   pairs-fit-reads.Learnt,
   is-flagged-reads.Asked,
@@ -124,10 +113,8 @@ placed-shared-slice-read-a : (t : ℕ) → placed-lts.Need-shared-slice-read-a (
 placed-shared-slice-read-a t c = search needs
 
 placed-add-j : (t : ℕ) → placed-lts.Need-add-j (
-  need-of-entry-reads.Asked,
-  need-of-entry-reads.Learnt,
-  level-of-value-reads.Asked,
-  level-of-value-reads.Learnt,
+  told-reads.Asked,
+  told-reads.Learnt,
   pairs-fit-reads.Asked,
   pairs-fit-reads.Learnt,
   is-flagged-reads.Asked,
@@ -139,11 +126,9 @@ placed-add-j : (t : ℕ) → placed-lts.Need-add-j (
 ) (placed-at t) placed.Post placed-Inv-loop placed-μ-loop
 placed-add-j t c = search needs
 
-placed-level-of-value-requires : (t : ℕ) → placed-lts.Need-level-of-value-requires (
-  need-of-entry-reads.Asked,
-  need-of-entry-reads.Learnt,
-  level-of-value-reads.Asked,
-  level-of-value-reads.Learnt,
+placed-told-requires-2 : (t : ℕ) → placed-lts.Need-told-requires-2 (
+  told-reads.Asked,
+  told-reads.Learnt,
   pairs-fit-reads.Asked,
   pairs-fit-reads.Learnt,
   is-flagged-reads.Asked,
@@ -153,13 +138,11 @@ placed-level-of-value-requires : (t : ℕ) → placed-lts.Need-level-of-value-re
   placed-below t,
   placed.Post,
 ) (placed-at t) placed.Post placed-Inv-loop placed-μ-loop
-placed-level-of-value-requires t c κs = search needs
+placed-told-requires-2 t c κs = search needs
 
 placed-loop-less : (t : ℕ) → placed-lts.Need-loop-less (
-  need-of-entry-reads.Asked,
-  need-of-entry-reads.Learnt,
-  level-of-value-reads.Asked,
-  level-of-value-reads.Learnt,
+  told-reads.Asked,
+  told-reads.Learnt,
   pairs-fit-reads.Asked,
   pairs-fit-reads.Learnt,
   is-flagged-reads.Asked,
@@ -172,10 +155,8 @@ placed-loop-less : (t : ℕ) → placed-lts.Need-loop-less (
 placed-loop-less t c = search needs
 
 placed-loop-again : (t : ℕ) → placed-lts.Need-loop-again (
-  need-of-entry-reads.Asked,
-  need-of-entry-reads.Learnt,
-  level-of-value-reads.Asked,
-  level-of-value-reads.Learnt,
+  told-reads.Asked,
+  told-reads.Learnt,
   pairs-fit-reads.Asked,
   pairs-fit-reads.Learnt,
   is-flagged-reads.Asked,
@@ -186,19 +167,17 @@ placed-loop-again : (t : ℕ) → placed-lts.Need-loop-again (
   placed.Post,
 ) (placed-at t) placed.Post placed-Inv-loop placed-μ-loop
 placed-loop-again t c =
-    let a = c .before .before .before .before .before .before .before .before .before .before .args in
+    let a = c .before .before .before .before .before .before .before .before .before .before .before .before .before .before .args in
     let l = c .before .before .before .before .loop in
-    let eight : length (a .chosen) ≡ 8 = (let o = c .before .before .before .before .before .before .before .before .before .before .good in search needs) in
-    let room : a .state .placed < length (a .chosen) = omega (arith, c .before .before .before .before .before .before .before .before .before .before .pre .1, c .before .before .before .before .before .before .before .if1 .left) in
-    let other : entryOf (a .tables .levels) (getD (a .prefix .now) (l .j) 0) ≡ entryOf (a .tables .need) (getD (a .head .now) (a .state .placed) 0) → ⊥ =
-    λ q. c .if2 .taken (c .before .level-of-value .ensures ∙ q ∙ sym (c .before .before .before .before .before .need-of-entry .ensures)) in
-    (omega (arith, l .inv .0), l .inv .1 ∙ placed-level (entryOf (a .tables .need)) (entryOf (a .tables .levels)) (flagged (a .tables .gone)) (a .head .now) (a .prefix .now) (a .state .used) (a .chosen) (a .state .placed) (l .j) (c .before .before .before .before .before .before .before .if1 .left) (c .before .before .before .loop-test .taken) room other)
+    let eight : length (a .state .chosen) ≡ 8 = (let o = c .before .before .before .before .before .before .before .before .before .before .before .before .before .before .good in search needs) in
+    let room : a .state .placed < length (a .state .chosen) = omega (arith, c .before .before .before .before .before .before .before .before .before .before .before .before .before .before .pre .1, c .before .before .before .before .before .before .before .before .if1 .left) in
+    let other : entryOf (a .levels .now) (getD (a .prefix .now) (l .j) 0) ≡ entryOf (a .need .now) (getD (a .head .now) (a .state .placed) 0) → ⊥ =
+    λ q. c .if2 .taken (c .before .told2 .ensures ∙ q ∙ sym (c .before .before .before .before .before .told .ensures)) in
+    (omega (arith, l .inv .0), l .inv .1 ∙ placed-level (entryOf (a .need .now)) (entryOf (a .levels .now)) (flagged (a .gone .now)) (a .head .now) (a .prefix .now) (a .state .used) (a .state .chosen) (a .state .placed) (l .j) (c .before .before .before .before .before .before .before .before .if1 .left) (c .before .before .before .loop-test .taken) room other)
 
 placed-pairs-fit-requires : (t : ℕ) → placed-lts.Need-pairs-fit-requires (
-  need-of-entry-reads.Asked,
-  need-of-entry-reads.Learnt,
-  level-of-value-reads.Asked,
-  level-of-value-reads.Learnt,
+  told-reads.Asked,
+  told-reads.Learnt,
   pairs-fit-reads.Asked,
   pairs-fit-reads.Learnt,
   is-flagged-reads.Asked,
@@ -211,10 +190,8 @@ placed-pairs-fit-requires : (t : ℕ) → placed-lts.Need-pairs-fit-requires (
 placed-pairs-fit-requires t c κs = search needs
 
 placed-loop-less-2 : (t : ℕ) → placed-lts.Need-loop-less-2 (
-  need-of-entry-reads.Asked,
-  need-of-entry-reads.Learnt,
-  level-of-value-reads.Asked,
-  level-of-value-reads.Learnt,
+  told-reads.Asked,
+  told-reads.Learnt,
   pairs-fit-reads.Asked,
   pairs-fit-reads.Learnt,
   is-flagged-reads.Asked,
@@ -227,10 +204,8 @@ placed-loop-less-2 : (t : ℕ) → placed-lts.Need-loop-less-2 (
 placed-loop-less-2 t c = search needs
 
 placed-loop-again-2 : (t : ℕ) → placed-lts.Need-loop-again-2 (
-  need-of-entry-reads.Asked,
-  need-of-entry-reads.Learnt,
-  level-of-value-reads.Asked,
-  level-of-value-reads.Learnt,
+  told-reads.Asked,
+  told-reads.Learnt,
   pairs-fit-reads.Asked,
   pairs-fit-reads.Learnt,
   is-flagged-reads.Asked,
@@ -241,22 +216,20 @@ placed-loop-again-2 : (t : ℕ) → placed-lts.Need-loop-again-2 (
   placed.Post,
 ) (placed-at t) placed.Post placed-Inv-loop placed-μ-loop
 placed-loop-again-2 t c =
-    let a = c .before .before .before .before .before .before .before .before .before .before .before .before .args in
+    let a = c .before .before .before .before .before .before .before .before .before .before .before .before .before .before .before .before .args in
     let l = c .before .before .before .before .before .before .loop in
-    let eight : length (a .chosen) ≡ 8 = (let o = c .before .before .before .before .before .before .before .before .before .before .before .before .good in search needs) in
-    let room : a .state .placed < length (a .chosen) = omega (arith, c .before .before .before .before .before .before .before .before .before .before .before .before .pre .1, c .before .before .before .before .before .before .before .before .before .if1 .left) in
-    let level : entryOf (a .tables .levels) (getD (a .prefix .now) (l .j) 0) ≡ entryOf (a .tables .need) (getD (a .head .now) (a .state .placed) 0) =
-    sym (c .before .before .before .level-of-value .ensures) ∙ c .before .before .if2 .left ∙ c .before .before .before .before .before .before .before .need-of-entry .ensures in (
+    let eight : length (a .state .chosen) ≡ 8 = (let o = c .before .before .before .before .before .before .before .before .before .before .before .before .before .before .before .before .good in search needs) in
+    let room : a .state .placed < length (a .state .chosen) = omega (arith, c .before .before .before .before .before .before .before .before .before .before .before .before .before .before .before .before .pre .1, c .before .before .before .before .before .before .before .before .before .before .if1 .left) in
+    let level : entryOf (a .levels .now) (getD (a .prefix .now) (l .j) 0) ≡ entryOf (a .need .now) (getD (a .head .now) (a .state .placed) 0) =
+    sym (c .before .before .before .told2 .ensures) ∙ c .before .before .if2 .left ∙ c .before .before .before .before .before .before .before .told .ensures in (
       omega (arith, l .inv .0),
-      l .inv .1 ∙ placed-pairs (entryOf (a .tables .need)) (entryOf (a .tables .levels)) (flagged (a .tables .gone)) (a .head .now) (a .prefix .now) (a .state .used) (a .chosen) (a .state .placed) (l .j) (c .before .before .before .before .before .before .before .before .before .if1 .left) (c .before .before .before .before .before .loop-test .taken) room level
+      l .inv .1 ∙ placed-pairs (entryOf (a .need .now)) (entryOf (a .levels .now)) (flagged (a .gone .now)) (a .head .now) (a .prefix .now) (a .state .used) (a .state .chosen) (a .state .placed) (l .j) (c .before .before .before .before .before .before .before .before .before .before .if1 .left) (c .before .before .before .before .before .loop-test .taken) room level
           (sym (c .before .pairs-fit .ensures) ∙ not-true _ (c .if3 .taken)),
     )
 
 placed-array-write-next : (t : ℕ) → placed-lts.Need-array-write-next (
-  need-of-entry-reads.Asked,
-  need-of-entry-reads.Learnt,
-  level-of-value-reads.Asked,
-  level-of-value-reads.Learnt,
+  told-reads.Asked,
+  told-reads.Learnt,
   pairs-fit-reads.Asked,
   pairs-fit-reads.Learnt,
   is-flagged-reads.Asked,
@@ -269,10 +242,8 @@ placed-array-write-next : (t : ℕ) → placed-lts.Need-array-write-next (
 placed-array-write-next t c = search needs
 
 placed-is-flagged-requires : (t : ℕ) → placed-lts.Need-is-flagged-requires (
-  need-of-entry-reads.Asked,
-  need-of-entry-reads.Learnt,
-  level-of-value-reads.Asked,
-  level-of-value-reads.Learnt,
+  told-reads.Asked,
+  told-reads.Learnt,
   pairs-fit-reads.Asked,
   pairs-fit-reads.Learnt,
   is-flagged-reads.Asked,
@@ -285,10 +256,8 @@ placed-is-flagged-requires : (t : ℕ) → placed-lts.Need-is-flagged-requires (
 placed-is-flagged-requires t c κs = search needs
 
 placed-either-requires : (t : ℕ) → placed-lts.Need-either-requires (
-  need-of-entry-reads.Asked,
-  need-of-entry-reads.Learnt,
-  level-of-value-reads.Asked,
-  level-of-value-reads.Learnt,
+  told-reads.Asked,
+  told-reads.Learnt,
   pairs-fit-reads.Asked,
   pairs-fit-reads.Learnt,
   is-flagged-reads.Asked,
@@ -301,10 +270,8 @@ placed-either-requires : (t : ℕ) → placed-lts.Need-either-requires (
 placed-either-requires t c κs = search needs
 
 placed-add-count : (t : ℕ) → placed-lts.Need-add-count (
-  need-of-entry-reads.Asked,
-  need-of-entry-reads.Learnt,
-  level-of-value-reads.Asked,
-  level-of-value-reads.Learnt,
+  told-reads.Asked,
+  told-reads.Learnt,
   pairs-fit-reads.Asked,
   pairs-fit-reads.Learnt,
   is-flagged-reads.Asked,
@@ -317,10 +284,8 @@ placed-add-count : (t : ℕ) → placed-lts.Need-add-count (
 placed-add-count t c = search needs
 
 placed-placed-requires : (t : ℕ) → placed-lts.Need-placed-requires (
-  need-of-entry-reads.Asked,
-  need-of-entry-reads.Learnt,
-  level-of-value-reads.Asked,
-  level-of-value-reads.Learnt,
+  told-reads.Asked,
+  told-reads.Learnt,
   pairs-fit-reads.Asked,
   pairs-fit-reads.Learnt,
   is-flagged-reads.Asked,
@@ -330,13 +295,11 @@ placed-placed-requires : (t : ℕ) → placed-lts.Need-placed-requires (
   placed-below t,
   placed.Post,
 ) (placed-at t) placed.Post placed-Inv-loop placed-μ-loop
-placed-placed-requires t c κs = (omega (arith, c .before .before .before .before .before .before .before .before .before .before .before .before .before .before .pre .0, c .before .before .before .before .before .before .before .before .loop .inv .0, c .before .before .before .before .before .before .before .loop-test .taken), c .before .before .before .before .before .before .before .before .before .before .before .before .before .before .pre .1)
+placed-placed-requires t c κs = (omega (arith, c .before .before .before .before .before .before .before .before .before .before .before .before .before .before .before .before .before .before .pre .0, c .before .before .before .before .before .before .before .before .loop .inv .0, c .before .before .before .before .before .before .before .loop-test .taken), c .before .before .before .before .before .before .before .before .before .before .before .before .before .before .before .before .before .before .pre .1)
 
 placed-returns-2 : (t : ℕ) → placed-lts.Need-returns-2 (
-  need-of-entry-reads.Asked,
-  need-of-entry-reads.Learnt,
-  level-of-value-reads.Asked,
-  level-of-value-reads.Learnt,
+  told-reads.Asked,
+  told-reads.Learnt,
   pairs-fit-reads.Asked,
   pairs-fit-reads.Learnt,
   is-flagged-reads.Asked,
@@ -347,25 +310,23 @@ placed-returns-2 : (t : ℕ) → placed-lts.Need-returns-2 (
   placed.Post,
 ) (placed-at t) placed.Post placed-Inv-loop placed-μ-loop
 placed-returns-2 t c =
-    let a = c .before .before .before .before .before .before .before .before .before .before .before .before .before .before .before .before .args in
+    let a = c .before .before .before .before .before .before .before .before .before .before .before .before .before .before .before .before .before .before .before .before .args in
     let l = c .before .before .before .before .before .before .before .before .before .before .loop in
     let v : ℕ = getD (a .prefix .now) (l .j) 0 in
-    let eight : length (a .chosen) ≡ 8 = (let o = c .before .before .before .before .before .before .before .before .before .before .before .before .before .before .before .before .good in search needs) in
-    let room : a .state .placed < length (a .chosen) = omega (arith, c .before .before .before .before .before .before .before .before .before .before .before .before .before .before .before .before .pre .1, c .before .before .before .before .before .before .before .before .before .before .before .before .before .if1 .left) in
-    let level : entryOf (a .tables .levels) v ≡ entryOf (a .tables .need) (getD (a .head .now) (a .state .placed) 0) =
-    sym (c .before .before .before .before .before .before .before .level-of-value .ensures) ∙ c .before .before .before .before .before .before .if2 .left ∙ c .before .before .before .before .before .before .before .before .before .before .before .need-of-entry .ensures in
-    let more : c .before .before .either .result ≡ a .state .used || flagged (a .tables .gone) v =
+    let eight : length (a .state .chosen) ≡ 8 = (let o = c .before .before .before .before .before .before .before .before .before .before .before .before .before .before .before .before .before .before .before .before .good in search needs) in
+    let room : a .state .placed < length (a .state .chosen) = omega (arith, c .before .before .before .before .before .before .before .before .before .before .before .before .before .before .before .before .before .before .before .before .pre .1, c .before .before .before .before .before .before .before .before .before .before .before .before .before .before .if1 .left) in
+    let level : entryOf (a .levels .now) v ≡ entryOf (a .need .now) (getD (a .head .now) (a .state .placed) 0) =
+    sym (c .before .before .before .before .before .before .before .told2 .ensures) ∙ c .before .before .before .before .before .before .if2 .left ∙ c .before .before .before .before .before .before .before .before .before .before .before .told .ensures in
+    let more : c .before .before .either .result ≡ a .state .used || flagged (a .gone .now) v =
     c .before .before .either .ensures ∙ ap (λ (b : Bool). a .state .used || b) (c .before .before .before .is-flagged .ensures) in
-    let tried : state (entryOf (a .tables .need)) (entryOf (a .tables .levels)) (flagged (a .tables .gone)) (a .head .now) (a .prefix .now) (a .state .used || flagged (a .tables .gone) v) (set (a .chosen) (a .state .placed) v) (a .state .placed + 1) (l .j + 1) ≡ true =
-    ap (λ (u : Bool). state (entryOf (a .tables .need)) (entryOf (a .tables .levels)) (flagged (a .tables .gone)) (a .head .now) (a .prefix .now) u (set (a .chosen) (a .state .placed) v) (a .state .placed + 1) (l .j + 1)) (sym more) ∙
+    let tried : state (entryOf (a .need .now)) (entryOf (a .levels .now)) (flagged (a .gone .now)) (a .head .now) (a .prefix .now) (a .state .used || flagged (a .gone .now) v) (set (a .state .chosen) (a .state .placed) v) (a .state .placed + 1) (l .j + 1) ≡ true =
+    ap (λ (u : Bool). state (entryOf (a .need .now)) (entryOf (a .levels .now)) (flagged (a .gone .now)) (a .head .now) (a .prefix .now) u (set (a .state .chosen) (a .state .placed) v) (a .state .placed + 1) (l .j + 1)) (sym more) ∙
     sym (c .before .placed .ensures) ∙ c .if4 .taken in
-    sym (l .inv .1 ∙ placed-here (entryOf (a .tables .need)) (entryOf (a .tables .levels)) (flagged (a .tables .gone)) (a .head .now) (a .prefix .now) (a .state .used) (a .chosen) (a .state .placed) (l .j) (c .before .before .before .before .before .before .before .before .before .before .before .before .before .if1 .left) (c .before .before .before .before .before .before .before .before .before .loop-test .taken) room level (sym (c .before .before .before .before .before .pairs-fit .ensures) ∙ not-false _ (c .before .before .before .before .if3 .left)) tried)
+    sym (l .inv .1 ∙ placed-here (entryOf (a .need .now)) (entryOf (a .levels .now)) (flagged (a .gone .now)) (a .head .now) (a .prefix .now) (a .state .used) (a .state .chosen) (a .state .placed) (l .j) (c .before .before .before .before .before .before .before .before .before .before .before .before .before .before .if1 .left) (c .before .before .before .before .before .before .before .before .before .loop-test .taken) room level (sym (c .before .before .before .before .before .pairs-fit .ensures) ∙ not-false _ (c .before .before .before .before .if3 .left)) tried)
 
 placed-loop-less-3 : (t : ℕ) → placed-lts.Need-loop-less-3 (
-  need-of-entry-reads.Asked,
-  need-of-entry-reads.Learnt,
-  level-of-value-reads.Asked,
-  level-of-value-reads.Learnt,
+  told-reads.Asked,
+  told-reads.Learnt,
   pairs-fit-reads.Asked,
   pairs-fit-reads.Learnt,
   is-flagged-reads.Asked,
@@ -378,10 +339,8 @@ placed-loop-less-3 : (t : ℕ) → placed-lts.Need-loop-less-3 (
 placed-loop-less-3 t c = search needs
 
 placed-loop-again-3 : (t : ℕ) → placed-lts.Need-loop-again-3 (
-  need-of-entry-reads.Asked,
-  need-of-entry-reads.Learnt,
-  level-of-value-reads.Asked,
-  level-of-value-reads.Learnt,
+  told-reads.Asked,
+  told-reads.Learnt,
   pairs-fit-reads.Asked,
   pairs-fit-reads.Learnt,
   is-flagged-reads.Asked,
@@ -392,25 +351,23 @@ placed-loop-again-3 : (t : ℕ) → placed-lts.Need-loop-again-3 (
   placed.Post,
 ) (placed-at t) placed.Post placed-Inv-loop placed-μ-loop
 placed-loop-again-3 t c =
-    let a = c .before .before .before .before .before .before .before .before .before .before .before .before .before .before .before .before .args in
+    let a = c .before .before .before .before .before .before .before .before .before .before .before .before .before .before .before .before .before .before .before .before .args in
     let l = c .before .before .before .before .before .before .before .before .before .before .loop in
     let v : ℕ = getD (a .prefix .now) (l .j) 0 in
-    let eight : length (a .chosen) ≡ 8 = (let o = c .before .before .before .before .before .before .before .before .before .before .before .before .before .before .before .before .good in search needs) in
-    let room : a .state .placed < length (a .chosen) = omega (arith, c .before .before .before .before .before .before .before .before .before .before .before .before .before .before .before .before .pre .1, c .before .before .before .before .before .before .before .before .before .before .before .before .before .if1 .left) in
-    let level : entryOf (a .tables .levels) v ≡ entryOf (a .tables .need) (getD (a .head .now) (a .state .placed) 0) =
-    sym (c .before .before .before .before .before .before .before .level-of-value .ensures) ∙ c .before .before .before .before .before .before .if2 .left ∙ c .before .before .before .before .before .before .before .before .before .before .before .need-of-entry .ensures in
-    let more : c .before .before .either .result ≡ a .state .used || flagged (a .tables .gone) v =
+    let eight : length (a .state .chosen) ≡ 8 = (let o = c .before .before .before .before .before .before .before .before .before .before .before .before .before .before .before .before .before .before .before .before .good in search needs) in
+    let room : a .state .placed < length (a .state .chosen) = omega (arith, c .before .before .before .before .before .before .before .before .before .before .before .before .before .before .before .before .before .before .before .before .pre .1, c .before .before .before .before .before .before .before .before .before .before .before .before .before .before .if1 .left) in
+    let level : entryOf (a .levels .now) v ≡ entryOf (a .need .now) (getD (a .head .now) (a .state .placed) 0) =
+    sym (c .before .before .before .before .before .before .before .told2 .ensures) ∙ c .before .before .before .before .before .before .if2 .left ∙ c .before .before .before .before .before .before .before .before .before .before .before .told .ensures in
+    let more : c .before .before .either .result ≡ a .state .used || flagged (a .gone .now) v =
     c .before .before .either .ensures ∙ ap (λ (b : Bool). a .state .used || b) (c .before .before .before .is-flagged .ensures) in
-    let tried : state (entryOf (a .tables .need)) (entryOf (a .tables .levels)) (flagged (a .tables .gone)) (a .head .now) (a .prefix .now) (a .state .used || flagged (a .tables .gone) v) (set (a .chosen) (a .state .placed) v) (a .state .placed + 1) (l .j + 1) ≡ false =
-    ap (λ (u : Bool). state (entryOf (a .tables .need)) (entryOf (a .tables .levels)) (flagged (a .tables .gone)) (a .head .now) (a .prefix .now) u (set (a .chosen) (a .state .placed) v) (a .state .placed + 1) (l .j + 1)) (sym more) ∙
+    let tried : state (entryOf (a .need .now)) (entryOf (a .levels .now)) (flagged (a .gone .now)) (a .head .now) (a .prefix .now) (a .state .used || flagged (a .gone .now) v) (set (a .state .chosen) (a .state .placed) v) (a .state .placed + 1) (l .j + 1) ≡ false =
+    ap (λ (u : Bool). state (entryOf (a .need .now)) (entryOf (a .levels .now)) (flagged (a .gone .now)) (a .head .now) (a .prefix .now) u (set (a .state .chosen) (a .state .placed) v) (a .state .placed + 1) (l .j + 1)) (sym more) ∙
     sym (c .before .placed .ensures) ∙ c .if4 .left in
-    (omega (arith, l .inv .0), l .inv .1 ∙ placed-later (entryOf (a .tables .need)) (entryOf (a .tables .levels)) (flagged (a .tables .gone)) (a .head .now) (a .prefix .now) (a .state .used) (a .chosen) (a .state .placed) (l .j) (c .before .before .before .before .before .before .before .before .before .before .before .before .before .if1 .left) (c .before .before .before .before .before .before .before .before .before .loop-test .taken) room level (sym (c .before .before .before .before .before .pairs-fit .ensures) ∙ not-false _ (c .before .before .before .before .if3 .left)) tried)
+    (omega (arith, l .inv .0), l .inv .1 ∙ placed-later (entryOf (a .need .now)) (entryOf (a .levels .now)) (flagged (a .gone .now)) (a .head .now) (a .prefix .now) (a .state .used) (a .state .chosen) (a .state .placed) (l .j) (c .before .before .before .before .before .before .before .before .before .before .before .before .before .before .if1 .left) (c .before .before .before .before .before .before .before .before .before .loop-test .taken) room level (sym (c .before .before .before .before .before .pairs-fit .ensures) ∙ not-false _ (c .before .before .before .before .if3 .left)) tried)
 
 placed-returns-3 : (t : ℕ) → placed-lts.Need-returns-3 (
-  need-of-entry-reads.Asked,
-  need-of-entry-reads.Learnt,
-  level-of-value-reads.Asked,
-  level-of-value-reads.Learnt,
+  told-reads.Asked,
+  told-reads.Learnt,
   pairs-fit-reads.Asked,
   pairs-fit-reads.Learnt,
   is-flagged-reads.Asked,
@@ -421,16 +378,14 @@ placed-returns-3 : (t : ℕ) → placed-lts.Need-returns-3 (
   placed.Post,
 ) (placed-at t) placed.Post placed-Inv-loop placed-μ-loop
 placed-returns-3 t c =
-    let a = c .before .before .before .before .before .before .before .args in
+    let a = c .before .before .before .before .before .before .before .before .before .before .before .args in
     let l = c .before .loop in
-    sym (l .inv .1 ∙ placed-none (entryOf (a .tables .need)) (entryOf (a .tables .levels)) (flagged (a .tables .gone)) (a .head .now) (a .prefix .now) (a .state .used) (a .chosen) (a .state .placed) (l .j) (c .before .before .before .before .if1 .left) (c .loop-test .left))
+    sym (l .inv .1 ∙ placed-none (entryOf (a .need .now)) (entryOf (a .levels .now)) (flagged (a .gone .now)) (a .head .now) (a .prefix .now) (a .state .used) (a .state .chosen) (a .state .placed) (l .j) (c .before .before .before .before .before .if1 .left) (c .loop-test .left))
 
 pub +placed-spec : {M : Type 1} → statement M
 +placed-spec = close μ-placed λ t. placed-lts.spec (
-  need-of-entry-reads.Asked,
-  need-of-entry-reads.Learnt,
-  level-of-value-reads.Asked,
-  level-of-value-reads.Learnt,
+  told-reads.Asked,
+  told-reads.Learnt,
   pairs-fit-reads.Asked,
   pairs-fit-reads.Learnt,
   is-flagged-reads.Asked,
@@ -446,11 +401,11 @@ pub +placed-spec : {M : Type 1} → statement M
     placed-μ-loop
     (placed-returns t)
     (placed-shared-slice-read-x t)
-    (placed-need-of-entry-requires t)
+    (placed-told-requires t)
     (placed-loop-holds t)
     (placed-shared-slice-read-a t)
     (placed-add-j t)
-    (placed-level-of-value-requires t)
+    (placed-told-requires-2 t)
     (placed-loop-less t)
     (placed-loop-again t)
     (placed-pairs-fit-requires t)

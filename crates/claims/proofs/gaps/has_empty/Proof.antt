@@ -18,13 +18,13 @@ use Rattle.claims.proofs.gaps.has_empty.Statement.{statement}
 use Rattle.claims.proofs.gaps.has_empty.Tie as tie
 
 abbrev Inv-loop : tie.InvT-loop
-Inv-loop set lengths count prefix k parts t g₀ g =
+Inv-loop set lengths count at t k g₀ g =
     (total (take (k + 1) g) ≡ t) ×
-    (any (shows set lengths count prefix k parts) (vectors (suc k) t) ≡
-    any (shows set lengths count prefix k parts) (take (k + 1) g ∷ later (take (k + 1) g)))
+    (any (shows set lengths count (at .prefix) k (at .parts)) (vectors (suc k) t) ≡
+    any (shows set lengths count (at .prefix) k (at .parts)) (take (k + 1) g ∷ later (take (k + 1) g)))
 
 abbrev μ-loop : tie.MeasureT-loop
-μ-loop set lengths count prefix k parts t g₀ g = length (later (take (k + 1) g))
+μ-loop set lengths count at t k g₀ g = length (later (take (k + 1) g))
 
 cast-first-spacing : tie.Need-cast-first-spacing Inv-loop μ-loop
 cast-first-spacing c = let q = c .pre .2 in search needs
@@ -35,9 +35,9 @@ first-spacing-requires c κs = omega (arith, c .pre .0)
 loop-holds : tie.Need-loop-holds Inv-loop μ-loop
 loop-holds c =
     let a = c .before .args in
-    let f = shows (a .set) (a .lengths) (a .count) (a .prefix) (a .k) (a .parts) in (
-      ap total (c .first-spacing .ensures) ∙ first-total (a .k) (a .t),
-      walk-start f (a .k) (a .t) ∙ ap (λ (v : List ℕ). any f (v ∷ later v)) (sym (c .first-spacing .ensures)),
+    let f = shows (a .set) (a .lengths) (a .count) (a .at .prefix) (a .at .length) (a .at .parts) in (
+      ap total (c .first-spacing .ensures) ∙ first-total (a .at .length) (a .t),
+      walk-start f (a .at .length) (a .t) ∙ ap (λ (v : List ℕ). any f (v ∷ later v)) (sym (c .first-spacing .ensures)),
     )
 
 is-empty-below-requires : tie.Need-is-empty-below-requires Inv-loop μ-loop
@@ -47,8 +47,8 @@ returns : tie.Need-returns Inv-loop μ-loop
 returns c =
     let a = c .before .before .before .before .args in
     let l = c .before .before .loop in
-    let f = shows (a .set) (a .lengths) (a .count) (a .prefix) (a .k) (a .parts) in
-    sym (l .inv .1 ∙ walk-here f (take (a .k + 1) (l .g)) (sym (c .before .is-empty-below .ensures) ∙ c .if1 .taken))
+    let f = shows (a .set) (a .lengths) (a .count) (a .at .prefix) (a .at .length) (a .at .parts) in
+    sym (l .inv .1 ∙ walk-here f (take (a .at .length + 1) (l .g)) (sym (c .before .is-empty-below .ensures) ∙ c .if1 .taken))
 
 next-spacing-requires : tie.Need-next-spacing-requires Inv-loop μ-loop
 next-spacing-requires c κs = (omega (arith, c .before .before .before .before .pre .0), omega (arith, c .before .before .loop .inv .0, c .before .before .before .before .pre .2))
@@ -58,26 +58,26 @@ returns-2 c =
     let a = c .before .before .before .before .before .before .before .args in
     let l = c .before .before .before .before .before .loop in
     let n = c .before .before .next-spacing in
-    let f = shows (a .set) (a .lengths) (a .count) (a .prefix) (a .k) (a .parts) in
+    let f = shows (a .set) (a .lengths) (a .count) (a .at .prefix) (a .at .length) (a .at .parts) in
     sym (l .inv .1 ∙
-    walk-last f (take (a .k + 1) (l .g)) (take (a .k + 1) (n .result .g)) (n .result .found) (n .ensures .follows)
+    walk-last f (take (a .at .length + 1) (l .g)) (take (a .at .length + 1) (n .result .g)) (n .result .found) (n .ensures .follows)
     (sym (c .before .before .before .before .is-empty-below .ensures) ∙ c .before .before .before .if1 .left) (not-true _ (c .if2 .taken)))
 
 loop-less : tie.Need-loop-less Inv-loop μ-loop
 loop-less c =
     let a = c .before .before .before .before .before .before .before .before .args in
     let n = c .before .before .before .next-spacing in
-    less-later (take (a .k + 1) (c .before .before .before .before .before .before .loop .g)) (take (a .k + 1) (n .result .g)) (n .result .found) (n .ensures .follows) (not-false _ (c .before .if2 .left))
+    less-later (take (a .at .length + 1) (c .before .before .before .before .before .before .loop .g)) (take (a .at .length + 1) (n .result .g)) (n .result .found) (n .ensures .follows) (not-false _ (c .before .if2 .left))
 
 loop-again : tie.Need-loop-again Inv-loop μ-loop
 loop-again c =
     let a = c .before .before .before .before .before .before .before .before .args in
     let l = c .before .before .before .before .before .before .loop in
     let n = c .before .before .before .next-spacing in
-    let f = shows (a .set) (a .lengths) (a .count) (a .prefix) (a .k) (a .parts) in (
+    let f = shows (a .set) (a .lengths) (a .count) (a .at .prefix) (a .at .length) (a .at .parts) in (
       n .ensures .follows .same-total ∙ l .inv .0,
       l .inv .1 ∙
-          walk-next f (take (a .k + 1) (l .g)) (take (a .k + 1) (n .result .g)) (n .result .found) (n .ensures .follows)
+          walk-next f (take (a .at .length + 1) (l .g)) (take (a .at .length + 1) (n .result .g)) (n .result .found) (n .ensures .follows)
           (sym (c .before .before .before .before .before .is-empty-below .ensures) ∙ c .before .before .before .before .if1 .left)
           (not-false _ (c .before .if2 .left)),
     )

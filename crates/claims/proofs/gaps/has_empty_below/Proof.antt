@@ -16,13 +16,13 @@ use Rattle.claims.proofs.gaps.has_empty_below.Statement.{statement}
 use Rattle.claims.proofs.gaps.has_empty_below.Tie as tie
 
 abbrev Inv-loop : tie.InvT-loop
-Inv-loop set lengths count prefix k parts t₀ t =
+Inv-loop set lengths count k parts at t₀ t =
     (t ≤ TOTAL) ×
-    (emptyBelow (patternsOf set lengths count) (take k prefix) (take (k + 1) parts) k ≡
-    from-total (shows set lengths count prefix k parts) k (total (take (k + 1) parts)) t)
+    (emptyBelow (patternsOf set lengths count) (take k (at .prefix)) (take (k + 1) parts) k ≡
+    from-total (shows set lengths count (at .prefix) k parts) k (total (take (k + 1) parts)) t)
 
 abbrev μ-loop : tie.MeasureT-loop
-μ-loop set lengths count prefix k parts t₀ t = TOTAL - t
+μ-loop set lengths count k parts at t₀ t = TOTAL - t
 
 loop-holds : tie.Need-loop-holds Inv-loop μ-loop
 loop-holds c =

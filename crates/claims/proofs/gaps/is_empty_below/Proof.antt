@@ -11,22 +11,22 @@ use Rattle.claims.proofs.gaps.is_empty_below.Statement.{statement}
 use Rattle.claims.proofs.gaps.is_empty_below.Tie as tie
 
 at-least-requires : tie.Need-at-least-requires
-at-least-requires c κs = omega (arith, c .pre .0)
+at-least-requires c κs = omega (arith, c .before .pre .0)
 
 returns : tie.Need-returns
 returns c =
-    let a = c .before .before .args in
-    sym (shows-not (patternsOf (a .set) (a .lengths) (a .count)) (take (a .k) (a .prefix)) (take (a .k + 1) (a .parts)) (take (a .k + 1) (a .g))
+    let a = c .before .before .before .args in
+    sym (shows-not (patternsOf (a .set) (a .lengths) (a .count)) (take (a .at .length) (a .at .prefix)) (take (a .at .length + 1) (a .at .parts)) (take (a .at .length + 1) (a .g))
     (sym (c .before .at-least .ensures) ∙ not-true _ (c .if1 .taken)))
 
 is-live-at-requires : tie.Need-is-live-at-requires
-is-live-at-requires c κs = c .before .before .pre
+is-live-at-requires c κs = c .before .before .before .before .pre
 
 returns-2 : tie.Need-returns-2
 returns-2 c =
-    let a = c .before .before .before .args in
-    let above = sym (c .before .before .at-least .ensures) ∙ not-false _ (c .before .if1 .left) in
-    shows-if-empty (patternsOf (a .set) (a .lengths) (a .count)) (take (a .k) (a .prefix)) (take (a .k + 1) (a .parts)) (take (a .k + 1) (a .g))
+    let a = c .before .before .before .before .before .args in
+    let above = sym (c .before .before .before .at-least .ensures) ∙ not-false _ (c .before .before .if1 .left) in
+    shows-if-empty (patternsOf (a .set) (a .lengths) (a .count)) (take (a .at .length) (a .at .prefix)) (take (a .at .length + 1) (a .at .parts)) (take (a .at .length + 1) (a .g))
     (c .is-live-at .result) above (c .is-live-at .ensures)
 
 pub is-empty-below-spec : {M : Type 1} → statement M
