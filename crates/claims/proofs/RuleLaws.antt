@@ -34,7 +34,7 @@ use Rattle.scheme.specs.Proper.{ProperEntry}
 use Rattle.scheme.specs.ProperLaws.{position-inside}
 use Rattle.verdict.specs.VerdictLaws.{differs-law}
 use Rattle.claims.specs.EntryMemory.{ProperSet, DeletesAt, ComparedAnswer}
-use Rattle.claims.specs.EntryMemoryLaws.{entry-short, gaps-hold, prefix-is, prefix-perm}
+use Rattle.scheme.specs.EntryMemoryLaws.{entry-short, gaps-hold, prefix-is, prefix-perm}
 use Rattle.claims.specs.ComparedLaws.{compared-small}
 
 -- the first of the positions

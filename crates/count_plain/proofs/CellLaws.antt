@@ -1,64 +1,38 @@
--- Laws of the plain evaluation: the gap vectors one by one, the target, the sum over the next entries.
+-- Laws of the plain evaluation: the target, the sum over the next entries.
 -- Assumes nothing.
 use Prim.Native.Nat.{ℕ, zero, suc, _+_, _*_, _-_, _≤_, _<_}
-use native.Mathlib.Nat.{sub-zero, zero-add}
+use native.Mathlib.Nat.{zero-add}
 use native.Mathlib.Numerals.{add-one}
 use native.Mathlib.Omega.{arith}
 use mathlib.Core.Path.{_≡_, refl, sym, ap, ap₂, _∙_}
-use mathlib.Core.Bool.{Bool, true, false, not, _&&_, cond}
-use mathlib.Core.List.{List, [], _∷_, map}
+use mathlib.Core.Bool.{true, false, cond}
+use mathlib.Core.List.{List, [], _∷_}
 use lib.ListN.{length, take}
 use lib.Seq.{length-take-le}
 use borrow.Author.Tests.{eq-eqb, ne-eqb}
 use Rattle.word.specs.Ceilings.{ENTRIES, PREFIX, COMPONENTS, GAPS, PLAIN_LENGTH}
-use Rattle.word.specs.Lists.{all, row}
 use Rattle.word.specs.Word.{avoids, entry}
-use Rattle.cell.specs.Cell.{total, atLeast, free, deleted, merged, mergeValues}
+use Rattle.cell.specs.Cell.{total, free, deleted, merged, mergeValues}
 use Rattle.cell.specs.Child.{slot, childAt, split}
 use Rattle.cell.specs.ChildLaws.{split-total, child-length}
 use Rattle.cell.specs.MergeLaws.{merged-total}
 use Rattle.forms.specs.SchemeList.{Does, expands, deletes}
-use Rattle.scheme.specs.TestLaws.{row-next, row-end}
 use Rattle.scheme.proofs.PrefixLaws.{deleted-size}
 use Rattle.verdict.specs.Value.{ruleValue, entryValue}
 use Rattle.forms.specs.declared.memory.Scheme.{Scheme}
-use Rattle.count_plan.specs.Plan.{Proper}
+use Rattle.forms.specs.SchemeMemory.{schemeIn}
+use Rattle.scheme.specs.Proper.{Proper}
 use Rattle.count_plan.specs.Layout.{entryAt, prefixAt, lengthAt}
 use Rattle.count_plan.specs.LayoutLaws.{prefix-length, entry-proper, entry-short, count-few}
-use Rattle.count_plan.proofs.PlanItemLaws.{position}
+use Rattle.count_plan.specs.SheetSizes.{FIELDS}
+use Rattle.count_plan.specs.SheetRows.{fieldOf, gapsAt, Names, RuleRow, Row}
+use Rattle.count_plan.proofs.CardLaws.{position}
 use Rattle.count_step.specs.Step.{LARGEST, capped}
 use Rattle.count_step.specs.StepLaws.{below-cap}
 use Rattle.count_step.proofs.SumLaws.{cap-more, cap-end}
 use Rattle.count_rows.specs.Rows.{Solves, sumFrom}
-use Rattle.count_plain.specs.SheetSizes.{FIELDS, HEAD, CARD}
 use Rattle.count_plain.specs.Pieces.{splitAt, HeldAt}
-use Rattle.count_plain.specs.Reading.{fieldOf, vectorOf, gapsAt, Names, RuleRow, Row, CellAt, Evaluates, Sums}
-
--- The gap vectors from v on
-
-abbrev pub freeFrom : List ℕ → ℕ → ℕ → ℕ → List ℕ → ℕ → Bool
-freeFrom sheet e k n g v =
-    all (λ b. not (atLeast g b)) (map (λ u. take (k + 1) (vectorOf sheet (CARD * e + HEAD + COMPONENTS * u))) (row v (n - v)))
-
-module _ (sheet : List ℕ) (e k n : ℕ) (g : List ℕ) where
-  pub free-start : n ≡ fieldOf sheet e 3 → free (gapsAt sheet e k) g ≡ freeFrom sheet e k n g 0
-  unfolding free
-  free-start q =
-      ap (λ m. all (λ b. not (atLeast g b)) (map (λ u. take (k + 1) (vectorOf sheet (CARD * e + HEAD + COMPONENTS * u))) (row 0 m))) (sym q ∙ sym (sub-zero n))
-
-  free-cons : (v : ℕ) → v < n →
-      freeFrom sheet e k n g v ≡ not (atLeast g (take (k + 1) (vectorOf sheet (CARD * e + HEAD + COMPONENTS * v)))) && freeFrom sheet e k n g (suc v)
-  free-cons v h =
-      ap (λ (r : List ℕ). all (λ b. not (atLeast g b)) (map (λ u. take (k + 1) (vectorOf sheet (CARD * e + HEAD + COMPONENTS * u))) r)) (row-next n v h)
-
-  pub free-covered : (v : ℕ) → v < n → atLeast g (take (k + 1) (vectorOf sheet (CARD * e + HEAD + COMPONENTS * v))) ≡ true → freeFrom sheet e k n g v ≡ false
-  free-covered v h q = free-cons v h ∙ rw q refl
-
-  pub free-later : (v : ℕ) → v < n → atLeast g (take (k + 1) (vectorOf sheet (CARD * e + HEAD + COMPONENTS * v))) ≡ false → freeFrom sheet e k n g v ≡ freeFrom sheet e k n g (v + 1)
-  free-later v h q = free-cons v h ∙ rw (q, add-one v) refl
-
-  pub free-end : (v : ℕ) → n ≤ v → freeFrom sheet e k n g v ≡ true
-  free-end v h = ap (λ (r : List ℕ). all (λ b. not (atLeast g b)) (map (λ u. take (k + 1) (vectorOf sheet (CARD * e + HEAD + COMPONENTS * u))) r)) (row-end n v h)
+use Rattle.count_plain.specs.Reading.{CellAt, Evaluates, Sums}
 
 -- twice the number that falls at each cell: "eight times the length less the prefix length falls at each cell" (01)
 abbrev pub measureOf : List ℕ → ℕ → ℕ → ℕ
@@ -75,7 +49,7 @@ record Deleting (s : Scheme) (e : ℕ) (sheet : List ℕ) (w : ℕ) : Type 0 whe
   high : w ≤ length (prefixAt s e)
   names : Names s (deleted (suc r ∷ []) (prefixAt s e)) (fieldOf sheet e FIELDS)
 
-module _ (P : List (List ℕ)) (s : Scheme) (sheet : List ℕ) (e : ℕ) (proper : Proper s) (inside : e < s .count) (row-e : Row P s sheet e) where
+module _ (P : List (List ℕ)) (s : Scheme) (sheet : List ℕ) (e : ℕ) (proper : Proper (schemeIn s)) (inside : e < s .count) (row-e : Row P s sheet e) where
   deleting : (w : ℕ) → w ≡ fieldOf sheet e 1 → (w ≡ 0 → ⊥) → Deleting s e sheet w
   deleting w q n = go ((entryAt s e) .rule) refl (row-e .rule)
     where

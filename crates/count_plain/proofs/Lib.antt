@@ -1,3 +1,2 @@
 -- The laws that the proofs of the crate count_plain use.
-pub mod SheetLaws
 pub mod CellLaws

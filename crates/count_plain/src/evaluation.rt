@@ -1,15 +1,17 @@
 // The plain evaluation: a cell asks for its children's sum, and the sum asks for cells.
-use crate::reading::field;
 use crate::reading::is_free_at;
-use crate::sheet::FIELDS;
 use crate::spacings::held;
 use crate::spacings::merged_spacing;
 use crate::spacings::split_spacing;
+use count_plan::reading::field;
+use count_plan::reading::long;
+use count_plan::sheet::FIELDS;
 use count_step::sums::capped_sum;
 use word::limits::COMPONENTS;
 ghost use Prim.Native.Nat.{_≤_};
 ghost use mathlib.Core.Path.{_≡_};
-ghost use Rattle.count_plain.specs.Reading.{fieldOf, CellAt, Evaluates, Sums};
+ghost use Rattle.count_plan.specs.SheetRows.{fieldOf};
+ghost use Rattle.count_plain.specs.Reading.{CellAt, Evaluates, Sums};
 
 // The value at the entry with index e and the spacing g, whose total is t.
 pub fn cell(sheet: &[u8], e: usize, g: [u8; COMPONENTS], t: usize) -> u64
@@ -48,11 +50,4 @@ fn next_sum(sheet: &[u8], e: usize, k: usize, g: [u8; COMPONENTS], t: usize) -> 
         q += 1;
     }
     sum
-}
-
-// The same number.
-fn long(x: usize) -> u64
-    ensures { λ r. ⌜ r ≡ x ⌝ }
-{
-    x as u64
 }

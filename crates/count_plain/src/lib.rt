@@ -2,5 +2,4 @@
 pub mod counting;
 pub mod evaluation;
 pub mod reading;
-pub mod sheet;
 pub mod spacings;

@@ -1,40 +1,15 @@
-// Reading the sheet.
-use crate::sheet::CARD;
-use crate::sheet::HEAD;
-use spacing::at_least;
-use spacing::walk::wide;
+// Whether a gap vector of an entry covers a spacing, by the sheet.
+use count_plan::reading::field;
+use count_plan::reading::gaps_of;
+use spacing::is_free;
 use word::limits::COMPONENTS;
 ghost use mathlib.Core.Path.{_≡_};
 ghost use Prim.Native.Nat.{_+_, _≤_, _<_};
 ghost use lib.ListN.{length, take};
-ghost use Rattle.word.specs.Ceilings.{ENTRIES, PREFIX, COMPONENTS, GAPS};
+ghost use Rattle.word.specs.Ceilings.{ENTRIES, PREFIX, GAPS};
 ghost use Rattle.cell.specs.Cell.{free};
-ghost use Rattle.count_plain.specs.SheetSizes.{CARD, SHEET};
-ghost use Rattle.count_plain.specs.Reading.{fieldOf, vectorOf, gapsAt};
-
-// Byte f of the entry with index e.
-pub fn field(sheet: &[u8], e: usize, f: usize) -> usize
-    requires { ⌜ (e < ENTRIES) × (f < CARD) × (length (now sheet) ≡ SHEET) ⌝ }
-    ensures { λ r. ⌜ r ≡ fieldOf (now (sheet .entry)) e f ⌝ }
-{
-    wide(sheet[CARD * e + f])
-}
-
-// The components of a gap vector: seven bytes from `at` on.
-fn vector(sheet: &[u8], at: usize) -> [u8; COMPONENTS]
-    requires { ⌜ at + COMPONENTS ≤ length (now sheet) ⌝ }
-    ensures { λ r. ⌜ r ≡ vectorOf (now (sheet .entry)) at ⌝ }
-{
-    [
-        sheet[at],
-        sheet[at + 1],
-        sheet[at + 2],
-        sheet[at + 3],
-        sheet[at + 4],
-        sheet[at + 5],
-        sheet[at + 6],
-    ]
-}
+ghost use Rattle.count_plan.specs.SheetSizes.{SHEET};
+ghost use Rattle.count_plan.specs.SheetRows.{fieldOf, gapsAt};
 
 // Whether a spacing is at least none of the gap vectors of the entry with index e.
 pub fn is_free_at(sheet: &[u8], e: usize, k: usize, g: [u8; COMPONENTS]) -> bool
@@ -42,13 +17,6 @@ pub fn is_free_at(sheet: &[u8], e: usize, k: usize, g: [u8; COMPONENTS]) -> bool
     ensures { λ r. ⌜ r ≡ free (gapsAt (now (sheet .entry)) e k) (take (k + 1) g) ⌝ }
 {
     let n = field(sheet, e, 3);
-    let mut v: usize = 0;
-    while v < n {
-        let b = vector(sheet, CARD * e + HEAD + COMPONENTS * v);
-        if at_least(g, b, k) {
-            return false;
-        }
-        v += 1;
-    }
-    true
+    let gaps = gaps_of(sheet, e);
+    is_free(gaps, n, k, g)
 }

@@ -1,2 +1,4 @@
--- The laws that the proofs of the crate count_plan use.
-pub mod PlanItemLaws
+-- Laws that count_rows and count_plain cite.
+pub mod CardLaws
+pub mod SheetLaws
+pub mod SheetRowLaws

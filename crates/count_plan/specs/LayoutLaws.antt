@@ -9,20 +9,22 @@ use lib.ListN.{length, getD, set, replicate, length-map, length-set, length-repl
 use lib.Seq.{getD-set-same, getD-set-other}
 use Rattle.word.specs.Ceilings.{ENTRIES, PREFIX, GAPS, LENGTH}
 use Rattle.word.specs.Lists.{row}
-use Rattle.word.specs.ListLaws.{below-or-not, same-or-not, length-row, row-in}
+use Rattle.word.specs.ListLaws.{same-or-not, length-row, row-in}
 use Rattle.cell.specs.Cell.{total}
 use Rattle.cell.specs.Binomial.{binomial}
 use Rattle.spacing.specs.Sizes.{CHOICES, NEAR}
 use Rattle.spacing.specs.TotalLaws.{total-append, row-cut}
 use Rattle.spacing.specs.PascalLaws.{binomial-small}
 use Rattle.forms.specs.SchemeList.{EntryList}
-use Rattle.forms.specs.SchemeMemory.{noGap, noEntry, gapIn, schemeIn}
+use Rattle.forms.specs.SchemeMemory.{noEntry, schemeIn}
 use Rattle.forms.specs.MemoryLaws.{length-padded}
 use Rattle.forms.specs.declared.memory.Scheme.{Scheme}
 use Rattle.scheme.specs.Proper.{ProperEntry}
-use Rattle.scheme.specs.ProperLaws.{proper-entry, few-entries}
+use Rattle.scheme.specs.ProperLaws.{proper-count, proper-at}
+use Rattle.scheme.specs.EntryMemoryLaws.{entry-short as short-length, entry-few, gap-width as width-of}
 use Rattle.count_plan.specs.Layout.{entryAt, prefixAt, lengthAt, placeAt, widthOf}
-use Rattle.count_plan.specs.Plan.{Proper, Places, NearPlaces}
+use Rattle.count_plan.specs.Plan.{Places}
+use Rattle.scheme.specs.Proper.{Proper}
 
 -- the length of a prefix
 pub prefix-length : (s : Scheme) (i : ℕ) → length (prefixAt s i) ≡ lengthAt s i
@@ -32,33 +34,23 @@ prefix-length s i = length-padded (lengthAt s i) ((getD (s .entries) i noEntry) 
 pub entry-member : (s : Scheme) (i : ℕ) → i < s .count → List·Memᴰ (entryAt s i) (schemeIn s)
 entry-member s i h = Memᴰ·map (entryAt s) (row-in 0 (s .count) i (omega arith) (omega arith))
 
-module _ (s : Scheme) (proper : Proper s) where
+module _ (s : Scheme) (proper : Proper (schemeIn s)) where
   pub count-few : s .count ≤ ENTRIES
-  count-few = omega (arith, few-entries (schemeIn s) proper, length-map (row 0 (s .count)) (entryAt s), length-row 0 (s .count))
+  count-few = proper-count s proper
 
   pub entry-proper : (i : ℕ) → i < s .count → ProperEntry (entryAt s i)
-  entry-proper i h = proper-entry (schemeIn s) proper (entryAt s i) (entry-member s i h)
+  entry-proper i h = proper-at s proper i h
 
   pub entry-short : (i : ℕ) → i < s .count → lengthAt s i ≤ PREFIX
-  entry-short i h = omega (arith, entry-proper i h .short, prefix-length s i)
+  entry-short i h = short-length (getD (s .entries) i noEntry) (entry-proper i h)
 
   -- the gap vectors in memory
   pub gaps-few : (i : ℕ) → i < s .count → (getD (s .entries) i noEntry) .«gap_count» ≤ GAPS
-  gaps-few i h =
-      omega (
-        arith,
-        entry-proper i h .few,
-        length-map (row 0 ((getD (s .entries) i noEntry) .«gap_count»)) (λ v. gapIn (getD ((getD (s .entries) i noEntry) .gaps) v noGap)),
-        length-row 0 ((getD (s .entries) i noEntry) .«gap_count»),
-      )
+  gaps-few i h = entry-few (getD (s .entries) i noEntry) (entry-proper i h)
 
   pub gap-width : (i : ℕ) → i < s .count → (v : ℕ) → v < (getD (s .entries) i noEntry) .«gap_count» →
-      (getD ((getD (s .entries) i noEntry) .gaps) v noGap) .width ≡ lengthAt s i + 1
-  gap-width i h v l =
-      let b = getD ((getD (s .entries) i noEntry) .gaps) v noGap in
-      let m : List·Memᴰ (gapIn (getD ((getD (s .entries) i noEntry) .gaps) v noGap)) ((entryAt s i) .gaps) =
-      Memᴰ·map (λ (x : ℕ). gapIn (getD ((getD (s .entries) i noEntry) .gaps) x noGap)) (row-in 0 ((getD (s .entries) i noEntry) .«gap_count») v (omega arith) (omega arith)) in
-      omega (arith, sym (length-padded (b .width) (b .parts)), entry-proper i h .wide (gapIn b) m, prefix-length s i)
+      getD ((getD (s .entries) i noEntry) .widths) v 0 ≡ lengthAt s i + 1
+  gap-width i h v l = omega (arith, width-of (getD (s .entries) i noEntry) (entry-proper i h) v l)
 
 -- Places
 
@@ -111,43 +103,52 @@ width-sum n s =
     ap (λ (f : ℕ → ℕ). total (map f (row 0 (s .count)))) (fun-ext (λ d. ap (binomial n) (sym (prefix-length s d)))) ∙
     ap total (sym (map-map (λ (e : EntryList). binomial n (length (e .prefix))) (entryAt s) (row 0 (s .count))))
 
--- Filling the places in memory
+-- Filling the places in memory: those up to i, and the place of the entry with index i
 pub record PlacesTo (n : ℕ) (s : Scheme) (i : ℕ) (places : List ℕ) (at : ℕ) : Type 0 where
-  pub size : length places ≡ ENTRIES
-  pub before : (d : ℕ) → d < i → getD places d 0 ≡ placeAt n s d
+  pub size : length places ≡ ENTRIES + 1
+  pub upto : (d : ℕ) → d ≤ i → getD places d 0 ≡ placeAt n s d
   pub here : at ≡ placeAt n s i
-  pub near : NearPlaces places
+  pub near : (d : ℕ) → getD places d 0 ≤ NEAR
 
-pub places-start : (n : ℕ) (s : Scheme) → PlacesTo n s 0 (replicate ENTRIES 0) 0
+pub places-start : (n : ℕ) (s : Scheme) → PlacesTo n s 0 (replicate (ENTRIES + 1) 0) 0
 unfolding placeAt
 places-start n s =
-    record { size = length-replicate {A = ℕ} ENTRIES 0; before = λ (d : ℕ) (h : d < 0). absurd (omega arith); here = refl; near = λ (d : ℕ). go ENTRIES d }
+    record {
+      size = length-replicate {A = ℕ} (ENTRIES + 1) 0;
+      upto = λ (d : ℕ) (h : d ≤ 0). let z : d ≡ 0 = omega arith in rw z refl;
+      here = refl;
+      near = λ (d : ℕ). go (ENTRIES + 1) d;
+    }
   where
     go : (m d : ℕ) → getD (replicate m 0) d 0 ≤ NEAR
     go zero d = omega arith
     go (suc m) zero = omega arith
     go (suc m) (suc d) = go m d
 
-pub places-more : (n : ℕ) (s : Scheme) (i : ℕ) (places : List ℕ) (at c : ℕ) → PlacesTo n s i places at → i < ENTRIES → n ≤ LENGTH → c ≡ binomial n (lengthAt s i) →
-    PlacesTo n s (i + 1) (set places i at) (at + c)
+pub places-more : (n : ℕ) (s : Scheme) (i : ℕ) (places : List ℕ) (at c : ℕ) → PlacesTo n s i places at → i < ENTRIES → n ≤ LENGTH → c ≡ binomial n
+    (lengthAt s i) →
+    PlacesTo n s (i + 1) (set places (i + 1) (at + c)) (at + c)
 places-more n s i places at c p h m e =
     record {
-      size = length-set places i at ∙ p .size;
-      before = λ (d : ℕ) (l : d < i + 1). go d l (below-or-not d i);
-      here = omega (arith, p .here, e, place-next n s i);
-      near = λ (d : ℕ). close d (same-or-not d i);
+      size = length-set places (i + 1) (at + c) ∙ p .size;
+      upto = λ (d : ℕ) (l : d ≤ i + 1). go d l (same-or-not d (i + 1));
+      here = next;
+      near = λ (d : ℕ). close d (same-or-not d (i + 1));
     }
   where
-    close : (d : ℕ) → (d ≡ i) ⊎ (d ≡ i → ⊥) → getD (set places i at) d 0 ≤ NEAR
-    close d (inl q) =
-        omega (arith, ap (λ m. getD (set places i at) m 0) q, getD-set-same places i at 0 (omega (arith, p .size)), p .here, place-small n s i m)
-    close d (inr q) = omega (arith, getD-set-other places i d at 0 q, p .near d)
+    next : at + c ≡ placeAt n s (i + 1)
+    next = omega (arith, p .here, e, place-next n s i)
 
-    go : (d : ℕ) → d < i + 1 → (d < i) ⊎ (i ≤ d) → getD (set places i at) d 0 ≡ placeAt n s d
-    go d l (inl a) = getD-set-other places i d at 0 (λ (q : d ≡ i). omega arith) ∙ p .before d a
-    go d l (inr a) =
-        let q : d ≡ i = omega arith in
-        ap (λ m. getD (set places i at) m 0) q ∙ getD-set-same places i at 0 (omega (arith, p .size)) ∙ p .here ∙ ap (placeAt n s) (sym q)
+    stored : (d : ℕ) → d ≡ i + 1 → getD (set places (i + 1) (at + c)) d 0 ≡ at + c
+    stored d q = ap (λ m. getD (set places (i + 1) (at + c)) m 0) q ∙ getD-set-same places (i + 1) (at + c) 0 (omega (arith, p .size))
 
-pub places-end : (n : ℕ) (s : Scheme) (i : ℕ) (places : List ℕ) (at : ℕ) → PlacesTo n s i places at → s .count ≤ i → Places n s places × NearPlaces places
-places-end n s i places at p h = (record { size = p .size; at = λ (d : ℕ) (l : d < s .count). p .before d (omega arith) }, p .near)
+    close : (d : ℕ) → (d ≡ i + 1) ⊎ (d ≡ i + 1 → ⊥) → getD (set places (i + 1) (at + c)) d 0 ≤ NEAR
+    close d (inl q) = omega (arith, stored d q, next, place-small n s (i + 1) m)
+    close d (inr q) = omega (arith, getD-set-other places (i + 1) d (at + c) 0 q, p .near d)
+
+    go : (d : ℕ) → d ≤ i + 1 → (d ≡ i + 1) ⊎ (d ≡ i + 1 → ⊥) → getD (set places (i + 1) (at + c)) d 0 ≡ placeAt n s d
+    go d l (inl q) = stored d q ∙ next ∙ ap (placeAt n s) (sym q)
+    go d l (inr q) = getD-set-other places (i + 1) d (at + c) 0 q ∙ p .upto d (omega arith)
+
+pub places-end : (n : ℕ) (s : Scheme) (i : ℕ) (places : List ℕ) (at : ℕ) → PlacesTo n s i places at → s .count ≤ i → Places n s places
+places-end n s i places at p h = record { at = λ (d : ℕ) (l : d ≤ s .count). p .upto d (omega arith); near = p .near }

@@ -1,3 +1,5 @@
-// The plan of a count: where the cells of each entry stand, and those that it reads.
-pub mod items;
+// The plan of a count: the sheet of a scheme, and where in a row of the table the cells of each entry stand.
+pub mod cards;
 pub mod places;
+pub mod reading;
+pub mod sheet;

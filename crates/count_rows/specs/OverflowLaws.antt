@@ -6,9 +6,7 @@ use native.Mathlib.Omega.{arith}
 use mathlib.Core.Path.{_≡_, refl, sym, ap, _∙_}
 use mathlib.Core.Bool.{true, cond}
 use mathlib.Core.List.{List, _++_, map, map-append, List·Memᴰ}
-use mathlib.Core.Option.{some}
-use lib.ListN.{length, getD}
-use lib.Dec.{eqb}
+use lib.ListN.{length}
 use borrow.Author.Tests.{ne-eqb, leb-true}
 use Rattle.word.specs.Ceilings.{LENGTH}
 use Rattle.word.specs.Lists.{row, oneTo}
@@ -29,9 +27,8 @@ use Rattle.count_step.specs.Step.{LARGEST, capped, childrenOf}
 use Rattle.count_step.specs.StepLaws.{nextCell, child-sum, below-cap}
 use Rattle.count_plan.specs.Layout.{entryAt, prefixAt, lengthAt}
 use Rattle.count_plan.specs.LayoutLaws.{prefix-length, entry-member}
-use Rattle.count_plan.specs.Plan.{noItem}
-use Rattle.count_plan.specs.declared.items.Item.{Item}
-use Rattle.count_rows.specs.Rows.{readsFrom, Solves, sumFrom, State, Setting}
+use Rattle.count_plan.specs.Plan.{Item}
+use Rattle.count_rows.specs.Rows.{readsFrom, sumFrom, State, Setting}
 use Rattle.count_rows.specs.RowLaws.{cells-are}
 use Rattle.count_rows.specs.RunLaws.{sizes-solved}
 
@@ -96,15 +93,15 @@ module _ (P : List (List ℕ)) (E : List EntryList) (formed : WellFormed P E) (t
           )
 
 -- A sum of cells of the table, as the step makes it, where the table holds the sizes
-module _ (s : Scheme) (items : List Item) (j here before : ℕ) (r : Setting s items j here before) (formed : WellFormed (r .P) (schemeIn s))
+module _ (s : Scheme) (items : ℕ → Item) (j here before : ℕ) (r : Setting s items j here before) (formed : WellFormed (r .P) (schemeIn s))
     (truth : AllTrue (r .P) (schemeIn s)) (e : ℕ) (inside : e < s .count) (rule : (entryAt s e) .rule ≡ expands) (T : List ℕ)
     (state : State (size (r .P)) (r .n) s j (lengthAt s e) e T) (g : List ℕ) (wide : length g ≡ suc (lengthAt s e))
     (whole : lengthAt s e + total g ≡ j) (f : free ((entryAt s e) .gaps) g ≡ true) where
   pub step-sums-fit : (q n : ℕ) → 1 ≤ q → q + n ≤ suc (total g) →
       SumFits (r .P) (prefixAt s e) g
-      (total (map (nextCell T (map (λ x. readsFrom (getD items e noItem) here before + x) ((getD items e noItem) .links)) 0 0 0 g) (row q n)))
+      (total (map (nextCell T (map (λ x. readsFrom (items e) here before + x) ((items e) .links)) 0 0 0 g) (row q n)))
   step-sums-fit q n low high =
-      rw (cells-are (size (r .P)) (r .P) s (r .n) (sizes-solved (r .P) s formed truth) (r .proper) e inside (getD items e noItem) (r .plan e inside) j here before
+      rw (cells-are (size (r .P)) (r .P) s (r .n) (sizes-solved (r .P) s formed truth) (r .proper) e inside (items e) (r .plan e inside) j here before
       (omega (arith, r .low, r .small)) (r .here-is) (r .before-is) T (state .longer) (state .before) g wide whole rule q n low high)
       (value-sums-fit (r .P) (schemeIn s) formed truth (entryAt s e) (entry-member s e inside) rule g (wide ∙ ap suc (sym (prefix-length s e))) f
       (omega (arith, r .low, r .small)) q n low high)
@@ -112,8 +109,8 @@ module _ (s : Scheme) (items : List Item) (j here before : ℕ) (r : Setting s i
   -- The whole sum of a step. What a loop of the step has summed and what is still to come make this
   -- sum together (Part and Sums in count_step/proofs/SumLaws.antt), so no sum in between is larger.
   pub children-fit : SumFits (r .P) (prefixAt s e) g
-      (childrenOf T (map (λ x. readsFrom (getD items e noItem) here before + x) ((getD items e noItem) .links)) g)
+      (childrenOf T (map (λ x. readsFrom (items e) here before + x) ((items e) .links)) g)
   unfolding childrenOf
   children-fit =
-      rw (child-sum T (map (λ x. readsFrom (getD items e noItem) here before + x) ((getD items e noItem) .links)) 0 0 0 g)
+      rw (child-sum T (map (λ x. readsFrom (items e) here before + x) ((items e) .links)) 0 0 0 g)
       (step-sums-fit 1 (total g) (omega arith) (omega arith))

@@ -25,6 +25,7 @@ use Rattle.forms.specs.SchemeList.{Does, expands, deletes}
 use Rattle.scheme.specs.WellFormed.{outside}
 use Rattle.forms.specs.declared.memory.Scheme.{Scheme}
 use Rattle.scheme.proofs.PrefixLaws.{deleted-size}
+use Rattle.forms.specs.SchemeMemory.{schemeIn}
 use Rattle.scheme.specs.ProperLaws.{position-inside}
 use Rattle.verdict.specs.Value.{ruleValue, entryValue}
 use Rattle.verdict.specs.ValueLaws.{position-high}
@@ -32,8 +33,8 @@ use Rattle.count_step.specs.Step.{childrenOf, capped, stepOf}
 use Rattle.count_step.specs.StepLaws.{nextCell, cells-sum, children-sum, below-cap}
 use Rattle.count_plan.specs.Layout.{entryAt, prefixAt, lengthAt, placeAt, widthOf, blockOf, cellAt}
 use Rattle.count_plan.specs.LayoutLaws.{prefix-length, entry-proper, entry-short, place-apart}
-use Rattle.count_plan.specs.Plan.{Proper, LeadsTo, RulePlan, Planned}
-use Rattle.count_plan.specs.declared.items.Item.{Item}
+use Rattle.count_plan.specs.Plan.{LeadsTo, Item, RulePlan, Planned}
+use Rattle.scheme.specs.Proper.{Proper}
 use Rattle.count_rows.specs.Rows.{readsFrom, itemStep, Solves, sumFrom, Holds, RowDone}
 
 -- Blocks: those of two rows in turn are the first and the second.
@@ -108,7 +109,7 @@ module _ (n : ℕ) (s : Scheme) where
 
 -- What a step stores
 
-module _ (v : List ℕ → List ℕ → ℕ) (P : List (List ℕ)) (s : Scheme) (n : ℕ) (solved : Solves v P s) (proper : Proper s) (e : ℕ) (inside : e < s .count)
+module _ (v : List ℕ → List ℕ → ℕ) (P : List (List ℕ)) (s : Scheme) (n : ℕ) (solved : Solves v P s) (proper : Proper (schemeIn s)) (e : ℕ) (inside : e < s .count)
     (t : Item) (planned : Planned n P s e t) (j here before : ℕ) (high : j ≤ LENGTH) (here-is : here ≡ blockOf n s j)
     (before-is : (i : ℕ) → suc i ≡ j → before ≡ blockOf n s i) (T : List ℕ)
     (longer : (d : ℕ) → d < s .count → lengthAt s e < lengthAt s d → Holds v n s T j d) (done : (i : ℕ) → suc i ≡ j → RowDone v n s T i)
@@ -207,9 +208,11 @@ module _ (v : List ℕ → List ℕ → ℕ) (P : List (List ℕ)) (s : Scheme) 
       (ne-eqb (t .deleted) 0 (λ (z : t .deleted ≡ 0). omega arith)) ∙
       target-cell r h o value low leads
 
-  pub step-value : itemStep (entryAt s e) t here before T g ≡ v (prefixAt s e) g
+  pub step-value : itemStep t here before T g ≡ v (prefixAt s e) g
   unfolding stepOf entryValue
-  step-value = go (free ((entryAt s e) .gaps) g) refl (solved .solves e inside g (omega (arith, size)))
+  step-value =
+      ap (λ (B : List (List ℕ)). stepOf T B (t .deleted) (t .alone) (map (λ x. readsFrom t here before + x) (t .links)) g) (planned .gaps) ∙
+      go (free ((entryAt s e) .gaps) g) refl (solved .solves e inside g (omega (arith, size)))
     where
       go : (b : Bool) → free ((entryAt s e) .gaps) g ≡ b →
           v (prefixAt s e) g ≡ cond (free ((entryAt s e) .gaps) g) (ruleValue v P (prefixAt s e) g ((entryAt s e) .rule)) 0 →

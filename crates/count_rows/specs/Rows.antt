@@ -3,39 +3,35 @@ use Prim.Native.Nat.{ℕ, suc, _+_, _*_, _-_, _≤_, _<_}
 use mathlib.Core.Path.{_≡_}
 use mathlib.Core.Bool.{cond}
 use mathlib.Core.Logic.{_⊎_}
-use mathlib.Core.List.{List, [], map}
+use mathlib.Core.List.{List, map}
 use mathlib.Core.Option.{some}
 use lib.ListN.{length, getD}
 use lib.Dec.{eqb}
-use Rattle.word.specs.Ceilings.{PREFIX, COMPONENTS, GAPS, LENGTH}
+use Rattle.word.specs.Ceilings.{PREFIX, LENGTH}
 use Rattle.word.specs.Lists.{row}
 use Rattle.cell.specs.Cell.{total}
 use Rattle.cell.specs.Child.{childAt, slot, split}
 use Rattle.cell.specs.Binomial.{binomial}
 use Rattle.spacing.specs.Sizes.{NEAR}
-use Rattle.forms.specs.SchemeList.{EntryList}
-use Rattle.forms.specs.SchemeMemory.{noGap, entryIn}
-use Rattle.forms.specs.declared.memory.Gap.{Gap}
-use Rattle.forms.specs.declared.memory.Entry.{Entry}
 use Rattle.forms.specs.declared.memory.Scheme.{Scheme}
 use Rattle.verdict.specs.Value.{entryValue}
 use Rattle.count_step.specs.Step.{LARGEST, stepOf}
 use Rattle.count_step.specs.Task.{Filled}
 use Rattle.count_plan.specs.Layout.{entryAt, prefixAt, lengthAt, widthOf, blockOf, cellAt}
-use Rattle.count_plan.specs.Plan.{Proper, Plan}
-use Rattle.count_plan.specs.declared.items.Item.{Item}
+use Rattle.count_plan.specs.Plan.{Item, Plan}
+use Rattle.forms.specs.SchemeMemory.{schemeIn}
+use Rattle.scheme.specs.Proper.{Proper}
 
 -- the block that an entry reads: its children's values stand in the row that is filled, its target's in the row before
 abbrev pub readsFrom : Item → ℕ → ℕ → ℕ
 readsFrom t here before = cond (eqb (t .deleted) 0) here before
 
--- what a step stores at a spacing of the entry e, with the item t, from the table T
-abbrev pub itemStep : EntryList → Item → ℕ → ℕ → List ℕ → List ℕ → ℕ
-itemStep e t here before T g = stepOf T (e .gaps) (t .deleted) (t .alone) (map (λ x. readsFrom t here before + x) (t .links)) g
+-- what a step stores at a spacing of the entry with the item t, from the table T
+abbrev pub itemStep : Item → ℕ → ℕ → List ℕ → List ℕ → ℕ
+itemStep t here before T g = stepOf T (t .gaps) (t .deleted) (t .alone) (map (λ x. readsFrom t here before + x) (t .links)) g
 
--- an entry in memory and its item, for a row of length j
-pub record Fits (e : Entry) (t : Item) (j here before : ℕ) : Type 0 where
-  pub size : t .length ≡ e .length
+-- an item, for a row of length j
+pub record Fits (t : Item) (j here before : ℕ) : Type 0 where
   pub short : t .length ≤ PREFIX
   pub low : t .length ≤ j
   pub high : j ≤ LENGTH
@@ -43,8 +39,6 @@ pub record Fits (e : Entry) (t : Item) (j here before : ℕ) : Type 0 where
   pub place : t .place ≤ NEAR
   pub here-near : here ≤ NEAR
   pub before-near : before ≤ NEAR
-  pub few : e .«gap_count» ≤ GAPS
-  pub wide : (i : ℕ) → i < e .«gap_count» → (getD (e .gaps) i noGap) .width ≡ e .length + 1
 
 -- v solves the recursion of document 01 for the entries of s, and its values at totals up to LENGTH
 -- are numbers of 64 bits
@@ -80,10 +74,10 @@ pub record Kept (n : ℕ) (s : Scheme) (T₀ T : List ℕ) : Type 0 where
   pub same : (i : ℕ) → 2 * widthOf n s ≤ i → getD T i 0 ≡ getD T₀ i 0
 
 -- What a row is filled with. The scheme and its plan are those of a count up to n for the patterns P.
-pub record Setting (s : Scheme) (items : List Item) (j here before : ℕ) : Type 0 where
+pub record Setting (s : Scheme) (items : ℕ → Item) (j here before : ℕ) : Type 0 where
   pub n : ℕ
   pub P : List (List ℕ)
-  pub proper : Proper s
+  pub proper : Proper (schemeIn s)
   pub small : n ≤ LENGTH
   pub low : j ≤ n
   pub plan : Plan n P s items
@@ -92,21 +86,15 @@ pub record Setting (s : Scheme) (items : List Item) (j here before : ℕ) : Type
   pub before-near : before ≤ NEAR
 
 -- one state follows another, for every function that solves the recursion
-abbrev pub Goes : (s : Scheme) (items : List Item) (j here before k e l f : ℕ) → List ℕ → List ℕ → Type 0
+abbrev pub Goes : (s : Scheme) (items : ℕ → Item) (j here before k e l f : ℕ) → List ℕ → List ℕ → Type 0
 Goes s items j here before k e l f T₀ T =
     (r : Setting s items j here before) (v : List ℕ → List ℕ → ℕ) → Solves v (r .P) s → State v (r .n) s j k e T₀ →
     State v (r .n) s j l f T × Kept (r .n) s T₀ T
 
--- the components of the gap vectors before m, in memory
-pub record Components (gaps : List Gap) (m : ℕ) (rows : List (List ℕ)) : Type 0 where
-  pub size : length rows ≡ GAPS
-  pub at : (i : ℕ) → i < m → getD rows i [] ≡ (getD gaps i noGap) .parts
-  pub long : (i : ℕ) → i < m → length (getD rows i []) ≡ COMPONENTS
-
 -- the cells of an entry in a row are filled by steps
-abbrev pub EntryFilled : Entry → Item → ℕ → ℕ → ℕ → List ℕ → List ℕ → Type 0
-EntryFilled e t j here before T₀ T =
-    Filled (itemStep (entryIn e) t here before) (t .length) (j - t .length) (here + t .place) (binomial j (t .length)) (binomial j (t .length)) T₀ T
+abbrev pub EntryFilled : Item → ℕ → ℕ → ℕ → List ℕ → List ℕ → Type 0
+EntryFilled t j here before T₀ T =
+    Filled (itemStep t here before) (t .length) (j - t .length) (here + t .place) (binomial j (t .length)) (binomial j (t .length)) T₀ T
 
 -- the state between two lengths: the cells of all entries of length at least k
 pub record RowTo (v : List ℕ → List ℕ → ℕ) (n : ℕ) (s : Scheme) (j k : ℕ) (T : List ℕ) : Type 0 where
@@ -120,11 +108,11 @@ pub record Top (j r : ℕ) : Type 0 where
   pub all : (PREFIX < r) ⊎ (j < r)
 
 -- the row j is filled as far as the entries of length k, for every function that solves the recursion
-abbrev pub RowGoesTo : (s : Scheme) (items : List Item) (j here before k : ℕ) → List ℕ → List ℕ → Type 0
+abbrev pub RowGoesTo : (s : Scheme) (items : ℕ → Item) (j here before k : ℕ) → List ℕ → List ℕ → Type 0
 RowGoesTo s items j here before k T₀ T =
     (r : Setting s items j here before) (v : List ℕ → List ℕ → ℕ) → Solves v (r .P) s → 2 * widthOf (r .n) s ≤ length T₀ →
     ((i : ℕ) → suc i ≡ j → RowDone v (r .n) s T₀ i) → RowTo v (r .n) s j k T × Kept (r .n) s T₀ T
 
 -- the row j is filled
-abbrev pub RowGoes : (s : Scheme) (items : List Item) (j here before : ℕ) → List ℕ → List ℕ → Type 0
+abbrev pub RowGoes : (s : Scheme) (items : ℕ → Item) (j here before : ℕ) → List ℕ → List ℕ → Type 0
 RowGoes s items j here before T₀ T = RowGoesTo s items j here before 0 T₀ T

@@ -9,14 +9,15 @@ use Rattle.forms.specs.SchemeList.{EntryList}
 use Rattle.forms.specs.declared.memory.Scheme.{Scheme}
 use Rattle.verdict.specs.Value.{countOf}
 use Rattle.count_plan.specs.Layout.{widthOf}
-use Rattle.count_plan.specs.Plan.{Proper, LeadsTo, Plan}
-use Rattle.count_plan.specs.declared.items.Item.{Item}
+use Rattle.count_plan.specs.Plan.{LeadsTo, Item, Plan}
+use Rattle.forms.specs.SchemeMemory.{schemeIn}
+use Rattle.scheme.specs.Proper.{Proper}
 use Rattle.count_rows.specs.Rows.{Solves, RowDone, Kept}
 
 -- what a run up to n is given: the scheme, its plan for the patterns P, the width of a row, and where the cells of ε begin
-pub record Outlook (s : Scheme) (items : List Item) (n width root : ℕ) : Type 0 where
+pub record Outlook (s : Scheme) (items : ℕ → Item) (n width root : ℕ) : Type 0 where
   pub P : List (List ℕ)
-  pub proper : Proper s
+  pub proper : Proper (schemeIn s)
   pub small : n ≤ LENGTH
   pub plan : Plan n P s items
   pub width-is : width ≡ widthOf n s
@@ -30,7 +31,7 @@ pub record Counted (v : List ℕ → List ℕ → ℕ) (j : ℕ) (counts : List 
   pub rest : (i : ℕ) → j ≤ i → getD counts i 0 ≡ 0
 
 -- the rows below j are done, for every function that solves the recursion
-abbrev pub RunTo : (s : Scheme) (items : List Item) (n width root j : ℕ) → List ℕ → List ℕ → List ℕ → Type 0
+abbrev pub RunTo : (s : Scheme) (items : ℕ → Item) (n width root j : ℕ) → List ℕ → List ℕ → List ℕ → Type 0
 RunTo s items n width root j T₀ T counts =
     (o : Outlook s items n width root) (v : List ℕ → List ℕ → ℕ) → Solves v (o .P) s → 2 * width ≤ length T₀ →
     ((i : ℕ) → suc i ≡ j → RowDone v n s T i) × Counted v j counts × Kept n s T₀ T

@@ -19,7 +19,7 @@ use Rattle.verdict.specs.Size.{size}
 use Rattle.verdict.specs.ValueLaws.{size-fits, entry-solves, count-size}
 use Rattle.count_plan.specs.Layout.{prefixAt, lengthAt, widthOf, blockOf, cellAt}
 use Rattle.count_plan.specs.LayoutLaws.{prefix-length, entry-member, count-few, place-small}
-use Rattle.count_plan.specs.declared.items.Item.{Item}
+use Rattle.count_plan.specs.Plan.{Item}
 use Rattle.count_rows.specs.Rows.{Solves, RowDone, RowTo, Kept, Setting, RowGoes}
 use Rattle.count_rows.specs.RowLaws.{blocks, block-high}
 use Rattle.count_rows.specs.StateLaws.{row-end, kept-refl, kept-trans}
@@ -46,7 +46,7 @@ block-twice n s j = go (blocks n s j) (blocks n s (suc j))
     go (inr (a, b)) (inr (c, d)) = omega arith
 
 -- a row as part of a run
-unfoldable pub run-setting : (s : Scheme) (items : List Item) (n width root j here before : ℕ) → Outlook s items n width root → j ≤ n → here ≡ blockOf n s j →
+unfoldable pub run-setting : (s : Scheme) (items : ℕ → Item) (n width root j here before : ℕ) → Outlook s items n width root → j ≤ n → here ≡ blockOf n s j →
     before ≡ blockOf n s (j + 1) → Setting s items j here before
 run-setting s items n width root j here before o low h b =
     record {
@@ -61,7 +61,7 @@ run-setting s items n width root j here before o low h b =
       before-near = omega (arith, b, block-high n s (j + 1), place-small n s (s .count) (o .small), count-few s (o .proper));
     }
 
-module _ (s : Scheme) (items : List Item) (n width root : ℕ) (T₀ : List ℕ) where
+module _ (s : Scheme) (items : ℕ → Item) (n width root : ℕ) (T₀ : List ℕ) where
   pub run-start : RunTo s items n width root 0 T₀ T₀ (replicate COUNTS 0)
   run-start o v solved room = (
     λ (i : ℕ) (q : suc i ≡ 0). absurd (omega arith),

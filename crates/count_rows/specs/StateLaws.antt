@@ -6,18 +6,17 @@ use mathlib.Core.Logic.{_⊎_, inl, inr}
 use mathlib.Core.List.{List}
 use lib.ListN.{length, getD}
 use Rattle.word.specs.Ceilings.{PREFIX}
-use Rattle.word.specs.Lists.{row}
 use Rattle.word.specs.ListLaws.{same-or-not}
 use Rattle.cell.specs.Binomial.{binomial}
 use Rattle.spacing.specs.Rank.{rankOf}
 use Rattle.spacing.specs.RankLaws.{rank-bound, binomial-mono}
-use Rattle.forms.specs.SchemeMemory.{noEntry}
 use Rattle.forms.specs.declared.memory.Scheme.{Scheme}
 use Rattle.count_step.specs.Task.{Outside, Steady}
-use Rattle.count_plan.specs.Layout.{entryAt, prefixAt, lengthAt, placeAt, widthOf, blockOf, cellAt}
-use Rattle.count_plan.specs.LayoutLaws.{count-few, entry-short, gaps-few, gap-width, place-small}
-use Rattle.count_plan.specs.Plan.{Proper, Planned, noItem}
-use Rattle.count_plan.specs.declared.items.Item.{Item}
+use Rattle.count_plan.specs.Layout.{prefixAt, lengthAt, placeAt, widthOf, blockOf, cellAt}
+use Rattle.count_plan.specs.LayoutLaws.{count-few, entry-short, place-small}
+use Rattle.count_plan.specs.Plan.{Item, Planned}
+use Rattle.forms.specs.SchemeMemory.{schemeIn}
+use Rattle.scheme.specs.Proper.{Proper}
 use Rattle.count_rows.specs.Rows.{itemStep, Fits, Solves, Holds, RowDone, State, Kept, Setting, Goes, EntryFilled, RowTo, Top, RowGoesTo}
 use Rattle.count_rows.specs.RowLaws.{block-high, within-row, apart-entry, apart-row, step-value}
 
@@ -29,20 +28,20 @@ kept-trans n s T U W a b = record { size = b .size ∙ a .size; same = λ (i : �
 
 -- One entry
 
-module _ (v : List ℕ → List ℕ → ℕ) (s : Scheme) (items : List Item) (j here before : ℕ) (r : Setting s items j here before) where
+module _ (v : List ℕ → List ℕ → ℕ) (s : Scheme) (items : ℕ → Item) (j here before : ℕ) (r : Setting s items j here before) where
   module _ (solved : Solves v (r .P) s) (e : ℕ) (inside : e < s .count) (reach : lengthAt s e ≤ j) (T₀ : List ℕ)
       (state : State v (r .n) s j (lengthAt s e) e T₀) where
-    plan : Planned (r .n) (r .P) s e (getD items e noItem)
+    plan : Planned (r .n) (r .P) s e (items e)
     plan = r .plan e inside
 
-    at-is : here + (getD items e noItem) .place ≡ blockOf (r .n) s j + placeAt (r .n) s e
+    at-is : here + (items e) .place ≡ blockOf (r .n) s j + placeAt (r .n) s e
     at-is = ap₂ _+_ (r .here-is) (plan .placed)
 
-    amount-is : binomial j ((getD items e noItem) .length) ≡ binomial j (lengthAt s e)
+    amount-is : binomial j ((items e) .length) ≡ binomial j (lengthAt s e)
     amount-is = ap (binomial j) (plan .size)
 
     -- the cells that are not this entry's stay
-    module _ (T : List ℕ) (out : Outside (here + (getD items e noItem) .place) (binomial j ((getD items e noItem) .length)) T₀ T) where
+    module _ (T : List ℕ) (out : Outside (here + (items e) .place) (binomial j ((items e) .length)) T₀ T) where
       stays : (x : ℕ) →
           (x < blockOf (r .n) s j + placeAt (r .n) s e) ⊎ (blockOf (r .n) s j + placeAt (r .n) s e + binomial j (lengthAt s e) ≤ x) →
           getD T x 0 ≡ getD T₀ x 0
@@ -65,18 +64,18 @@ module _ (v : List ℕ → List ℕ → ℕ) (s : Scheme) (items : List Item) (j
           less : lengthAt s d ≡ lengthAt s e → ⊥
           less q = omega arith
 
-    steady : Steady (itemStep (entryAt s e) (getD items e noItem) here before) ((getD items e noItem) .length) (j - (getD items e noItem) .length)
-        (here + (getD items e noItem) .place) (binomial j ((getD items e noItem) .length)) T₀ (v (prefixAt s e))
+    steady : Steady (itemStep (items e) here before) ((items e) .length) (j - (items e) .length)
+        (here + (items e) .place) (binomial j ((items e) .length)) T₀ (v (prefixAt s e))
     steady T out h wide whole =
-        step-value v (r .P) s (r .n) solved (r .proper) e inside (getD items e noItem) plan j here before (omega (arith, r .low, r .small)) (r .here-is)
+        step-value v (r .P) s (r .n) solved (r .proper) e inside (items e) plan j here before (omega (arith, r .low, r .small)) (r .here-is)
         (r .before-is) T (longer-stays T out) (row-stays T out) h (wide ∙ ap suc (plan .size)) (omega (arith, plan .size, whole))
 
-    module _ (T : List ℕ) (f : EntryFilled (getD (s .entries) e noEntry) (getD items e noItem) j here before T₀ T) where
+    module _ (T : List ℕ) (f : EntryFilled (items e) j here before T₀ T) where
       fresh : Holds v (r .n) s T j e
       fresh g wide whole =
-          let room : here + (getD items e noItem) .place + binomial j ((getD items e noItem) .length) ≤ length T₀ =
+          let room : here + (items e) .place + binomial j ((items e) .length) ≤ length T₀ =
           omega (arith, at-is, amount-is, block-high (r .n) s j, within-row (r .n) s e inside, binomial-mono j (r .n) (lengthAt s e) (r .low), state .room) in
-          let c : here + (getD items e noItem) .place + rankOf g ≡ cellAt (r .n) s j e g = omega (arith, at-is) in
+          let c : here + (items e) .place + rankOf g ≡ cellAt (r .n) s j e g = omega (arith, at-is) in
           ap (λ x. getD T x 0) (sym c) ∙
           f .cells (v (prefixAt s e)) steady room g (wide ∙ ap suc (sym (plan .size))) (omega (arith, plan .size))
           (omega (arith, rank-bound g (lengthAt s e) j wide whole, amount-is))
@@ -123,14 +122,13 @@ module _ (v : List ℕ → List ℕ → ℕ) (n : ℕ) (s : Scheme) (j : ℕ) (T
       go d h q l (inl a) = absurd (ne (ap (lengthAt s) (sym a) ∙ q))
       go d h q l (inr a) = st .done d h q (omega arith)
 
--- What an entry in memory is given
+-- What an entry is given
 
-pub setting-fits : (s : Scheme) (items : List Item) (j here before : ℕ) → Setting s items j here before → (e : ℕ) → e < s .count → lengthAt s e ≤ j →
-    Fits (getD (s .entries) e noEntry) (getD items e noItem) j here before
+pub setting-fits : (s : Scheme) (items : ℕ → Item) (j here before : ℕ) → Setting s items j here before → (e : ℕ) → e < s .count → lengthAt s e ≤ j →
+    Fits (items e) j here before
 setting-fits s items j here before r e inside reach =
     let p = r .plan e inside in
     record {
-      size = p .size;
       short = omega (arith, p .size, entry-short s (r .proper) e inside);
       low = omega (arith, p .size);
       high = omega (arith, r .low, r .small);
@@ -138,8 +136,6 @@ setting-fits s items j here before r e inside reach =
       place = omega (arith, p .placed, place-small (r .n) s e (r .small), count-few s (r .proper));
       here-near = omega (arith, r .here-is, block-high (r .n) s j, place-small (r .n) s (s .count) (r .small), count-few s (r .proper));
       before-near = r .before-near;
-      few = gaps-few s (r .proper) e inside;
-      wide = gap-width s (r .proper) e inside;
     }
 
 -- The walk over the lengths
@@ -166,7 +162,7 @@ module _ (v : List ℕ → List ℕ → ℕ) (n : ℕ) (s : Scheme) (j : ℕ) (T
       go d h l (inl q) = st .done d h q (omega arith)
       go d h l (inr q) = st .longer d h (omega arith)
 
-  pub row-start : (k : ℕ) → Proper s → 2 * widthOf n s ≤ length T → ((i : ℕ) → suc i ≡ j → RowDone v n s T i) → Top j k → RowTo v n s j k T
+  pub row-start : (k : ℕ) → Proper (schemeIn s) → 2 * widthOf n s ≤ length T → ((i : ℕ) → suc i ≡ j → RowDone v n s T i) → Top j k → RowTo v n s j k T
   row-start k proper room before top =
       record { room = room; before = before; longer = λ (d : ℕ) (h : d < s .count) (l : k ≤ lengthAt s d). none d h l (top .all) }
     where
@@ -177,10 +173,10 @@ module _ (v : List ℕ → List ℕ → ℕ) (n : ℕ) (s : Scheme) (j : ℕ) (T
   pub row-end : RowTo v n s j 0 T → RowDone v n s T j
   row-end w d h = w .longer d h (omega arith)
 
-module _ (s : Scheme) (items : List Item) (j here before : ℕ) (T₀ : List ℕ) where
+module _ (s : Scheme) (items : ℕ → Item) (j here before : ℕ) (T₀ : List ℕ) where
   -- one entry of length k
-  pub goes-entry : (k e : ℕ) (T U : List ℕ) → e < s .count → k ≤ j → (getD items e noItem) .length ≡ k → Goes s items j here before k 0 k e T₀ T →
-      EntryFilled (getD (s .entries) e noEntry) (getD items e noItem) j here before T U → Goes s items j here before k 0 k (e + 1) T₀ U
+  pub goes-entry : (k e : ℕ) (T U : List ℕ) → e < s .count → k ≤ j → (items e) .length ≡ k → Goes s items j here before k 0 k e T₀ T →
+      EntryFilled (items e) j here before T U → Goes s items j here before k 0 k (e + 1) T₀ U
   goes-entry k e T U inside reach size go f r v solved st =
       let (now, kept) = go r v solved st in
       let q : lengthAt s e ≡ k = sym (r .plan e inside .size) ∙ size in
@@ -190,7 +186,7 @@ module _ (s : Scheme) (items : List Item) (j here before : ℕ) (T₀ : List ℕ
       (rw q at next, kept-trans (r .n) s T₀ T U kept (entry-kept v s items j here before r solved e inside h T now′ U f))
 
   -- an entry of another length
-  pub goes-skip : (k e : ℕ) (T : List ℕ) → e < s .count → ((getD items e noItem) .length ≡ k → ⊥) → Goes s items j here before k 0 k e T₀ T →
+  pub goes-skip : (k e : ℕ) (T : List ℕ) → e < s .count → ((items e) .length ≡ k → ⊥) → Goes s items j here before k 0 k e T₀ T →
       Goes s items j here before k 0 k (e + 1) T₀ T
   goes-skip k e T inside ne go r v solved st =
       let (now, kept) = go r v solved st in

@@ -1,58 +1,33 @@
 // The cells of one entry in one row.
-use count_plan::items::Item;
+use count_plan::places::place_at;
+use count_plan::reading::field;
+use count_plan::reading::gaps_of;
+use count_plan::reading::long;
+use count_plan::sheet::FIELDS;
 use count_step::cells::Task;
 use count_step::filling::fill_cells;
-use forms::memory::Entry;
-use forms::memory::Gap;
 use spacing::binomials::choose;
-use word::limits::COMPONENTS;
-use word::limits::GAPS;
 use word::limits::LINKS;
 ghost use mathlib.Core.Path.{_≡_};
+ghost use mathlib.Core.Bool.{cond};
 ghost use mathlib.Core.List.{map};
-ghost use Prim.Native.Nat.{ℕ, _+_, _≤_};
+ghost use Prim.Native.Nat.{ℕ, _+_, _≤_, _<_};
+ghost use lib.Dec.{eqb};
 ghost use lib.ListN.{length, getD};
-ghost use Rattle.word.specs.Ceilings.{COMPONENTS, GAPS};
+ghost use Rattle.word.specs.Ceilings.{ENTRIES};
 ghost use Rattle.spacing.specs.Sizes.{NEAR};
 ghost use Rattle.spacing.specs.Pascal.{Pascal};
-ghost use Rattle.count_rows.specs.Rows.{Components, Fits, EntryFilled};
-ghost use mathlib.Core.Bool.{cond};
-ghost use lib.Dec.{eqb};
+ghost use Rattle.count_plan.specs.SheetSizes.{SHEET};
+ghost use Rattle.count_plan.specs.SheetRows.{fieldOf, linksAt, itemOf};
+ghost use Rattle.count_rows.specs.Rows.{EntryFilled};
+ghost use Rattle.count_rows.specs.Given.{taskOf, EntryGiven};
 
-// The components of a gap vector.
-fn parts_of(gap: Gap) -> [u8; COMPONENTS]
-    ensures { λ r. ⌜ (r ≡ gap .parts) × (length r ≡ COMPONENTS) ⌝ }
-{
-    gap.parts
-}
-
-// The gap vectors of an entry, row by row.
-fn gap_rows(gaps: [Gap; GAPS]) -> [[u8; COMPONENTS]; GAPS]
-    ensures { λ r. ⌜ Components gaps GAPS r ⌝ }
-{
-    let mut rows = [[0u8; COMPONENTS]; GAPS];
-    let mut j: usize = 0;
-    while j < GAPS {
-        let gap = gaps[j];
-        let parts = parts_of(gap);
-        rows[j] = parts;
-        j += 1;
-    }
-    rows
-}
-
-// The links, counted from a place in the table.
-fn shifted(links: [usize; LINKS], offset: usize) -> [usize; LINKS]
-    requires { ⌜ (offset ≤ NEAR) × ((a : ℕ) → getD links a 0 ≤ NEAR) ⌝ }
-    ensures { λ r. ⌜ r ≡ map (λ x. offset + x) links ⌝ }
-{
-    let mut r = links;
-    let mut i: usize = 0;
-    while i < LINKS {
-        r[i] = offset + links[i];
-        i += 1;
-    }
-    r
+// A row of the table: its length, where it begins, where the row before it begins, and the number of entries.
+pub struct RowAt {
+    pub length: usize,
+    pub here: usize,
+    pub before: usize,
+    pub entries: usize,
 }
 
 // The block that an entry reads.
@@ -62,31 +37,56 @@ fn offset_of(deleted: usize, here: usize, before: usize) -> usize
     if deleted == 0 { here } else { before }
 }
 
-// Fills the cells of an entry in the row of length j, which begins at `here`; the row before it begins at `before`.
+// Where the cells of each entry begin that the links of an entry name, in the row that begins at `offset`.
+fn links_from(sheet: &[u8], places: &[usize], e: usize, offset: usize) -> [usize; LINKS]
+    requires { ⌜ (e < ENTRIES) × (length (now sheet) ≡ SHEET) × (offset ≤ NEAR) × ((a : ℕ) → getD (linksAt (now sheet) (now places) e) a 0 ≤ NEAR) ⌝ }
+    ensures { λ r. ⌜ r ≡ map (λ x. offset + x) (linksAt (now (sheet .entry)) (now (places .entry)) e) ⌝ }
+{
+    let mut from = [0usize; LINKS];
+    let mut a: usize = 0;
+    while a < LINKS {
+        let place = place_at(places, field(sheet, e, FIELDS + a));
+        from[a] = offset + place;
+        a += 1;
+    }
+    from
+}
+
+// What the steps of the entry with index e are given in a row.
+fn task_of(sheet: &[u8], places: &[usize], e: usize, w: RowAt) -> Task
+    requires { ⌜ EntryGiven (now sheet) (now places) e w ⌝ }
+    ensures { λ r. ⌜ r ≡ taskOf (itemOf (now (sheet .entry)) (now (places .entry)) e) (fieldOf (now (sheet .entry)) e 3) w ⌝ }
+{
+    let k = field(sheet, e, 0);
+    let deleted = field(sheet, e, 1);
+    let alone = long(field(sheet, e, 2));
+    let count = field(sheet, e, 3);
+    let links = links_from(sheet, places, e, offset_of(deleted, w.here, w.before));
+    Task {
+        length: k,
+        total: w.length - k,
+        deleted: deleted,
+        alone: alone,
+        links: links,
+        gap_count: count,
+    }
+}
+
+// Fills the cells of the entry with index e in a row.
 pub fn fill_entry(
     table: &mut [u64],
-    entry: Entry,
-    item: Item,
-    j: usize,
-    here: usize,
-    before: usize,
+    sheet: &[u8],
+    places: &[usize],
+    e: usize,
+    w: RowAt,
     b: &[usize],
 )
-    requires { ⌜ Fits entry item j here before × Pascal (now b) ⌝ }
-    ensures { λ r. ⌜ EntryFilled entry item j here before (now (table .entry)) (now (table .exit)) ⌝ }
+    requires { ⌜ EntryGiven (now sheet) (now places) e w × Pascal (now b) ⌝ }
+    ensures { λ r. ⌜ EntryFilled (itemOf (now (sheet .entry)) (now (places .entry)) e) (w .length) (w .here) (w .before) (now (table .entry)) (now (table .exit)) ⌝ }
 {
-    let gaps = entry.gaps;
-    let rows = gap_rows(gaps);
-    let k = item.length;
-    let links = item.links;
-    let from = shifted(links, offset_of(item.deleted, here, before));
-    let task = Task {
-        length: k,
-        total: j - k,
-        deleted: item.deleted,
-        alone: item.alone,
-        links: from,
-        gap_count: entry.gap_count,
-    };
-    fill_cells(table, here + item.place, choose(b, j, k), task, rows, b);
+    let task = task_of(sheet, places, e, w);
+    let at = w.here + place_at(places, e);
+    let size = choose(b, w.length, task.length);
+    let gaps = gaps_of(sheet, e);
+    fill_cells(table, at, size, task, gaps, b);
 }

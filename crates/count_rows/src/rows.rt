@@ -1,40 +1,28 @@
 // One row of the table. The value at the entry with index d and the spacing g stands, in the row of length j, in the cell with index
 // (j mod 2) * width + place + rank: `width` is the sum of C(n, k) over all entries, `place` that over the entries before d, and `rank` the rank of g.
 // Longer entries come first, so that children are there before their parents; targets stand in the row before.
+use crate::entry::RowAt;
 use crate::entry::fill_entry;
-use count_plan::items::Item;
-use forms::memory::Scheme;
-use word::limits::ENTRIES;
+use count_plan::reading::field;
 use word::limits::PREFIX;
 ghost use Prim.Native.Nat.{_≤_};
 ghost use Rattle.word.specs.Ceilings.{LENGTH};
 ghost use Rattle.spacing.specs.Pascal.{Pascal};
-ghost use Rattle.count_rows.specs.Rows.{Setting, Goes, RowGoes, Top};
+ghost use Rattle.count_rows.specs.Rows.{Top};
+ghost use Rattle.count_rows.specs.Given.{RowGiven, LengthGoesTo, RowFilledTo};
 
 // One more than the length of the longest prefixes.
 const PAST: usize = PREFIX + 1;
 
-// Fills the cells of all entries of length k in the row of length j.
-fn fill_length(
-    table: &mut [u64],
-    s: Scheme,
-    items: [Item; ENTRIES],
-    k: usize,
-    j: usize,
-    here: usize,
-    before: usize,
-    b: &[usize],
-)
-    requires { ⌜ Setting s items j here before × (k ≤ j) × Pascal (now b) ⌝ }
-    ensures { λ r. ⌜ Goes s items j here before k 0 k (s .count) (now (table .entry)) (now (table .exit)) ⌝ }
+// Fills the cells of all entries of length k in a row.
+fn fill_length(table: &mut [u64], sheet: &[u8], places: &[usize], k: usize, w: RowAt, b: &[usize])
+    requires { ⌜ RowGiven (now sheet) (now places) w × (k ≤ w .length) × Pascal (now b) ⌝ }
+    ensures { λ r. ⌜ LengthGoesTo (now (sheet .entry)) (now (places .entry)) w k (w .entries) (now (table .entry)) (now (table .exit)) ⌝ }
 {
-    let count = s.count;
     let mut e: usize = 0;
-    while e < count {
-        let item = items[e];
-        if item.length == k {
-            let entry = s.entries[e];
-            fill_entry(table, entry, item, j, here, before, b);
+    while e < w.entries {
+        if field(sheet, e, 0) == k {
+            fill_entry(table, sheet, places, e, w, b);
             e += 1;
         } else {
             e += 1;
@@ -42,23 +30,15 @@ fn fill_length(
     }
 }
 
-// Fills the row of length j, which begins at `here`; the row before it begins at `before`.
-pub fn fill_row(
-    table: &mut [u64],
-    s: Scheme,
-    items: [Item; ENTRIES],
-    j: usize,
-    here: usize,
-    before: usize,
-    b: &[usize],
-)
-    requires { ⌜ Setting s items j here before × Pascal (now b) ⌝ }
-    ensures { λ r. ⌜ RowGoes s items j here before (now (table .entry)) (now (table .exit)) ⌝ }
+// Fills a row.
+pub fn fill_row(table: &mut [u64], sheet: &[u8], places: &[usize], w: RowAt, b: &[usize])
+    requires { ⌜ RowGiven (now sheet) (now places) w × Pascal (now b) ⌝ }
+    ensures { λ r. ⌜ RowFilledTo (now (sheet .entry)) (now (places .entry)) w 0 (now (table .entry)) (now (table .exit)) ⌝ }
 {
-    let mut k = longest(j);
+    let mut k = longest(w.length);
     while 0 < k {
         k -= 1;
-        fill_length(table, s, items, k, j, here, before, b);
+        fill_length(table, sheet, places, k, w, b);
     }
 }
 

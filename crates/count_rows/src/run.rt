@@ -1,16 +1,16 @@
 // All rows up to a length, the table afterwards, and the table that is needed.
+use crate::entry::RowAt;
 use crate::rows::fill_row;
-use count_plan::items::Item;
-use count_plan::items::plan_of;
-use count_plan::items::root_place;
-use count_plan::places::width_of;
+use count_plan::places::place_at;
+use count_plan::places::places_of;
+use count_plan::sheet::SHEET;
+use count_plan::sheet::fill_sheet;
 use count_step::cells::read;
 use count_step::cells::store;
 use forms::memory::Scheme;
 use spacing::binomials::binomials;
 use word::limits::COUNTS;
 use word::limits::DIGITS;
-use word::limits::ENTRIES;
 use word::limits::PATTERNS;
 ghost use mathlib.Core.Path.{_≡_};
 ghost use Prim.Native.Nat.{_+_, _≤_};
@@ -21,29 +21,36 @@ ghost use Rattle.spacing.specs.Pascal.{Pascal};
 ghost use Rattle.forms.specs.SchemeMemory.{schemeIn};
 ghost use Rattle.verdict.specs.Truth.{WellFormed, AllTrue};
 ghost use Rattle.count_plan.specs.Layout.{needOf};
-ghost use Rattle.count_plan.specs.Plan.{Proper};
-ghost use Rattle.count_rows.specs.Run.{Outlook, RunTo, cleared, Counts};
+ghost use Rattle.scheme.specs.Proper.{Proper};
+ghost use Rattle.count_rows.specs.Run.{cleared, Counts};
+ghost use Rattle.count_rows.specs.Given.{RunGiven, RunFilledTo};
 
-// Fills the rows from 0 to n, each in the block that the row before the last one had, and keeps the value at ε of each.
-fn run(
-    table: &mut [u64],
-    s: Scheme,
-    items: [Item; ENTRIES],
-    n: usize,
-    width: usize,
-    root: usize,
-    b: &[usize],
-) -> [u64; COUNTS]
-    requires { ⌜ Outlook s items n width root × Pascal (now b) ⌝ }
-    ensures { λ r. ⌜ RunTo s items n width root (n + 1) (now (table .entry)) (now (table .exit)) r ⌝ }
+// What all rows share: the largest length, the width of a row, where in a row the cells of ε begin, and the number of entries.
+pub struct Frame {
+    pub last: usize,
+    pub width: usize,
+    pub root: usize,
+    pub entries: usize,
+}
+
+// Fills the rows from 0 to the last, each in the block that the row before the last one had, and keeps the value at ε of each.
+fn run(table: &mut [u64], sheet: &[u8], places: &[usize], f: Frame, b: &[usize]) -> [u64; COUNTS]
+    requires { ⌜ RunGiven (now sheet) (now places) f × Pascal (now b) ⌝ }
+    ensures { λ r. ⌜ RunFilledTo (now (sheet .entry)) (now (places .entry)) f (f .last + 1) (now (table .entry)) (now (table .exit)) r ⌝ }
 {
     let mut counts = [0u64; COUNTS];
     let mut here: usize = 0;
-    let mut before = width;
+    let mut before = f.width;
     let mut j: usize = 0;
-    while j <= n {
-        fill_row(table, s, items, j, here, before, b);
-        counts[j] = read(table, here + root);
+    while j <= f.last {
+        let w = RowAt {
+            length: j,
+            here: here,
+            before: before,
+            entries: f.entries,
+        };
+        fill_row(table, sheet, places, w, b);
+        counts[j] = read(table, here + f.root);
         let next = before;
         before = here;
         here = next;
@@ -66,11 +73,12 @@ fn clear(table: &mut [u64], m: usize)
 
 // The number of cells that counting up to n needs.
 pub fn need(s: Scheme, n: usize) -> usize
-    requires { ⌜ Proper s × (n ≤ LENGTH) ⌝ }
+    requires { ⌜ Proper (schemeIn s) × (n ≤ LENGTH) ⌝ }
     ensures { λ r. ⌜ r ≡ needOf n (schemeIn s) ⌝ }
 {
     let b = binomials();
-    2 * width_of(s, n, &b)
+    let places = places_of(s, n, &b);
+    2 * place_at(&places, s.count)
 }
 
 // The counts for the lengths from 0 to n of a scheme that is accepted for the patterns; the needed cells of the table hold 0 afterwards, the others what
@@ -89,10 +97,18 @@ pub fn counts(
     ensures table { λ r. ⌜ now (table .exit) ≡ cleared (needOf n (schemeIn s)) (now (table .entry)) ⌝ }
 {
     let b = binomials();
-    let items = plan_of(set, lengths, count, s, n, &b);
-    let width = width_of(s, n, &b);
-    let root = root_place(s, n, &b);
-    let r = run(table, s, items, n, width, root, &b);
+    let mut sheet = [0u8; SHEET];
+    let root = fill_sheet(&mut sheet, set, lengths, count, s);
+    let places = places_of(s, n, &b);
+    let entries = s.count;
+    let width = place_at(&places, entries);
+    let frame = Frame {
+        last: n,
+        width: width,
+        root: place_at(&places, root),
+        entries: entries,
+    };
+    let r = run(table, &sheet, &places, frame, &b);
     clear(table, 2 * width);
     r
 }

@@ -22,7 +22,7 @@ ghost use Rattle.forms.specs.SchemeMemory.{patternsIn, schemeIn, faultOf};
 ghost use Rattle.word.specs.Finding.{firstFault};
 ghost use Rattle.verdict.specs.Truth.{WellFormed, AllTrue};
 ghost use Rattle.count_plan.specs.Layout.{needOf};
-ghost use Rattle.count_plan.specs.Plan.{Proper};
+ghost use Rattle.scheme.specs.Proper.{Proper};
 ghost use Rattle.count_rows.specs.Run.{cleared, Counts as CountsTo};
 ghost use Rattle.counting.specs.Counting.{tableTests, Counts};
 
@@ -45,7 +45,7 @@ pub fn count(patterns: Patterns, scheme: Scheme, n: usize, table: &mut [u64]) ->
 
 // What n and the number of cells are refused for: n above LENGTH, then fewer cells than are needed.
 pub fn table_fault(scheme: Scheme, n: usize, cells: usize) -> Fault
-    requires { ⌜ Proper scheme ⌝ }
+    requires { ⌜ Proper (schemeIn scheme) ⌝ }
     ensures { λ r. ⌜ r ≡ faultOf (firstFault (tableTests (schemeIn scheme) n cells)) ⌝ }
 {
     if LENGTH < n {

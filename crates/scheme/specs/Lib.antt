@@ -7,3 +7,4 @@ pub mod TestLaws
 pub mod FindingLaws
 pub mod Proper
 pub mod ProperLaws
+pub mod EntryMemoryLaws

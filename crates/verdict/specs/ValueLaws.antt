@@ -15,8 +15,6 @@ use Rattle.word.specs.Word.{avoids, isPerm, perms, avoiders}
 use Rattle.word.specs.ListLaws.{true-not-false, all-fails, map-same, row-out}
 use Rattle.word.specs.Vocabulary.{factorial}
 use Rattle.word.specs.PermLaws.{perms-are, perm-bounds}
-use Rattle.word.specs.Finding.{clean, firstFault}
-use Rattle.word.specs.declared.refusal.Refusal.the-variants.{Rootless, Childless, NoTarget}
 use Rattle.cell.specs.Cell.{same, total, cell, deleted, merged, free, atLeast, children}
 use Rattle.cell.specs.Claim.{DeletionClaim}
 use Rattle.cell.specs.Child.{slot, childAt, split}
@@ -29,11 +27,12 @@ use Rattle.cell.specs.MergeLaws.{merged-length, merged-total}
 use Rattle.cell.specs.Theorems.{agrees-of-claim, sizes-of-agrees}
 use Rattle.forms.specs.SchemeList.{Does, expands, deletes, EntryList}
 use Rattle.scheme.proofs.PrefixLaws.{deleted-size}
-use Rattle.scheme.specs.WellFormed.{listed, outside, lacksChild, lacksTarget, schemeTests}
+use Rattle.scheme.specs.WellFormed.{listed, outside, lacksChild, lacksTarget, prefixes}
 use Rattle.scheme.specs.TestLaws.{or-right}
 use Rattle.verdict.specs.Truth.{WellFormed, RuleClaim, AllTrue}
-use Rattle.scheme.specs.FindingLaws.{clean-in, clean-test, first-out, none-out}
-use Rattle.scheme.specs.ProperLaws.{proper, position-inside}
+use Rattle.scheme.specs.FindingLaws.{none-out}
+use Rattle.scheme.specs.Proper.{Proper}
+use Rattle.scheme.specs.ProperLaws.{proper as left, position-inside}
 use Rattle.verdict.specs.Size.{size, Listed, measure, HIGHEST, VALUES}
 use Rattle.verdict.specs.Value.{entryFor, ruleValue, entryValue, value, countOf}
 
@@ -56,34 +55,18 @@ position-high k r e = ltb-false k r (or-right (eqb r 0) (ltb k r) e)
 
 -- One step of the recursion, where two functions agree on the listed prefixes of a smaller measure
 
-module _ (P : List (List ℕ)) (E : List EntryList) (formed : firstFault (schemeTests E) ≡ clean) where
+module _ (P : List (List ℕ)) (E : List EntryList) (proper : Proper E) where
   -- the children of an expanding entry are listed
   pub child-listed : (e : EntryList) → List·Memᴰ e E → e .rule ≡ expands → (a : ℕ) → 1 ≤ a → a ≤ suc (length (e .prefix)) → Listed E (childAt (e .prefix) a)
   child-listed e m r a low high =
-      let none =
-      first-out Childless (λ (x : EntryList). lacksChild (map (λ (d : EntryList). d .prefix) E) (x .prefix) (x .rule)) 0
-      (clean-in (schemeTests E) (List·Memᴰ·tail (List·Memᴰ·tail (List·Memᴰ·tail (List·Memᴰ·tail (List·Memᴰ·tail (List·Memᴰ·tail (List·Memᴰ·tail (List·Memᴰ·head refl)))))))) formed) m in
-      not-false (listed (map (λ (d : EntryList). d .prefix) E) (childAt (e .prefix) a))
-      (none-out (λ (q : List ℕ). not (listed (map (λ (d : EntryList). d .prefix) E) q))
-      (sym (ap (lacksChild (map (λ (d : EntryList). d .prefix) E) (e .prefix)) r) ∙ none)
-      (children-all (e .prefix) a (proper E formed .each e m .perm) low high))
+      not-false (listed (prefixes E) (childAt (e .prefix) a))
+      (none-out (λ (q : List ℕ). not (listed (prefixes E) q)) (sym (ap (lacksChild (prefixes E) (e .prefix)) r) ∙ proper .child e m)
+      (children-all (e .prefix) a (proper .each e m .perm) low high))
 
   -- the target of a deleting entry is listed
   pub target-listed : (e : EntryList) → List·Memᴰ e E → (r : ℕ) → e .rule ≡ deletes r → Listed E (deleted (r ∷ []) (e .prefix))
   target-listed e m r q =
-      let none =
-      first-out NoTarget (λ (x : EntryList). lacksTarget (map (λ (d : EntryList). d .prefix) E) (x .prefix) (x .rule)) 0
-      (clean-in (schemeTests E)
-      (List·Memᴰ·tail (List·Memᴰ·tail (List·Memᴰ·tail (List·Memᴰ·tail (List·Memᴰ·tail (List·Memᴰ·tail (List·Memᴰ·tail (List·Memᴰ·tail (List·Memᴰ·head refl))))))))) formed) m in
-      not-false (listed (map (λ (d : EntryList). d .prefix) E) (deleted (r ∷ []) (e .prefix)))
-      (sym (ap (lacksTarget (map (λ (d : EntryList). d .prefix) E) (e .prefix)) q) ∙ none)
-
-  -- ε is listed
-  pub root-listed : Listed E []
-  root-listed =
-      not-false (listed (map (λ (d : EntryList). d .prefix) E) [])
-      (clean-test Rootless (not (listed (map (λ (d : EntryList). d .prefix) E) []))
-      (clean-in (schemeTests E) (List·Memᴰ·tail (List·Memᴰ·tail (List·Memᴰ·tail (List·Memᴰ·tail (List·Memᴰ·head refl))))) formed))
+      not-false (listed (prefixes E) (deleted (r ∷ []) (e .prefix))) (sym (ap (lacksTarget (prefixes E) (e .prefix)) q) ∙ proper .target e m)
 
   -- one step at an entry of E
   module _ (v w : List ℕ → List ℕ → ℕ) (e : EntryList) (m : List·Memᴰ e E) (g : List ℕ) (wide : length g ≡ suc (length (e .prefix)))
@@ -101,9 +84,9 @@ module _ (P : List (List ℕ)) (E : List EntryList) (formed : firstFault (scheme
             let n = split-length g s low (omega arith) in
             let t = split-total g s low (omega arith) in
             agree (childAt (e .prefix) (slot g s)) (split g s) (child-listed e m r (slot g s) a (omega arith)) (omega arith) (omega arith)
-    rule-agrees (deletes zero) r = absurd (true-not-false (sym (ap (outside (length (e .prefix))) r) ∙ proper E formed .each e m .inside))
+    rule-agrees (deletes zero) r = absurd (true-not-false (sym (ap (outside (length (e .prefix))) r) ∙ proper .each e m .inside))
     rule-agrees (deletes (suc i)) r =
-        let q = proper E formed .each e m in
+        let q = proper .each e m in
         let inside = position-inside (length (e .prefix)) (suc i) (sym (ap (outside (length (e .prefix))) r) ∙ q .inside) in
         let k : i < length (e .prefix) = position-high (length (e .prefix)) (suc i) (sym (ap (outside (length (e .prefix))) r) ∙ q .inside) in
         let d = deleted-size i (e .prefix) (q .perm) k in
@@ -167,7 +150,7 @@ module _ (P : List (List ℕ)) (E : List EntryList) (formed : WellFormed P E) (t
     spoken f expands r = go (total g) refl
       where
         perm : isPerm (e .prefix) ≡ true
-        perm = proper E (formed .scheme) .each e m .perm
+        perm = left E (formed .scheme) .each e m .perm
 
         one : (b : Bool) → length (cond b (e .prefix ∷ []) []) ≡ cond b 1 0
         one true = refl
@@ -183,7 +166,7 @@ module _ (P : List (List ℕ)) (E : List EntryList) (formed : WellFormed P E) (t
             ap (λ b. cond b (cond (avoids P (e .prefix)) 1 0)
             (total (map (λ s. length (cell P (childAt (e .prefix) (slot g s)) (split g s))) (oneTo (total g))))) (sym (ne-eqb (total g) 0 (λ (z : total g ≡ 0). omega arith)))
     spoken f (deletes i) r =
-        let q = proper E (formed .scheme) .each e m in
+        let q = left E (formed .scheme) .each e m in
         let inside = position-inside (length (e .prefix)) i (sym (ap (outside (length (e .prefix))) r) ∙ q .inside) in
         let claim : DeletionClaim P (e .prefix) (e .gaps) (i ∷ []) = cast-rule (e .rule) i r (truth e m .rule) in
         sizes-of-agrees P (e .prefix) (i ∷ []) (q .perm) inside g wide
@@ -223,7 +206,7 @@ module _ (P : List (List ℕ)) (E : List EntryList) (formed : WellFormed P E) (t
           (e : EntryList) → List·Memᴰ e E → entryFor E p ≡ some e → e .prefix ≡ p →
           entryValue (value f P E) P (entryFor E p) g ≡ entryValue (size P) P (entryFor E p) g
       go ih e m o s = rw o
-          (entry-agrees P E (formed .scheme) (value f P E) (size P) e m g (wide ∙ ap (λ (q : List ℕ). suc (length q)) (sym s))
+          (entry-agrees P E (left E (formed .scheme)) (value f P E) (size P) e m g (wide ∙ ap (λ (q : List ℕ). suc (length q)) (sym s))
           (λ (q i : List ℕ) (k : Listed E q) (w : length i ≡ suc (length q)) (less : measure q i < measure (e .prefix) g).
           ih q i k w (omega (arith, less, h, ap length s))))
 
@@ -241,7 +224,7 @@ module _ (P : List (List ℕ)) (E : List EntryList) (formed : WellFormed P E) (t
   -- The count for n is the size of the cell of ε with spacing (n).
   pub count-size : (n : ℕ) → countOf P E n ≡ size P [] (n ∷ [])
   unfolding countOf size total
-  count-size n = value-size (suc (8 * n)) [] (n ∷ []) (root-listed P E (formed .scheme)) refl (omega arith)
+  count-size n = value-size (suc (8 * n)) [] (n ∷ []) (left E (formed .scheme) .root) refl (omega arith)
 
   -- The count for n is the number of avoiders of length n.
   pub count-avoiders : (n : ℕ) → countOf P E n ≡ length (avoiders P n)

@@ -4,7 +4,7 @@ use native.Mathlib.Omega.{arith}
 use mathlib.Core.Path.{_≡_}
 use lib.ListN.{length}
 use Rattle.word.specs.Ceilings.{PARTS}
-use Rattle.claims.specs.EntryMemoryLaws.{entry-short, gaps-in}
+use Rattle.scheme.specs.EntryMemoryLaws.{entry-short, gaps-in}
 use Rattle.claims.proofs.RuleLaws.{expands-compared, deletes-compared}
 use borrow.Author.Needs.{needs}
 use Rattle.claims.proofs.entries.compared_with.Statement.{statement}

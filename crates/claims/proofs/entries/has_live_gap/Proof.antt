@@ -12,7 +12,7 @@ use Rattle.word.specs.Containment.{patternsOf}
 use Rattle.forms.specs.SchemeMemory.{gapAt, entryIn}
 use Rattle.scheme.specs.TestLaws.{from, any-here, any-later, any-end}
 use Rattle.verdict.specs.Verdict.{liveGap}
-use Rattle.claims.specs.EntryMemoryLaws.{entry-short, entry-few, gap-width, gap-total, prefix-is, prefix-perm}
+use Rattle.scheme.specs.EntryMemoryLaws.{entry-short, entry-few, gap-width, gap-total, prefix-is, prefix-perm}
 use Rattle.claims.proofs.GapClaimLaws.{liveAt, live-start}
 use Rattle.claims.proofs.entries.has_live_gap.Statement.{statement}
 use Rattle.claims.proofs.entries.has_live_gap.Tie as tie

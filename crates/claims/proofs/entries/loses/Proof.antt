@@ -8,7 +8,7 @@ use lib.ListN.{length, take, set, replicate}
 use Rattle.word.specs.Ceilings.{PATTERNS, PREFIX, PARTS}
 use Rattle.word.specs.Containment.{patternsOf}
 use Rattle.candidate.specs.Ready.{Given, EntryAnswer}
-use Rattle.claims.specs.EntryMemoryLaws.{entry-short, gaps-in}
+use Rattle.scheme.specs.EntryMemoryLaws.{entry-short, gaps-in}
 use Rattle.claims.proofs.RuleLaws.{first-position, position-bound, given, answers}
 use borrow.Author.Needs.{needs}
 use Rattle.claims.proofs.entries.loses.Statement.{statement}

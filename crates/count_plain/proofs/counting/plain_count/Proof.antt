@@ -13,9 +13,6 @@ slice-aggregate-fill-sheet c = search needs
 fill-sheet-requires : tie.Need-fill-sheet-requires
 fill-sheet-requires c κs = search needs
 
-root-of-requires : tie.Need-root-of-requires
-root-of-requires c κs = search needs
-
 cast-g : tie.Need-cast-g
 cast-g c = search needs
 
@@ -27,17 +24,24 @@ slice-aggregate-cell c = search needs
 
 cell-requires : tie.Need-cell-requires
 cell-requires c κs =
-    let a = c .before .before .before .before .before .args in
-    let p = c .before .before .before .before .before .pre in
-    counted-cell (patternsOf (a .set) (a .lengths) (a .count)) (a .s) (c .before .before .before .fill-sheet .last .0) (p .1 .scheme) (c .before .before .before .fill-sheet .ensures)
-    (c .before .root-of .result) (a .n) _ (c .before .root-of .ensures) (p .0) refl refl
+    let start = c .before .before .before .before in
+    let a = start .args in
+    let p = start .pre in
+    let sheet = c .before .before .fill-sheet in
+    counted-cell (patternsOf (a .set) (a .lengths) (a .count)) (a .s) (sheet .last .0) (p .1 .scheme) (sheet .ensures .0) (sheet .result) (a .n) _
+    (sheet .ensures .1)
+    (p .0) refl refl
 
 returns : tie.Need-returns
 returns c =
-    let a = c .before .before .before .before .before .before .args in
-    let p = c .before .before .before .before .before .before .pre in
-    counted-value (patternsOf (a .set) (a .lengths) (a .count)) (a .s) (c .before .before .before .before .fill-sheet .last .0) (p .1 .scheme) (c .before .before .before .before .fill-sheet .ensures)
-    (c .before .before .root-of .result) (a .n) _ (c .before .before .root-of .ensures) (p .0) refl refl (p .1) (p .2) (c .cell .result) (c .cell .ensures)
+    let at-fill-sheet = c .before .before .before in
+    let start = at-fill-sheet .before .before in
+    let a = start .args in
+    let p = start .pre in
+    let sheet = at-fill-sheet .fill-sheet in
+    counted-value (patternsOf (a .set) (a .lengths) (a .count)) (a .s) (sheet .last .0) (p .1 .scheme) (sheet .ensures .0) (sheet .result) (a .n) _
+    (sheet .ensures .1)
+    (p .0) refl refl (p .1) (p .2) (c .cell .result) (c .cell .ensures)
 
 pub plain-count-spec : {M : Type 1} → statement M
 plain-count-spec =
@@ -45,7 +49,6 @@ plain-count-spec =
     (tie.spec
     slice-aggregate-fill-sheet
     fill-sheet-requires
-    root-of-requires
     cast-g
     array-write-g
     slice-aggregate-cell

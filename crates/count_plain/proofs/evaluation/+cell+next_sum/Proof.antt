@@ -11,8 +11,9 @@ use lib.ListN.{length, take}
 use Rattle.word.specs.Ceilings.{COMPONENTS}
 use Rattle.cell.specs.Cell.{free}
 use Rattle.count_step.specs.Step.{LARGEST, capped}
-use Rattle.count_plain.specs.SheetSizes.{FIELDS}
-use Rattle.count_plain.specs.Reading.{fieldOf, gapsAt, CellAt, Evaluates}
+use Rattle.count_plan.specs.SheetSizes.{FIELDS}
+use Rattle.count_plan.specs.SheetRows.{fieldOf, gapsAt}
+use Rattle.count_plain.specs.Reading.{CellAt, Evaluates}
 use Rattle.count_plain.proofs.CellLaws.{measureOf, index-small, few, length-small, total-is, deleted-low, deleted-high, target-at, target-falls}
 use Rattle.count_plain.proofs.CellLaws.{target-evaluates, covered-value, alone-value, sum-value, length-less, child-at, child-falls, child-evaluates, SumTo}
 use Rattle.count_plain.proofs.CellLaws.{sum-start, sum-more, sum-end}
@@ -26,8 +27,8 @@ use Rattle.count_plain.proofs.evaluation.+cell+next_sum.Lts-cell as cel
 use Rattle.count_plain.proofs.evaluation.next_sum.Reads as next-sum
 use Rattle.count_plain.proofs.evaluation.next_sum.Kinds as next-sum-kinds
 use Rattle.count_plain.proofs.evaluation.+cell+next_sum.Lts-next_sum as next-sum-lts
-use Rattle.count_plain.proofs.evaluation.long.Reads as long-reads
-use Rattle.count_plain.proofs.reading.field.Reads as field-reads
+use Rattle.count_plan.proofs.reading.long.Reads as long-reads
+use Rattle.count_plan.proofs.reading.field.Reads as field-reads
 use Rattle.count_plain.proofs.reading.is_free_at.Reads as is-free-at-reads
 use Rattle.count_plain.proofs.spacings.held.Reads as held-reads
 use Rattle.count_plain.proofs.spacings.merged_spacing.Reads as merged-spacing-reads

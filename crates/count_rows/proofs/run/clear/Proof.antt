@@ -31,17 +31,24 @@ loop-less c = search needs
 
 loop-again : tie.Need-loop-again Inv-loop μ-loop
 loop-again c =
-    let a = c .before .before .before .before .before .before .before .args in
-    let l = c .before .before .before .before .before .loop in
-    let len : length (c .before .before .store .last .0) ≡ length (l .table) = search needs in
-    (len ∙ l .inv .0, omega arith, c .before .before .store .ensures ∙ cleared-more (l .i) (now (a .table)) (l .table) (omega (arith, c .before .before .before .before .before .before .before .pre)) (l .inv .2))
+    let at-loop = c .before .before .before .before .before in
+    let start = at-loop .before .before in
+    let a = start .args in
+    let l = at-loop .loop in
+    let len : length (c .before .before .store .last .0) ≡ length (l .table) = search needs in (
+      len ∙ l .inv .0,
+      omega arith,
+      c .before .before .store .ensures ∙ cleared-more (l .i) (now (a .table)) (l .table) (omega (arith, start .pre))
+          (l .inv .2),
+    )
 
 same-length : tie.Need-same-length Inv-loop μ-loop
 same-length c = search needs
 
 returns : tie.Need-returns Inv-loop μ-loop
 returns c =
-    let a = c .before .before .before .args in
+    let start = c .before .before .before in
+    let a = start .args in
     let l = c .before .loop in
     let e : l .i ≡ a .m = omega arith in
     l .inv .2 ∙ ap (λ (m : ℕ). cleared m (now (a .table))) e

@@ -10,8 +10,9 @@ use Rattle.forms.specs.SchemeMemory.{schemeIn}
 use Rattle.verdict.specs.Size.{size}
 use Rattle.count_plan.specs.Layout.{widthOf, needOf}
 use Rattle.count_plan.specs.LayoutLaws.{width-sum, count-few, place-small}
-use Rattle.count_rows.specs.Run.{Outlook, cleared}
+use Rattle.count_rows.specs.Run.{cleared}
 use Rattle.count_rows.specs.RunLaws.{sizes-solved, run-counts, kept-drop}
+use Rattle.count_rows.proofs.EntryFillLaws.{counts-given}
 use borrow.Author.Needs.{needs}
 use Rattle.count_rows.proofs.run.counts.Statement.{statement}
 use Rattle.count_rows.proofs.run.counts.Tie as tie
@@ -19,67 +20,105 @@ use Rattle.count_rows.proofs.run.counts.Tie as tie
 binomials-requires : tie.Need-binomials-requires
 binomials-requires c κs = search needs
 
-slice-aggregate-plan-of : tie.Need-slice-aggregate-plan-of
-slice-aggregate-plan-of c = search needs
+slice-aggregate-fill-sheet : tie.Need-slice-aggregate-fill-sheet
+slice-aggregate-fill-sheet c = search needs
 
-plan-of-requires : tie.Need-plan-of-requires
-plan-of-requires c κs = search needs
+fill-sheet-requires : tie.Need-fill-sheet-requires
+fill-sheet-requires c κs = search needs
 
-slice-aggregate-width-of : tie.Need-slice-aggregate-width-of
-slice-aggregate-width-of c = search needs
+slice-aggregate-places-of : tie.Need-slice-aggregate-places-of
+slice-aggregate-places-of c = search needs
 
-width-of-requires : tie.Need-width-of-requires
-width-of-requires c κs = search needs
+places-of-requires : tie.Need-places-of-requires
+places-of-requires c κs = search needs
 
-slice-aggregate-root-place : tie.Need-slice-aggregate-root-place
-slice-aggregate-root-place c = search needs
+slice-aggregate-place-at : tie.Need-slice-aggregate-place-at
+slice-aggregate-place-at c = search needs
 
-root-place-requires : tie.Need-root-place-requires
-root-place-requires c κs = search needs
+place-at-requires : tie.Need-place-at-requires
+place-at-requires c κs = search needs
+
+slice-aggregate-place-at-2 : tie.Need-slice-aggregate-place-at-2
+slice-aggregate-place-at-2 c = search needs
+
+place-at-requires-2 : tie.Need-place-at-requires-2
+place-at-requires-2 c κs = search needs
 
 slice-aggregate-run : tie.Need-slice-aggregate-run
 slice-aggregate-run c = search needs
 
+slice-aggregate-run-2 : tie.Need-slice-aggregate-run-2
+slice-aggregate-run-2 c = search needs
+
+slice-aggregate-run-3 : tie.Need-slice-aggregate-run-3
+slice-aggregate-run-3 c = search needs
+
 run-requires : tie.Need-run-requires
-run-requires c κs = search needs
+run-requires c κs =
+    let at-place-at2 = c .before .before .before .before in
+    let at-place-at = at-place-at2 .before .before in
+    let at-places-of = at-place-at .before .before in
+    let at-fill-sheet = at-places-of .before .before .before in
+    let at-binomials = at-fill-sheet .before .before in
+    let start = at-binomials .before .before in
+    let a = start .args in
+    let p = start .pre in
+    let sheet = at-fill-sheet .fill-sheet in (
+      counts-given (patternsOf (a .set) (a .lengths) (a .count)) (a .s) (sheet .last .0) (at-places-of .places-of .result) (p .1 .scheme)
+          (sheet .ensures .0) (a .n) (p .0)
+          (at-places-of .places-of .ensures) (at-place-at .place-at .result) (at-place-at2 .place-at2 .result) (sheet .result)
+          (at-place-at .place-at .ensures) (at-place-at2 .place-at2 .ensures)
+          (sheet .ensures .1),
+      at-binomials .binomials .ensures,
+    )
 
 mul-clear : tie.Need-mul-clear
 mul-clear c =
-    let a = c .before .before .before .before .before .before .before .before .before .before .before .before .before .before .args in
-    let p = c .before .before .before .before .before .before .before .before .before .before .before .before .before .before .pre in
-    omega (arith, c .before .before .before .before .before .before .before .before .width-of .ensures, place-small (a .n) (a .s) (a .s .count) (p .0), count-few (a .s) (p .1 .scheme))
+    let at-place-at = c .before .before .before .before .before .before .before .before .before .before in
+    let at-places-of = at-place-at .before .before in
+    let start = at-places-of .before .before .before .before .before .before .before in
+    let a = start .args in
+    let p = start .pre in
+    let width = at-place-at .place-at .ensures ∙ at-places-of .places-of .ensures .at (a .s .count) (omega arith) in
+    omega (arith, width, place-small (a .n) (a .s) (a .s .count) (p .0), count-few (a .s) (p .1 .scheme))
 
 clear-requires : tie.Need-clear-requires
 clear-requires c κs =
-    let a = c .before .before .before .before .before .before .before .before .before .before .before .before .before .before .args in
-    let p = c .before .before .before .before .before .before .before .before .before .before .before .before .before .before .pre in
-    let len : length (c .before .before .before .run .last .0) ≡ length (now (a .table)) = search needs in
-    omega (arith, c .before .before .before .before .before .before .before .before .width-of .ensures, width-sum (a .n) (a .s), p .3, len)
+    let at-run = c .before .before .before in
+    let at-place-at = at-run .before .before .before .before .before .before .before in
+    let at-places-of = at-place-at .before .before in
+    let start = at-places-of .before .before .before .before .before .before .before in
+    let a = start .args in
+    let p = start .pre in
+    let width = at-place-at .place-at .ensures ∙ at-places-of .places-of .ensures .at (a .s .count) (omega arith) in
+    let len : length (at-run .run .last .0) ≡ length (now (a .table)) = search needs in
+    omega (arith, width, width-sum (a .n) (a .s), p .3, len)
 
 same-length : tie.Need-same-length
 same-length c = search needs
 
 returns : tie.Need-returns
 returns c =
-    let a = c .before .before .before .before .before .before .before .before .before .before .before .before .before .before .before .before .before .args in
-    let p = c .before .before .before .before .before .before .before .before .before .before .before .before .before .before .before .before .before .pre in
+    let at-run = c .before .before .before .before .before .before in
+    let at-place-at2 = at-run .before .before .before .before .before in
+    let at-place-at = at-place-at2 .before .before in
+    let at-places-of = at-place-at .before .before in
+    let at-fill-sheet = at-places-of .before .before .before in
+    let start = at-fill-sheet .before .before .before .before in
+    let a = start .args in
+    let p = start .pre in
     let P = patternsOf (a .set) (a .lengths) (a .count) in
-    let w = c .before .before .before .before .before .before .before .before .before .before .before .width-of .result in
-    let we : c .before .before .before .before .before .before .before .before .before .before .before .width-of .result ≡ widthOf (a .n) (a .s) = c .before .before .before .before .before .before .before .before .before .before .before .width-of .ensures in
+    let sheet = at-fill-sheet .fill-sheet in
+    let places = at-places-of .places-of in
+    let ran = at-run .run in
+    let we : at-place-at .place-at .result ≡ widthOf (a .n) (a .s) = at-place-at .place-at .ensures ∙ places .ensures .at (a .s .count) (omega arith) in
     let ne : 2 * widthOf (a .n) (a .s) ≡ needOf (a .n) (schemeIn (a .s)) = ap (λ m. 2 * m) (width-sum (a .n) (a .s)) in
-    let o : Outlook (a .s) (c .before .before .before .before .before .before .before .before .before .before .before .before .before .plan-of .result) (a .n) (c .before .before .before .before .before .before .before .before .before .before .before .width-of .result) (c .before .before .before .before .before .before .before .before .before .root-place .result) =
-    record {
-      P = patternsOf (a .set) (a .lengths) (a .count);
-      proper = p .1 .scheme;
-      small = p .0;
-      plan = c .before .before .before .before .before .before .before .before .before .before .before .before .before .plan-of .ensures;
-      width-is = we;
-      root-is = c .before .before .before .before .before .before .before .before .before .root-place .ensures .0;
-      root-near = c .before .before .before .before .before .before .before .before .before .root-place .ensures .1;
-    } in
-    let (rows, counted, kept) = c .before .before .before .before .before .before .run .ensures o (size P) (sizes-solved P (a .s) (p .1) (p .2)) (omega (arith, we, ne, p .3)) in (
-      run-counts P (a .s) (a .n) (c .before .before .before .before .before .before .run .result) (p .1) (p .2) counted,
-      c .before .before .clear .ensures ∙ ap (λ (m : ℕ). cleared (2 * m) (c .before .before .before .before .before .before .run .last .0)) we ∙ kept-drop (a .n) (a .s) (now (a .table)) (c .before .before .before .before .before .before .run .last .0) kept ∙
+    let o = counts-given P (a .s) (sheet .last .0) (places .result) (p .1 .scheme) (sheet .ensures .0) (a .n) (p .0) (places .ensures)
+    (at-place-at .place-at .result)
+    (at-place-at2 .place-at2 .result) (sheet .result) (at-place-at .place-at .ensures) (at-place-at2 .place-at2 .ensures) (sheet .ensures .1) in
+    let (rows, counted, kept) = ran .ensures o (o .outlook) (size P) (sizes-solved P (a .s) (p .1) (p .2)) (omega (arith, we, ne, p .3)) in (
+      run-counts P (a .s) (a .n) (ran .result) (p .1) (p .2) counted,
+      c .before .before .clear .ensures ∙ ap (λ (m : ℕ). cleared (2 * m) (ran .last .0)) we ∙ kept-drop (a .n) (a .s) (now (a .table)) (ran .last .0) kept ∙
           ap (λ (m : ℕ). cleared m (now (a .table))) ne,
     )
 
@@ -88,13 +127,17 @@ counts-spec =
     tie.close
     (tie.spec
     binomials-requires
-    slice-aggregate-plan-of
-    plan-of-requires
-    slice-aggregate-width-of
-    width-of-requires
-    slice-aggregate-root-place
-    root-place-requires
+    slice-aggregate-fill-sheet
+    fill-sheet-requires
+    slice-aggregate-places-of
+    places-of-requires
+    slice-aggregate-place-at
+    place-at-requires
+    slice-aggregate-place-at-2
+    place-at-requires-2
     slice-aggregate-run
+    slice-aggregate-run-2
+    slice-aggregate-run-3
     run-requires
     mul-clear
     clear-requires

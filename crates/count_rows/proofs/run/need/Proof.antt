@@ -11,24 +11,45 @@ use Rattle.count_rows.proofs.run.need.Tie as tie
 binomials-requires : tie.Need-binomials-requires
 binomials-requires c κs = search needs
 
-slice-aggregate-width-of : tie.Need-slice-aggregate-width-of
-slice-aggregate-width-of c = search needs
+slice-aggregate-places-of : tie.Need-slice-aggregate-places-of
+slice-aggregate-places-of c = search needs
 
-width-of-requires : tie.Need-width-of-requires
-width-of-requires c κs = search needs
+places-of-requires : tie.Need-places-of-requires
+places-of-requires c κs = search needs
+
+slice-aggregate-place-at : tie.Need-slice-aggregate-place-at
+slice-aggregate-place-at c = search needs
+
+place-at-requires : tie.Need-place-at-requires
+place-at-requires c κs = search needs
 
 mul-result : tie.Need-mul-result
 mul-result c =
-    let a = c .before .before .before .args in
-    let p = c .before .before .before .pre in
-    omega (arith, c .width-of .ensures, place-small (a .n) (a .s) (a .s .count) (p .1), count-few (a .s) (p .0))
+    let o = c .before .before .before .before .before in
+    let a = o .args in
+    omega (
+      arith,
+      c .place-at .ensures,
+      c .before .before .places-of .ensures .at (a .s .count) (omega arith),
+      place-small (a .n) (a .s) (a .s .count)
+          (o .pre .1),
+      count-few (a .s) (o .pre .0),
+    )
 
 returns : tie.Need-returns
 returns c =
-    let a = c .before .before .before .args in
-    ap (λ m. 2 * m) (c .width-of .ensures ∙ width-sum (a .n) (a .s))
+    let start = c .before .before .before .before .before in
+    let a = start .args in
+    ap (λ m. 2 * m) (c .place-at .ensures ∙ c .before .before .places-of .ensures .at (a .s .count) (omega arith) ∙ width-sum (a .n) (a .s))
 
 pub need-spec : {M : Type 1} → statement M
 need-spec =
     tie.close
-    (tie.spec binomials-requires slice-aggregate-width-of width-of-requires mul-result returns)
+    (tie.spec
+    binomials-requires
+    slice-aggregate-places-of
+    places-of-requires
+    slice-aggregate-place-at
+    place-at-requires
+    mul-result
+    returns)

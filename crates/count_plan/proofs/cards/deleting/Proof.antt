@@ -1,0 +1,57 @@
+-- `count_plan::cards::deleting` meets its contract.
+-- Assumes nothing.
+use native.Mathlib.Omega.{arith}
+use mathlib.Core.Path.{_≡_, sym, ap, _∙_}
+use Prim.Native.Nat.{_-_}
+use lib.ListN.{length}
+use lib.Seq.{length-take-le, getD-take}
+use Rattle.word.specs.Ceilings.{PREFIX}
+use Rattle.count_plan.specs.Cards.{indexIn}
+use borrow.Author.Needs.{needs}
+use Rattle.count_plan.proofs.cards.deleting.Statement.{statement}
+use Rattle.count_plan.proofs.cards.deleting.Tie as tie
+
+sub-wide : tie.Need-sub-wide
+sub-wide c = search needs
+
+array-read-wide : tie.Need-array-read-wide
+array-read-wide c = search needs
+
+wide-requires : tie.Need-wide-requires
+wide-requires c κs = search needs
+
+shorter-requires : tie.Need-shorter-requires
+shorter-requires c κs = search needs
+
+sub-index-in : tie.Need-sub-index-in
+sub-index-in c = search needs
+
+index-in-requires : tie.Need-index-in-requires
+index-in-requires c κs = search needs
+
+array-write-links : tie.Need-array-write-links
+array-write-links c = search needs
+
+returns : tie.Need-returns
+returns c ps w =
+    let start = c .before .before .before .before in
+    let a = start .args in
+    let six : length (a .t2) ≡ PREFIX = search needs in
+    record {
+      size = sym (length-take-le (a .k) (a .t2) (omega arith));
+      value = c .before .before .wide .ensures ∙ sym (getD-take (a .k) (a .t2) (a .r - 1) 0 (omega arith));
+      link = c .index-in .ensures ps w ∙ ap (indexIn ps) (c .before .shorter .ensures);
+    }
+
+pub deleting-spec : {M : Type 1} → statement M
+deleting-spec =
+    tie.close
+    (tie.spec
+    sub-wide
+    array-read-wide
+    wide-requires
+    shorter-requires
+    sub-index-in
+    index-in-requires
+    array-write-links
+    returns)

@@ -1,0 +1,35 @@
+// Reading the sheet.
+use crate::sheet::CARD;
+use crate::sheet::HEAD;
+use spacing::walk::wide;
+use word::limits::PARTS;
+ghost use mathlib.Core.Path.{_≡_};
+ghost use Prim.Native.Nat.{_<_};
+ghost use lib.ListN.{length};
+ghost use Rattle.word.specs.Ceilings.{ENTRIES};
+ghost use Rattle.count_plan.specs.SheetSizes.{CARD, SHEET};
+ghost use Rattle.count_plan.specs.SheetRows.{fieldOf, partsAt};
+
+// Byte f of the entry with index e.
+pub fn field(sheet: &[u8], e: usize, f: usize) -> usize
+    requires { ⌜ (e < ENTRIES) × (f < CARD) × (length (now sheet) ≡ SHEET) ⌝ }
+    ensures { λ r. ⌜ r ≡ fieldOf (now (sheet .entry)) e f ⌝ }
+{
+    wide(sheet[CARD * e + f])
+}
+
+// The components of the gap vectors of the entry with index e.
+pub fn gaps_of(sheet: &[u8], e: usize) -> &[u8]
+    requires { ⌜ (e < ENTRIES) × (length (now sheet) ≡ SHEET) ⌝ }
+    ensures { λ r. ⌜ now r ≡ partsAt (now (sheet .entry)) e ⌝ }
+{
+    let at = CARD * e + HEAD;
+    &sheet[at..at + PARTS]
+}
+
+// The same number.
+pub fn long(x: usize) -> u64
+    ensures { λ r. ⌜ r ≡ x ⌝ }
+{
+    x as u64
+}
