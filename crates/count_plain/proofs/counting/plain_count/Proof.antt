@@ -2,6 +2,8 @@
 -- Assumes nothing.
 use mathlib.Core.Path.{refl}
 use Rattle.word.specs.Containment.{patternsOf}
+use Rattle.forms.specs.SchemeMemory.{schemeIn}
+use Rattle.scheme.specs.ProperLaws.{proper}
 use Rattle.count_plain.specs.ReadingLaws.{counted-cell, counted-value}
 use borrow.Author.Needs.{needs}
 use Rattle.count_plain.proofs.counting.plain_count.Statement.{statement}
@@ -11,7 +13,9 @@ slice-aggregate-fill-sheet : tie.Need-slice-aggregate-fill-sheet
 slice-aggregate-fill-sheet c = search needs
 
 fill-sheet-requires : tie.Need-fill-sheet-requires
-fill-sheet-requires c κs = search needs
+fill-sheet-requires c κs =
+    let start = c .before in
+    let q = proper (schemeIn (start .args .s)) (start .pre .1 .scheme) in search needs
 
 cast-g : tie.Need-cast-g
 cast-g c = search needs
@@ -28,7 +32,7 @@ cell-requires c κs =
     let a = start .args in
     let p = start .pre in
     let sheet = c .before .before .fill-sheet in
-    counted-cell (patternsOf (a .set) (a .lengths) (a .count)) (a .s) (sheet .last .0) (p .1 .scheme) (sheet .ensures .0) (sheet .result) (a .n) _
+    counted-cell (patternsOf (a .set) (a .lengths) (a .count)) (a .s) (sheet .last .0) (proper (schemeIn (a .s)) (p .1 .scheme)) (sheet .ensures .0) (sheet .result) (a .n) _
     (sheet .ensures .1)
     (p .0) refl refl
 
@@ -39,7 +43,7 @@ returns c =
     let a = start .args in
     let p = start .pre in
     let sheet = at-fill-sheet .fill-sheet in
-    counted-value (patternsOf (a .set) (a .lengths) (a .count)) (a .s) (sheet .last .0) (p .1 .scheme) (sheet .ensures .0) (sheet .result) (a .n) _
+    counted-value (patternsOf (a .set) (a .lengths) (a .count)) (a .s) (sheet .last .0) (proper (schemeIn (a .s)) (p .1 .scheme)) (sheet .ensures .0) (sheet .result) (a .n) _
     (sheet .ensures .1)
     (p .0) refl refl (p .1) (p .2) (c .cell .result) (c .cell .ensures)
 

@@ -7,6 +7,7 @@ use mathlib.Core.Path.{_≡_, ap, _∙_}
 use lib.ListN.{length}
 use Rattle.word.specs.Containment.{patternsOf}
 use Rattle.forms.specs.SchemeMemory.{schemeIn}
+use Rattle.scheme.specs.ProperLaws.{proper}
 use Rattle.verdict.specs.Size.{size}
 use Rattle.count_plan.specs.Layout.{widthOf, needOf}
 use Rattle.count_plan.specs.LayoutLaws.{width-sum, count-few, place-small}
@@ -24,13 +25,17 @@ slice-aggregate-fill-sheet : tie.Need-slice-aggregate-fill-sheet
 slice-aggregate-fill-sheet c = search needs
 
 fill-sheet-requires : tie.Need-fill-sheet-requires
-fill-sheet-requires c κs = search needs
+fill-sheet-requires c κs =
+    let start = c .before .before .before in
+    let q = proper (schemeIn (start .args .s)) (start .pre .1 .scheme) in search needs
 
 slice-aggregate-places-of : tie.Need-slice-aggregate-places-of
 slice-aggregate-places-of c = search needs
 
 places-of-requires : tie.Need-places-of-requires
-places-of-requires c κs = search needs
+places-of-requires c κs =
+    let start = c .before .before .before .before .before .before in
+    let q = proper (schemeIn (start .args .s)) (start .pre .1 .scheme) in search needs
 
 slice-aggregate-place-at : tie.Need-slice-aggregate-place-at
 slice-aggregate-place-at c = search needs
@@ -64,7 +69,7 @@ run-requires c κs =
     let a = start .args in
     let p = start .pre in
     let sheet = at-fill-sheet .fill-sheet in (
-      counts-given (patternsOf (a .set) (a .lengths) (a .count)) (a .s) (sheet .last .0) (at-places-of .places-of .result) (p .1 .scheme)
+      counts-given (patternsOf (a .set) (a .lengths) (a .count)) (a .s) (sheet .last .0) (at-places-of .places-of .result) (proper (schemeIn (a .s)) (p .1 .scheme))
           (sheet .ensures .0) (a .n) (p .0)
           (at-places-of .places-of .ensures) (at-place-at .place-at .result) (at-place-at2 .place-at2 .result) (sheet .result)
           (at-place-at .place-at .ensures) (at-place-at2 .place-at2 .ensures)
@@ -80,7 +85,7 @@ mul-clear c =
     let a = start .args in
     let p = start .pre in
     let width = at-place-at .place-at .ensures ∙ at-places-of .places-of .ensures .at (a .s .count) (omega arith) in
-    omega (arith, width, place-small (a .n) (a .s) (a .s .count) (p .0), count-few (a .s) (p .1 .scheme))
+    omega (arith, width, place-small (a .n) (a .s) (a .s .count) (p .0), count-few (a .s) (proper (schemeIn (a .s)) (p .1 .scheme)))
 
 clear-requires : tie.Need-clear-requires
 clear-requires c κs =
@@ -113,7 +118,7 @@ returns c =
     let ran = at-run .run in
     let we : at-place-at .place-at .result ≡ widthOf (a .n) (a .s) = at-place-at .place-at .ensures ∙ places .ensures .at (a .s .count) (omega arith) in
     let ne : 2 * widthOf (a .n) (a .s) ≡ needOf (a .n) (schemeIn (a .s)) = ap (λ m. 2 * m) (width-sum (a .n) (a .s)) in
-    let o = counts-given P (a .s) (sheet .last .0) (places .result) (p .1 .scheme) (sheet .ensures .0) (a .n) (p .0) (places .ensures)
+    let o = counts-given P (a .s) (sheet .last .0) (places .result) (proper (schemeIn (a .s)) (p .1 .scheme)) (sheet .ensures .0) (a .n) (p .0) (places .ensures)
     (at-place-at .place-at .result)
     (at-place-at2 .place-at2 .result) (sheet .result) (at-place-at .place-at .ensures) (at-place-at2 .place-at2 .ensures) (sheet .ensures .1) in
     let (rows, counted, kept) = ran .ensures o (o .outlook) (size P) (sizes-solved P (a .s) (p .1) (p .2)) (omega (arith, we, ne, p .3)) in (

@@ -6,6 +6,7 @@ use native.Mathlib.Omega.{arith}
 use lib.ListN.{length, getD}
 use Rattle.forms.specs.SchemeMemory.{patternsIn, schemeIn}
 use Rattle.wellformed.proofs.OrderLaws.{not-faulty}
+use Rattle.scheme.specs.ProperLaws.{proper}
 use Rattle.counting.specs.CountLaws.{verdict-fault, clean-accepts, refused-judging, refused-n-or-table, served, done}
 use borrow.Author.Needs.{needs}
 use Rattle.counting.proofs.by_table.count.Statement.{statement}
@@ -38,7 +39,8 @@ table-fault-requires c κs =
     let j = c .before .before .before .judge in
     let f = c .before .before .fault-of in
     let none = not-faulty (f .result) (sym (c .before .is-fault .ensures) ∙ c .if1 .left) in
-    j .ensures .exactly .0 (clean-accepts (j .result) (sym (f .ensures) ∙ none)) .0 .scheme
+    proper (schemeIn (c .before .before .before .before .args .scheme))
+    (j .ensures .exactly .0 (clean-accepts (j .result) (sym (f .ensures) ∙ none)) .0 .scheme)
 
 is-fault-requires-2 : tie.Need-is-fault-requires-2
 is-fault-requires-2 c κs = search needs

@@ -10,6 +10,7 @@ use Rattle.forms.specs.SchemeMemory.{patternsIn, schemeIn}
 use Rattle.forms.specs.declared.memory.Fault.{Fault}
 use Rattle.text_page.specs.PageLaws.{writes-as}
 use Rattle.wellformed.proofs.OrderLaws.{not-faulty}
+use Rattle.scheme.specs.ProperLaws.{proper}
 use Rattle.verdict.specs.Value.{countOf}
 use Rattle.counting.specs.CountLaws.{table-good}
 use Rattle.table_text.specs.Printed.{bfileText}
@@ -20,7 +21,9 @@ use Rattle.table_print.proofs.printing.put_table.Statement.{statement}
 use Rattle.table_print.proofs.printing.put_table.Tie as tie
 
 table-fault-requires : tie.Need-table-fault-requires
-table-fault-requires c κs = search needs
+table-fault-requires c κs =
+    let start = c .before in
+    proper (schemeIn (start .args .scheme)) (start .pre .formed .scheme)
 
 is-fault-requires : tie.Need-is-fault-requires
 is-fault-requires c κs = search needs
