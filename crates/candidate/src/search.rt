@@ -78,16 +78,12 @@ fn hits(
         return false;
     }
     let head = len - t;
-    let need = tables.need;
-    let levels = tables.levels;
-    let gone = tables.gone;
     let start = Placing {
-        chosen: [0u8; DIGITS],
         placed: 0,
         from: 0,
         used: false,
     };
-    placed(&row[..head], &prefix[..k], start, &need, &levels, &gone)
+    placed([0u8; DIGITS], &row[..head], &prefix[..k], start, tables)
 }
 
 // The levels that a pattern's head entries need, where its last t entries are the rest; for a

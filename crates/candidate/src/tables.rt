@@ -122,11 +122,11 @@ pub struct Word {
 }
 
 // What a table says of a value, and 0 of a value that it does not reach.
-pub fn told(table: &[u8], v: u8) -> u8
-    ensures { λ r. ⌜ r ≡ entryOf (now (table .entry)) v ⌝ }
+pub fn told(table: [u8; VALUES], v: u8) -> u8
+    ensures { λ r. ⌜ r ≡ entryOf table v ⌝ }
 {
     let i = v as usize;
-    if i < table.len() { table[i] } else { 0 }
+    if i < VALUES { table[i] } else { 0 }
 }
 
 // A level, or the largest that is looked at.
@@ -153,8 +153,8 @@ pub fn kept(prefix: [u8; PREFIX], k: usize, levels: [u8; VALUES], gone: [u8; VAL
     let mut i: usize = 0;
     while i < k {
         let a = prefix[i];
-        if told(&gone, a) == 0 {
-            entries[n] = added(a, told(&levels, a));
+        if told(gone, a) == 0 {
+            entries[n] = added(a, told(levels, a));
             n += 1;
             i += 1;
         } else {
@@ -179,7 +179,7 @@ fn with_rest(w: Word, row: [u8; DIGITS], from: usize, to: usize, tables: Tables,
     let mut n = w.length;
     let mut j = from;
     while j < to {
-        let s = capped(told(&need, row[j]));
+        let s = capped(told(need, row[j]));
         entries[n] = lifted(levels, k, s);
         n += 1;
         j += 1;

@@ -9,6 +9,9 @@ use native.Mathlib.Omega.{arith}
 use lib.ListN.{length, getD, set}
 use Rattle.candidate.specs.Lookup.{entryOf, flagged}
 use Rattle.candidate.proofs.PlacingState.{state, placed-done, placed-none, placed-level, placed-pairs, placed-here, placed-later}
+use mathlib.Core.Logic.{⊎-elim}
+use lib.ListN.{List·getD-eq-default}
+use Rattle.candidate.specs.Lookup.{VALUES}
 use Prim.Native.Nat.{ℕ, _+_, _-_, _<_, _≤_}
 use borrow.Fn.Kinds.{In}
 use borrow.Fn.PlainCycle.{Measures, is, falls, and}
@@ -19,30 +22,33 @@ use Rattle.candidate.proofs.placing.either.Reads as either-reads
 use Rattle.candidate.proofs.placing.is_flagged.Reads as is-flagged-reads
 use Rattle.candidate.proofs.placing.pairs_fit.Reads as pairs-fit-reads
 use Rattle.candidate.proofs.tables.told.Reads as told-reads
+use Rattle.word.proofs.bytes.wide.Reads as wide-reads
 use Rattle.candidate.proofs.placing.+placed.{statement}
 use Rattle.candidate.proofs.placing.+placed.Tie.{close}
 
-abbrev μ-placed : Measures 5 placed-kinds.ps ℕ
-μ-placed κs a = length (a .1 .0 .now) - a .1 .1 .0 .from
+abbrev μ-placed : Measures 2 placed-kinds.ps ℕ
+μ-placed κs a = length (a .1 .1 .0 .now) - a .1 .1 .1 .0 .from
 
-abbrev placed-at : ℕ → In 5 placed-kinds.ps
-placed-at t = and 5 placed-kinds.ps (is 5 placed-kinds.ps μ-placed t) placed.Pre
+abbrev placed-at : ℕ → In 2 placed-kinds.ps
+placed-at t = and 2 placed-kinds.ps (is 2 placed-kinds.ps μ-placed t) placed.Pre
 
-abbrev placed-below : ℕ → In 5 placed-kinds.ps
-placed-below t = and 5 placed-kinds.ps (falls 5 placed-kinds.ps _<_ μ-placed t) placed.Pre
+abbrev placed-below : ℕ → In 2 placed-kinds.ps
+placed-below t = and 2 placed-kinds.ps (falls 2 placed-kinds.ps _<_ μ-placed t) placed.Pre
 
 abbrev placed-Inv-loop : placed-lts.InvT-loop
-placed-Inv-loop head prefix need levels gone s used chosen x level j₀ j =
+placed-Inv-loop chosen head prefix tables s used x gone level j₀ j =
     (j₀ ≤ j) ×
-    (state (entryOf need) (entryOf levels) (flagged gone) head prefix used chosen s j₀ ≡
-    state (entryOf need) (entryOf levels) (flagged gone) head prefix used chosen s j)
+    (state (entryOf (tables .need)) (entryOf (tables .levels)) (flagged gone) head prefix used chosen s j₀ ≡
+    state (entryOf (tables .need)) (entryOf (tables .levels)) (flagged gone) head prefix used chosen s j)
 
 abbrev placed-μ-loop : placed-lts.MeasureT-loop
-placed-μ-loop head prefix need levels gone s used chosen x level j₀ j = length prefix - j
+placed-μ-loop chosen head prefix tables s used x gone level j₀ j = length prefix - j
 
 placed-returns : (t : ℕ) → placed-lts.Need-returns (
   told-reads.Asked,
   told-reads.Learnt,
+  wide-reads.Asked,
+  wide-reads.Learnt,
   pairs-fit-reads.Asked,
   pairs-fit-reads.Learnt,
   is-flagged-reads.Asked,
@@ -53,12 +59,14 @@ placed-returns : (t : ℕ) → placed-lts.Need-returns (
   placed.Post,
 ) (placed-at t) placed.Post placed-Inv-loop placed-μ-loop
 placed-returns t c =
-    let a = c .before .before .before .before .before .before .args in
-    sym (placed-done (entryOf (a .need .now)) (entryOf (a .levels .now)) (flagged (a .gone .now)) (a .head .now) (a .prefix .now) (a .state .used) (a .state .chosen) (a .state .placed) (a .state .from) (c .if1 .taken))
+    let a = c .before .before .before .args in
+    sym (placed-done (entryOf (a .t5 .need)) (entryOf (a .t5 .levels)) (flagged (a .t5 .gone)) (a .head .now) (a .prefix .now) (a .state .used) (a .chosen) (a .state .placed) (a .state .from) (c .if1 .taken))
 
 placed-shared-slice-read-x : (t : ℕ) → placed-lts.Need-shared-slice-read-x (
   told-reads.Asked,
   told-reads.Learnt,
+  wide-reads.Asked,
+  wide-reads.Learnt,
   pairs-fit-reads.Asked,
   pairs-fit-reads.Learnt,
   is-flagged-reads.Asked,
@@ -73,6 +81,8 @@ placed-shared-slice-read-x t c = search needs
 placed-told-requires : (t : ℕ) → placed-lts.Need-told-requires (
   told-reads.Asked,
   told-reads.Learnt,
+  wide-reads.Asked,
+  wide-reads.Learnt,
   pairs-fit-reads.Asked,
   pairs-fit-reads.Learnt,
   is-flagged-reads.Asked,
@@ -87,6 +97,8 @@ placed-told-requires t c κs = search needs
 placed-loop-holds : (t : ℕ) → placed-lts.Need-loop-holds (
   told-reads.Asked,
   told-reads.Learnt,
+  wide-reads.Asked,
+  wide-reads.Learnt,
   pairs-fit-reads.Asked,
   pairs-fit-reads.Learnt,
   is-flagged-reads.Asked,
@@ -101,6 +113,8 @@ placed-loop-holds t c = (omega arith, refl)
 placed-shared-slice-read-a : (t : ℕ) → placed-lts.Need-shared-slice-read-a (
   told-reads.Asked,
   told-reads.Learnt,
+  wide-reads.Asked,
+  wide-reads.Learnt,
   pairs-fit-reads.Asked,
   pairs-fit-reads.Learnt,
   is-flagged-reads.Asked,
@@ -115,6 +129,8 @@ placed-shared-slice-read-a t c = search needs
 placed-add-j : (t : ℕ) → placed-lts.Need-add-j (
   told-reads.Asked,
   told-reads.Learnt,
+  wide-reads.Asked,
+  wide-reads.Learnt,
   pairs-fit-reads.Asked,
   pairs-fit-reads.Learnt,
   is-flagged-reads.Asked,
@@ -126,9 +142,11 @@ placed-add-j : (t : ℕ) → placed-lts.Need-add-j (
 ) (placed-at t) placed.Post placed-Inv-loop placed-μ-loop
 placed-add-j t c = search needs
 
-placed-told-requires-2 : (t : ℕ) → placed-lts.Need-told-requires-2 (
+placed-wide-requires : (t : ℕ) → placed-lts.Need-wide-requires (
   told-reads.Asked,
   told-reads.Learnt,
+  wide-reads.Asked,
+  wide-reads.Learnt,
   pairs-fit-reads.Asked,
   pairs-fit-reads.Learnt,
   is-flagged-reads.Asked,
@@ -138,11 +156,51 @@ placed-told-requires-2 : (t : ℕ) → placed-lts.Need-told-requires-2 (
   placed-below t,
   placed.Post,
 ) (placed-at t) placed.Post placed-Inv-loop placed-μ-loop
-placed-told-requires-2 t c κs = search needs
+placed-wide-requires t c κs = search needs
+
+placed-element-copy-out-here : (t : ℕ) → placed-lts.Need-element-copy-out-here (
+  told-reads.Asked,
+  told-reads.Learnt,
+  wide-reads.Asked,
+  wide-reads.Learnt,
+  pairs-fit-reads.Asked,
+  pairs-fit-reads.Learnt,
+  is-flagged-reads.Asked,
+  is-flagged-reads.Learnt,
+  either-reads.Asked,
+  either-reads.Learnt,
+  placed-below t,
+  placed.Post,
+) (placed-at t) placed.Post placed-Inv-loop placed-μ-loop
+placed-element-copy-out-here t c = search needs
+
+-- the level that was looked up: behind the end of the table stands 0
+here-is : (t : ℕ) (c : placed-lts.Joined2 (
+  told-reads.Asked,
+  told-reads.Learnt,
+  wide-reads.Asked,
+  wide-reads.Learnt,
+  pairs-fit-reads.Asked,
+  pairs-fit-reads.Learnt,
+  is-flagged-reads.Asked,
+  is-flagged-reads.Learnt,
+  either-reads.Asked,
+  either-reads.Learnt,
+  placed-below t,
+  placed.Post,
+) (placed-at t) placed.Post placed-Inv-loop placed-μ-loop) →
+    let a = c .before .before .before .before .before .before .before .before .before .before .before .before .args in
+    c .if2 .here ≡ entryOf (a .t5 .levels) (getD (a .prefix .now) (c .before .before .before .before .loop .j) 0)
+here-is t c =
+    let a = c .before .before .before .before .before .before .before .before .before .before .before .before .args in
+    let nine : length (a .t5 .levels) ≡ VALUES = (let o = c .before .before .before .before .before .before .before .before .before .before .before .before .good in search needs) in
+    ⊎-elim (λ w. w .2 ∙ ap (λ (v : ℕ). getD (a .t5 .levels) v 0) (c .before .wide .ensures .0)) (λ w. w .1 ∙ sym (List·getD-eq-default (a .t5 .levels) 0 (omega (arith, w .0 .left, nine, c .before .wide .ensures .0)))) (c .if2 .came)
 
 placed-loop-less : (t : ℕ) → placed-lts.Need-loop-less (
   told-reads.Asked,
   told-reads.Learnt,
+  wide-reads.Asked,
+  wide-reads.Learnt,
   pairs-fit-reads.Asked,
   pairs-fit-reads.Learnt,
   is-flagged-reads.Asked,
@@ -157,6 +215,8 @@ placed-loop-less t c = search needs
 placed-loop-again : (t : ℕ) → placed-lts.Need-loop-again (
   told-reads.Asked,
   told-reads.Learnt,
+  wide-reads.Asked,
+  wide-reads.Learnt,
   pairs-fit-reads.Asked,
   pairs-fit-reads.Learnt,
   is-flagged-reads.Asked,
@@ -167,17 +227,19 @@ placed-loop-again : (t : ℕ) → placed-lts.Need-loop-again (
   placed.Post,
 ) (placed-at t) placed.Post placed-Inv-loop placed-μ-loop
 placed-loop-again t c =
-    let a = c .before .before .before .before .before .before .before .before .before .before .before .before .before .before .args in
-    let l = c .before .before .before .before .loop in
-    let eight : length (a .state .chosen) ≡ 8 = (let o = c .before .before .before .before .before .before .before .before .before .before .before .before .before .before .good in search needs) in
-    let room : a .state .placed < length (a .state .chosen) = omega (arith, c .before .before .before .before .before .before .before .before .before .before .before .before .before .before .pre .1, c .before .before .before .before .before .before .before .before .if1 .left) in
-    let other : entryOf (a .levels .now) (getD (a .prefix .now) (l .j) 0) ≡ entryOf (a .need .now) (getD (a .head .now) (a .state .placed) 0) → ⊥ =
-    λ q. c .if2 .taken (c .before .told2 .ensures ∙ q ∙ sym (c .before .before .before .before .before .told .ensures)) in
-    (omega (arith, l .inv .0), l .inv .1 ∙ placed-level (entryOf (a .need .now)) (entryOf (a .levels .now)) (flagged (a .gone .now)) (a .head .now) (a .prefix .now) (a .state .used) (a .state .chosen) (a .state .placed) (l .j) (c .before .before .before .before .before .before .before .before .if1 .left) (c .before .before .before .loop-test .taken) room other)
+    let a = c .before .before .before .before .before .before .before .before .before .before .before .before .before .args in
+    let l = c .before .before .before .before .before .loop in
+    let eight : length (a .chosen) ≡ 8 = (let o = c .before .before .before .before .before .before .before .before .before .before .before .before .before .good in search needs) in
+    let room : a .state .placed < length (a .chosen) = omega (arith, c .before .before .before .before .before .before .before .before .before .before .before .before .before .pre .1, c .before .before .before .before .before .before .before .before .before .before .if1 .left) in
+    let other : entryOf (a .t5 .levels) (getD (a .prefix .now) (l .j) 0) ≡ entryOf (a .t5 .need) (getD (a .head .now) (a .state .placed) 0) → ⊥ =
+    λ q. c .if3 .taken (here-is t (c .before) ∙ q ∙ sym (c .before .before .before .before .before .before .told .ensures)) in
+    (omega (arith, l .inv .0), l .inv .1 ∙ placed-level (entryOf (a .t5 .need)) (entryOf (a .t5 .levels)) (flagged (a .t5 .gone)) (a .head .now) (a .prefix .now) (a .state .used) (a .chosen) (a .state .placed) (l .j) (c .before .before .before .before .before .before .before .before .before .before .if1 .left) (c .before .before .before .before .loop-test .taken) room other)
 
 placed-pairs-fit-requires : (t : ℕ) → placed-lts.Need-pairs-fit-requires (
   told-reads.Asked,
   told-reads.Learnt,
+  wide-reads.Asked,
+  wide-reads.Learnt,
   pairs-fit-reads.Asked,
   pairs-fit-reads.Learnt,
   is-flagged-reads.Asked,
@@ -192,6 +254,8 @@ placed-pairs-fit-requires t c κs = search needs
 placed-loop-less-2 : (t : ℕ) → placed-lts.Need-loop-less-2 (
   told-reads.Asked,
   told-reads.Learnt,
+  wide-reads.Asked,
+  wide-reads.Learnt,
   pairs-fit-reads.Asked,
   pairs-fit-reads.Learnt,
   is-flagged-reads.Asked,
@@ -206,6 +270,8 @@ placed-loop-less-2 t c = search needs
 placed-loop-again-2 : (t : ℕ) → placed-lts.Need-loop-again-2 (
   told-reads.Asked,
   told-reads.Learnt,
+  wide-reads.Asked,
+  wide-reads.Learnt,
   pairs-fit-reads.Asked,
   pairs-fit-reads.Learnt,
   is-flagged-reads.Asked,
@@ -216,20 +282,22 @@ placed-loop-again-2 : (t : ℕ) → placed-lts.Need-loop-again-2 (
   placed.Post,
 ) (placed-at t) placed.Post placed-Inv-loop placed-μ-loop
 placed-loop-again-2 t c =
-    let a = c .before .before .before .before .before .before .before .before .before .before .before .before .before .before .before .before .args in
-    let l = c .before .before .before .before .before .before .loop in
-    let eight : length (a .state .chosen) ≡ 8 = (let o = c .before .before .before .before .before .before .before .before .before .before .before .before .before .before .before .before .good in search needs) in
-    let room : a .state .placed < length (a .state .chosen) = omega (arith, c .before .before .before .before .before .before .before .before .before .before .before .before .before .before .before .before .pre .1, c .before .before .before .before .before .before .before .before .before .before .if1 .left) in
-    let level : entryOf (a .levels .now) (getD (a .prefix .now) (l .j) 0) ≡ entryOf (a .need .now) (getD (a .head .now) (a .state .placed) 0) =
-    sym (c .before .before .before .told2 .ensures) ∙ c .before .before .if2 .left ∙ c .before .before .before .before .before .before .before .told .ensures in (
+    let a = c .before .before .before .before .before .before .before .before .before .before .before .before .before .before .before .args in
+    let l = c .before .before .before .before .before .before .before .loop in
+    let eight : length (a .chosen) ≡ 8 = (let o = c .before .before .before .before .before .before .before .before .before .before .before .before .before .before .before .good in search needs) in
+    let room : a .state .placed < length (a .chosen) = omega (arith, c .before .before .before .before .before .before .before .before .before .before .before .before .before .before .before .pre .1, c .before .before .before .before .before .before .before .before .before .before .before .before .if1 .left) in
+    let level : entryOf (a .t5 .levels) (getD (a .prefix .now) (l .j) 0) ≡ entryOf (a .t5 .need) (getD (a .head .now) (a .state .placed) 0) =
+    sym (here-is t (c .before .before .before)) ∙ c .before .before .if3 .left ∙ c .before .before .before .before .before .before .before .before .told .ensures in (
       omega (arith, l .inv .0),
-      l .inv .1 ∙ placed-pairs (entryOf (a .need .now)) (entryOf (a .levels .now)) (flagged (a .gone .now)) (a .head .now) (a .prefix .now) (a .state .used) (a .state .chosen) (a .state .placed) (l .j) (c .before .before .before .before .before .before .before .before .before .before .if1 .left) (c .before .before .before .before .before .loop-test .taken) room level
-          (sym (c .before .pairs-fit .ensures) ∙ not-true _ (c .if3 .taken)),
+      l .inv .1 ∙ placed-pairs (entryOf (a .t5 .need)) (entryOf (a .t5 .levels)) (flagged (a .t5 .gone)) (a .head .now) (a .prefix .now) (a .state .used) (a .chosen) (a .state .placed) (l .j) (c .before .before .before .before .before .before .before .before .before .before .before .before .if1 .left) (c .before .before .before .before .before .before .loop-test .taken) room level
+          (sym (c .before .pairs-fit .ensures) ∙ not-true _ (c .if4 .taken)),
     )
 
 placed-array-write-next : (t : ℕ) → placed-lts.Need-array-write-next (
   told-reads.Asked,
   told-reads.Learnt,
+  wide-reads.Asked,
+  wide-reads.Learnt,
   pairs-fit-reads.Asked,
   pairs-fit-reads.Learnt,
   is-flagged-reads.Asked,
@@ -244,6 +312,8 @@ placed-array-write-next t c = search needs
 placed-is-flagged-requires : (t : ℕ) → placed-lts.Need-is-flagged-requires (
   told-reads.Asked,
   told-reads.Learnt,
+  wide-reads.Asked,
+  wide-reads.Learnt,
   pairs-fit-reads.Asked,
   pairs-fit-reads.Learnt,
   is-flagged-reads.Asked,
@@ -258,6 +328,8 @@ placed-is-flagged-requires t c κs = search needs
 placed-either-requires : (t : ℕ) → placed-lts.Need-either-requires (
   told-reads.Asked,
   told-reads.Learnt,
+  wide-reads.Asked,
+  wide-reads.Learnt,
   pairs-fit-reads.Asked,
   pairs-fit-reads.Learnt,
   is-flagged-reads.Asked,
@@ -272,6 +344,8 @@ placed-either-requires t c κs = search needs
 placed-add-count : (t : ℕ) → placed-lts.Need-add-count (
   told-reads.Asked,
   told-reads.Learnt,
+  wide-reads.Asked,
+  wide-reads.Learnt,
   pairs-fit-reads.Asked,
   pairs-fit-reads.Learnt,
   is-flagged-reads.Asked,
@@ -286,6 +360,8 @@ placed-add-count t c = search needs
 placed-placed-requires : (t : ℕ) → placed-lts.Need-placed-requires (
   told-reads.Asked,
   told-reads.Learnt,
+  wide-reads.Asked,
+  wide-reads.Learnt,
   pairs-fit-reads.Asked,
   pairs-fit-reads.Learnt,
   is-flagged-reads.Asked,
@@ -295,11 +371,13 @@ placed-placed-requires : (t : ℕ) → placed-lts.Need-placed-requires (
   placed-below t,
   placed.Post,
 ) (placed-at t) placed.Post placed-Inv-loop placed-μ-loop
-placed-placed-requires t c κs = (omega (arith, c .before .before .before .before .before .before .before .before .before .before .before .before .before .before .before .before .before .before .pre .0, c .before .before .before .before .before .before .before .before .loop .inv .0, c .before .before .before .before .before .before .before .loop-test .taken), c .before .before .before .before .before .before .before .before .before .before .before .before .before .before .before .before .before .before .pre .1)
+placed-placed-requires t c κs = (omega (arith, c .before .before .before .before .before .before .before .before .before .before .before .before .before .before .before .before .before .pre .0, c .before .before .before .before .before .before .before .before .before .loop .inv .0, c .before .before .before .before .before .before .before .before .loop-test .taken), c .before .before .before .before .before .before .before .before .before .before .before .before .before .before .before .before .before .pre .1)
 
 placed-returns-2 : (t : ℕ) → placed-lts.Need-returns-2 (
   told-reads.Asked,
   told-reads.Learnt,
+  wide-reads.Asked,
+  wide-reads.Learnt,
   pairs-fit-reads.Asked,
   pairs-fit-reads.Learnt,
   is-flagged-reads.Asked,
@@ -310,23 +388,25 @@ placed-returns-2 : (t : ℕ) → placed-lts.Need-returns-2 (
   placed.Post,
 ) (placed-at t) placed.Post placed-Inv-loop placed-μ-loop
 placed-returns-2 t c =
-    let a = c .before .before .before .before .before .before .before .before .before .before .before .before .before .before .before .before .before .before .before .before .args in
-    let l = c .before .before .before .before .before .before .before .before .before .before .loop in
+    let a = c .before .before .before .before .before .before .before .before .before .before .before .before .before .before .before .before .before .before .before .args in
+    let l = c .before .before .before .before .before .before .before .before .before .before .before .loop in
     let v : ℕ = getD (a .prefix .now) (l .j) 0 in
-    let eight : length (a .state .chosen) ≡ 8 = (let o = c .before .before .before .before .before .before .before .before .before .before .before .before .before .before .before .before .before .before .before .before .good in search needs) in
-    let room : a .state .placed < length (a .state .chosen) = omega (arith, c .before .before .before .before .before .before .before .before .before .before .before .before .before .before .before .before .before .before .before .before .pre .1, c .before .before .before .before .before .before .before .before .before .before .before .before .before .before .if1 .left) in
-    let level : entryOf (a .levels .now) v ≡ entryOf (a .need .now) (getD (a .head .now) (a .state .placed) 0) =
-    sym (c .before .before .before .before .before .before .before .told2 .ensures) ∙ c .before .before .before .before .before .before .if2 .left ∙ c .before .before .before .before .before .before .before .before .before .before .before .told .ensures in
-    let more : c .before .before .either .result ≡ a .state .used || flagged (a .gone .now) v =
+    let eight : length (a .chosen) ≡ 8 = (let o = c .before .before .before .before .before .before .before .before .before .before .before .before .before .before .before .before .before .before .before .good in search needs) in
+    let room : a .state .placed < length (a .chosen) = omega (arith, c .before .before .before .before .before .before .before .before .before .before .before .before .before .before .before .before .before .before .before .pre .1, c .before .before .before .before .before .before .before .before .before .before .before .before .before .before .before .before .if1 .left) in
+    let level : entryOf (a .t5 .levels) v ≡ entryOf (a .t5 .need) (getD (a .head .now) (a .state .placed) 0) =
+    sym (here-is t (c .before .before .before .before .before .before .before)) ∙ c .before .before .before .before .before .before .if3 .left ∙ c .before .before .before .before .before .before .before .before .before .before .before .before .told .ensures in
+    let more : c .before .before .either .result ≡ a .state .used || flagged (a .t5 .gone) v =
     c .before .before .either .ensures ∙ ap (λ (b : Bool). a .state .used || b) (c .before .before .before .is-flagged .ensures) in
-    let tried : state (entryOf (a .need .now)) (entryOf (a .levels .now)) (flagged (a .gone .now)) (a .head .now) (a .prefix .now) (a .state .used || flagged (a .gone .now) v) (set (a .state .chosen) (a .state .placed) v) (a .state .placed + 1) (l .j + 1) ≡ true =
-    ap (λ (u : Bool). state (entryOf (a .need .now)) (entryOf (a .levels .now)) (flagged (a .gone .now)) (a .head .now) (a .prefix .now) u (set (a .state .chosen) (a .state .placed) v) (a .state .placed + 1) (l .j + 1)) (sym more) ∙
-    sym (c .before .placed .ensures) ∙ c .if4 .taken in
-    sym (l .inv .1 ∙ placed-here (entryOf (a .need .now)) (entryOf (a .levels .now)) (flagged (a .gone .now)) (a .head .now) (a .prefix .now) (a .state .used) (a .state .chosen) (a .state .placed) (l .j) (c .before .before .before .before .before .before .before .before .before .before .before .before .before .before .if1 .left) (c .before .before .before .before .before .before .before .before .before .loop-test .taken) room level (sym (c .before .before .before .before .before .pairs-fit .ensures) ∙ not-false _ (c .before .before .before .before .if3 .left)) tried)
+    let tried : state (entryOf (a .t5 .need)) (entryOf (a .t5 .levels)) (flagged (a .t5 .gone)) (a .head .now) (a .prefix .now) (a .state .used || flagged (a .t5 .gone) v) (set (a .chosen) (a .state .placed) v) (a .state .placed + 1) (l .j + 1) ≡ true =
+    ap (λ (u : Bool). state (entryOf (a .t5 .need)) (entryOf (a .t5 .levels)) (flagged (a .t5 .gone)) (a .head .now) (a .prefix .now) u (set (a .chosen) (a .state .placed) v) (a .state .placed + 1) (l .j + 1)) (sym more) ∙
+    sym (c .before .placed .ensures) ∙ c .if5 .taken in
+    sym (l .inv .1 ∙ placed-here (entryOf (a .t5 .need)) (entryOf (a .t5 .levels)) (flagged (a .t5 .gone)) (a .head .now) (a .prefix .now) (a .state .used) (a .chosen) (a .state .placed) (l .j) (c .before .before .before .before .before .before .before .before .before .before .before .before .before .before .before .before .if1 .left) (c .before .before .before .before .before .before .before .before .before .before .loop-test .taken) room level (sym (c .before .before .before .before .before .pairs-fit .ensures) ∙ not-false _ (c .before .before .before .before .if4 .left)) tried)
 
 placed-loop-less-3 : (t : ℕ) → placed-lts.Need-loop-less-3 (
   told-reads.Asked,
   told-reads.Learnt,
+  wide-reads.Asked,
+  wide-reads.Learnt,
   pairs-fit-reads.Asked,
   pairs-fit-reads.Learnt,
   is-flagged-reads.Asked,
@@ -341,6 +421,8 @@ placed-loop-less-3 t c = search needs
 placed-loop-again-3 : (t : ℕ) → placed-lts.Need-loop-again-3 (
   told-reads.Asked,
   told-reads.Learnt,
+  wide-reads.Asked,
+  wide-reads.Learnt,
   pairs-fit-reads.Asked,
   pairs-fit-reads.Learnt,
   is-flagged-reads.Asked,
@@ -351,23 +433,25 @@ placed-loop-again-3 : (t : ℕ) → placed-lts.Need-loop-again-3 (
   placed.Post,
 ) (placed-at t) placed.Post placed-Inv-loop placed-μ-loop
 placed-loop-again-3 t c =
-    let a = c .before .before .before .before .before .before .before .before .before .before .before .before .before .before .before .before .before .before .before .before .args in
-    let l = c .before .before .before .before .before .before .before .before .before .before .loop in
+    let a = c .before .before .before .before .before .before .before .before .before .before .before .before .before .before .before .before .before .before .before .args in
+    let l = c .before .before .before .before .before .before .before .before .before .before .before .loop in
     let v : ℕ = getD (a .prefix .now) (l .j) 0 in
-    let eight : length (a .state .chosen) ≡ 8 = (let o = c .before .before .before .before .before .before .before .before .before .before .before .before .before .before .before .before .before .before .before .before .good in search needs) in
-    let room : a .state .placed < length (a .state .chosen) = omega (arith, c .before .before .before .before .before .before .before .before .before .before .before .before .before .before .before .before .before .before .before .before .pre .1, c .before .before .before .before .before .before .before .before .before .before .before .before .before .before .if1 .left) in
-    let level : entryOf (a .levels .now) v ≡ entryOf (a .need .now) (getD (a .head .now) (a .state .placed) 0) =
-    sym (c .before .before .before .before .before .before .before .told2 .ensures) ∙ c .before .before .before .before .before .before .if2 .left ∙ c .before .before .before .before .before .before .before .before .before .before .before .told .ensures in
-    let more : c .before .before .either .result ≡ a .state .used || flagged (a .gone .now) v =
+    let eight : length (a .chosen) ≡ 8 = (let o = c .before .before .before .before .before .before .before .before .before .before .before .before .before .before .before .before .before .before .before .good in search needs) in
+    let room : a .state .placed < length (a .chosen) = omega (arith, c .before .before .before .before .before .before .before .before .before .before .before .before .before .before .before .before .before .before .before .pre .1, c .before .before .before .before .before .before .before .before .before .before .before .before .before .before .before .before .if1 .left) in
+    let level : entryOf (a .t5 .levels) v ≡ entryOf (a .t5 .need) (getD (a .head .now) (a .state .placed) 0) =
+    sym (here-is t (c .before .before .before .before .before .before .before)) ∙ c .before .before .before .before .before .before .if3 .left ∙ c .before .before .before .before .before .before .before .before .before .before .before .before .told .ensures in
+    let more : c .before .before .either .result ≡ a .state .used || flagged (a .t5 .gone) v =
     c .before .before .either .ensures ∙ ap (λ (b : Bool). a .state .used || b) (c .before .before .before .is-flagged .ensures) in
-    let tried : state (entryOf (a .need .now)) (entryOf (a .levels .now)) (flagged (a .gone .now)) (a .head .now) (a .prefix .now) (a .state .used || flagged (a .gone .now) v) (set (a .state .chosen) (a .state .placed) v) (a .state .placed + 1) (l .j + 1) ≡ false =
-    ap (λ (u : Bool). state (entryOf (a .need .now)) (entryOf (a .levels .now)) (flagged (a .gone .now)) (a .head .now) (a .prefix .now) u (set (a .state .chosen) (a .state .placed) v) (a .state .placed + 1) (l .j + 1)) (sym more) ∙
-    sym (c .before .placed .ensures) ∙ c .if4 .left in
-    (omega (arith, l .inv .0), l .inv .1 ∙ placed-later (entryOf (a .need .now)) (entryOf (a .levels .now)) (flagged (a .gone .now)) (a .head .now) (a .prefix .now) (a .state .used) (a .state .chosen) (a .state .placed) (l .j) (c .before .before .before .before .before .before .before .before .before .before .before .before .before .before .if1 .left) (c .before .before .before .before .before .before .before .before .before .loop-test .taken) room level (sym (c .before .before .before .before .before .pairs-fit .ensures) ∙ not-false _ (c .before .before .before .before .if3 .left)) tried)
+    let tried : state (entryOf (a .t5 .need)) (entryOf (a .t5 .levels)) (flagged (a .t5 .gone)) (a .head .now) (a .prefix .now) (a .state .used || flagged (a .t5 .gone) v) (set (a .chosen) (a .state .placed) v) (a .state .placed + 1) (l .j + 1) ≡ false =
+    ap (λ (u : Bool). state (entryOf (a .t5 .need)) (entryOf (a .t5 .levels)) (flagged (a .t5 .gone)) (a .head .now) (a .prefix .now) u (set (a .chosen) (a .state .placed) v) (a .state .placed + 1) (l .j + 1)) (sym more) ∙
+    sym (c .before .placed .ensures) ∙ c .if5 .left in
+    (omega (arith, l .inv .0), l .inv .1 ∙ placed-later (entryOf (a .t5 .need)) (entryOf (a .t5 .levels)) (flagged (a .t5 .gone)) (a .head .now) (a .prefix .now) (a .state .used) (a .chosen) (a .state .placed) (l .j) (c .before .before .before .before .before .before .before .before .before .before .before .before .before .before .before .before .if1 .left) (c .before .before .before .before .before .before .before .before .before .before .loop-test .taken) room level (sym (c .before .before .before .before .before .pairs-fit .ensures) ∙ not-false _ (c .before .before .before .before .if4 .left)) tried)
 
 placed-returns-3 : (t : ℕ) → placed-lts.Need-returns-3 (
   told-reads.Asked,
   told-reads.Learnt,
+  wide-reads.Asked,
+  wide-reads.Learnt,
   pairs-fit-reads.Asked,
   pairs-fit-reads.Learnt,
   is-flagged-reads.Asked,
@@ -378,14 +462,16 @@ placed-returns-3 : (t : ℕ) → placed-lts.Need-returns-3 (
   placed.Post,
 ) (placed-at t) placed.Post placed-Inv-loop placed-μ-loop
 placed-returns-3 t c =
-    let a = c .before .before .before .before .before .before .before .before .before .before .before .args in
+    let a = c .before .before .before .before .before .before .before .before .before .args in
     let l = c .before .loop in
-    sym (l .inv .1 ∙ placed-none (entryOf (a .need .now)) (entryOf (a .levels .now)) (flagged (a .gone .now)) (a .head .now) (a .prefix .now) (a .state .used) (a .state .chosen) (a .state .placed) (l .j) (c .before .before .before .before .before .if1 .left) (c .loop-test .left))
+    sym (l .inv .1 ∙ placed-none (entryOf (a .t5 .need)) (entryOf (a .t5 .levels)) (flagged (a .t5 .gone)) (a .head .now) (a .prefix .now) (a .state .used) (a .chosen) (a .state .placed) (l .j) (c .before .before .before .before .before .before .if1 .left) (c .loop-test .left))
 
 pub +placed-spec : {M : Type 1} → statement M
 +placed-spec = close μ-placed λ t. placed-lts.spec (
   told-reads.Asked,
   told-reads.Learnt,
+  wide-reads.Asked,
+  wide-reads.Learnt,
   pairs-fit-reads.Asked,
   pairs-fit-reads.Learnt,
   is-flagged-reads.Asked,
@@ -405,7 +491,8 @@ pub +placed-spec : {M : Type 1} → statement M
     (placed-loop-holds t)
     (placed-shared-slice-read-a t)
     (placed-add-j t)
-    (placed-told-requires-2 t)
+    (placed-wide-requires t)
+    (placed-element-copy-out-here t)
     (placed-loop-less t)
     (placed-loop-again t)
     (placed-pairs-fit-requires t)

@@ -8,6 +8,7 @@ use native.Mathlib.Omega.{arith}
 use lib.ListN.{length, take, length-take}
 use lib.Seq.{length-take-le}
 use Rattle.candidate.proofs.HitLaws.{hit-short, hit-row}
+use borrow.Author.Needs.{needs}
 use Rattle.candidate.proofs.search.hits.Statement.{statement}
 use Rattle.candidate.proofs.search.hits.Tie as tie
 
@@ -24,7 +25,7 @@ array-share-prefix-row c = search needs
 
 slice-aggregate-placed : tie.Need-slice-aggregate-placed
 slice-aggregate-placed c =
-    let a = c .before .before .before .before .before .args in
+    let a = c .before .before .args in
     let eight : length (a .t1) ≡ 8 = search needs in
     sym (length-take-le (a .len - a .t) (a .t1) (omega arith))
 
@@ -33,29 +34,20 @@ array-share-prefix-prefix c = search needs
 
 slice-aggregate-placed-2 : tie.Need-slice-aggregate-placed-2
 slice-aggregate-placed-2 c =
-    let a = c .before .before .before .before .before .before .args in
+    let a = c .before .before .before .args in
     let six : length (a .t4) ≡ 6 = search needs in
     sym (length-take-le (a .k) (a .t4) (omega arith))
 
-slice-aggregate-placed-3 : tie.Need-slice-aggregate-placed-3
-slice-aggregate-placed-3 c = search needs
-
-slice-aggregate-placed-4 : tie.Need-slice-aggregate-placed-4
-slice-aggregate-placed-4 c = search needs
-
-slice-aggregate-placed-5 : tie.Need-slice-aggregate-placed-5
-slice-aggregate-placed-5 c = search needs
-
 placed-requires : tie.Need-placed-requires
 placed-requires c κs =
-    let a = c .before .before .before .before .before .before .before .before .before .args in
+    let a = c .before .before .before .args in
     let eight : length (a .t1) ≡ 8 = search needs in
     omega (arith, length-take-le (a .len - a .t) (a .t1) (omega arith))
 
 returns-2 : tie.Need-returns-2
 returns-2 c =
-    let a = c .before .before .before .before .before .before .before .before .before .before .args in
-    let eight : length (a .t1) ≡ 8 = (let o = c .before .before .before .before .before .before .before .before .before .before .good in search needs) in
+    let a = c .before .before .before .before .args in
+    let eight : length (a .t1) ≡ 8 = (let o = c .before .before .before .before .good in search needs) in
     λ R g r e. c .placed .ensures ∙ sym (hit-row (take (a .k) (a .t4)) R g (a .t1) (a .len) (a .t) (a .tables .levels) (a .tables .gone) (a .tables .need) (omega arith) r e (omega arith))
 
 pub hits-spec : {M : Type 1} → statement M
@@ -68,8 +60,5 @@ hits-spec =
     slice-aggregate-placed
     array-share-prefix-prefix
     slice-aggregate-placed-2
-    slice-aggregate-placed-3
-    slice-aggregate-placed-4
-    slice-aggregate-placed-5
     placed-requires
     returns-2)

@@ -13,11 +13,11 @@ use Rattle.candidate.proofs.tables.kept.Statement.{statement}
 use Rattle.candidate.proofs.tables.kept.Tie as tie
 
 abbrev Inv-loop : tie.InvT-loop
-Inv-loop k prefix levels gone entries₀ n₀ i₀ entries n i =
+Inv-loop k levels gone prefix entries₀ n₀ i₀ entries n i =
     (i ≤ k) × (n ≤ i) × (length entries ≡ 20) × (take n entries ++ keptValues levels gone (drop i (take k prefix)) ≡ keptValues levels gone (take k prefix))
 
 abbrev μ-loop : tie.MeasureT-loop
-μ-loop k prefix levels gone entries₀ n₀ i₀ entries n i = k - i
+μ-loop k levels gone prefix entries₀ n₀ i₀ entries n i = k - i
 
 loop-holds : tie.Need-loop-holds Inv-loop μ-loop
 loop-holds c = search needs
@@ -25,14 +25,8 @@ loop-holds c = search needs
 array-read-a : tie.Need-array-read-a Inv-loop μ-loop
 array-read-a c = search needs
 
-slice-aggregate-told : tie.Need-slice-aggregate-told Inv-loop μ-loop
-slice-aggregate-told c = search needs
-
 told-requires : tie.Need-told-requires Inv-loop μ-loop
 told-requires c κs = search needs
-
-slice-aggregate-told-2 : tie.Need-slice-aggregate-told-2 Inv-loop μ-loop
-slice-aggregate-told-2 c = search needs
 
 told-requires-2 : tie.Need-told-requires-2 Inv-loop μ-loop
 told-requires-2 c κs = search needs
@@ -54,18 +48,18 @@ loop-less c = search needs
 
 loop-again : tie.Need-loop-again Inv-loop μ-loop
 loop-again c =
-    let a = c .before .before .before .before .before .before .before .before .args in
-    let l = c .before .before .before .before .before .before .before .loop in
+    let a = c .before .before .before .before .before .before .args in
+    let l = c .before .before .before .before .before .loop in
     let six : length (a .t1) ≡ 6 = search needs in
-    let stays = sym (c .before .before .before .before .told .ensures) ∙ c .before .before .before .if1 .taken in
-    let value : c .added .result ≡ min (getD (a .t1) (l .i) 0 + getD (a .t3) (getD (a .t1) (l .i) 0) 0) 255 =
+    let stays = sym (c .before .before .before .told .ensures) ∙ c .before .before .if1 .taken in
+    let value : c .added .result ≡ min (getD (a .t1) (l .i) 0 + getD (a .levels) (getD (a .t1) (l .i) 0) 0) 255 =
     c .added .ensures ∙ ap (λ (x : ℕ). min (getD (a .t1) (l .i) 0 + x) 255) (c .before .told2 .ensures) in (
       search needs,
       search needs,
       search needs,
-      push (l .entries) (l .n) (c .added .result) (keptValues (a .t3) (a .t4) (drop (l .i + 1) (take (a .k) (a .t1))))
-          (keptValues (a .t3) (a .t4) (drop (l .i) (take (a .k) (a .t1)))) (keptValues (a .t3) (a .t4) (take (a .k) (a .t1))) (omega arith)
-          (rw value (kept-here (a .t3) (a .t4) (a .t1) (a .k) (l .i) (omega arith) (omega arith) stays)) (l .inv .3),
+      push (l .entries) (l .n) (c .added .result) (keptValues (a .levels) (a .gone) (drop (l .i + 1) (take (a .k) (a .t1))))
+          (keptValues (a .levels) (a .gone) (drop (l .i) (take (a .k) (a .t1)))) (keptValues (a .levels) (a .gone) (take (a .k) (a .t1))) (omega arith)
+          (rw value (kept-here (a .levels) (a .gone) (a .t1) (a .k) (l .i) (omega arith) (omega arith) stays)) (l .inv .3),
     )
 
 add-i-2 : tie.Need-add-i-2 Inv-loop μ-loop
@@ -76,14 +70,14 @@ loop-less-2 c = search needs
 
 loop-again-2 : tie.Need-loop-again-2 Inv-loop μ-loop
 loop-again-2 c =
-    let a = c .before .before .before .before .before .args in
-    let l = c .before .before .before .before .loop in
+    let a = c .before .before .before .before .args in
+    let l = c .before .before .before .loop in
     let six : length (a .t1) ≡ 6 = search needs in (
       search needs,
       search needs,
       search needs,
       ap (λ (v : List ℕ). take (l .n) (l .entries) ++ v)
-          (sym (kept-gone (a .t3) (a .t4) (a .t1) (a .k) (l .i) (omega arith) (omega arith)
+          (sym (kept-gone (a .levels) (a .gone) (a .t1) (a .k) (l .i) (omega arith) (omega arith)
           (λ q. c .if1 .left (c .before .told .ensures ∙ q)))) ∙ l .inv .3,
     )
 
@@ -93,8 +87,8 @@ returns c =
     let l = c .before .loop in
     let six : length (a .t1) ≡ 6 = search needs in (
       omega arith,
-      pushed (l .entries) (l .n) (keptValues (a .t3) (a .t4) (drop (l .i) (take (a .k) (a .t1)))) (keptValues (a .t3) (a .t4) (take (a .k) (a .t1)))
-          (kept-end (a .t3) (a .t4) (a .t1) (a .k) (l .i) (omega arith) (omega arith)) (l .inv .3),
+      pushed (l .entries) (l .n) (keptValues (a .levels) (a .gone) (drop (l .i) (take (a .k) (a .t1)))) (keptValues (a .levels) (a .gone) (take (a .k) (a .t1)))
+          (kept-end (a .levels) (a .gone) (a .t1) (a .k) (l .i) (omega arith) (omega arith)) (l .inv .3),
     )
 
 pub kept-spec : {M : Type 1} → statement M
@@ -105,9 +99,7 @@ kept-spec =
     μ-loop
     loop-holds
     array-read-a
-    slice-aggregate-told
     told-requires
-    slice-aggregate-told-2
     told-requires-2
     added-requires
     array-write-entries

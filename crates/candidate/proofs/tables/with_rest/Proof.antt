@@ -26,9 +26,6 @@ abbrev μ-loop : tie.MeasureT-loop
 loop-holds : tie.Need-loop-holds Inv-loop μ-loop
 loop-holds c = (search needs, search needs, search needs, search needs, λ g r. refl)
 
-slice-aggregate-told : tie.Need-slice-aggregate-told Inv-loop μ-loop
-slice-aggregate-told c = search needs
-
 array-read-told : tie.Need-array-read-told Inv-loop μ-loop
 array-read-told c = search needs
 
@@ -55,8 +52,8 @@ loop-less c = search needs
 
 loop-again : tie.Need-loop-again Inv-loop μ-loop
 loop-again c =
-    let a = c .before .before .before .before .before .before .before .before .before .args in
-    let l = c .before .before .before .before .before .loop in
+    let a = c .before .before .before .before .before .before .before .before .args in
+    let l = c .before .before .before .before .loop in
     let eight : length (a .t2) ≡ 8 = search needs in (
       search needs,
       search needs,
@@ -91,7 +88,6 @@ with-rest-spec =
     Inv-loop
     μ-loop
     loop-holds
-    slice-aggregate-told
     array-read-told
     told-requires
     capped-requires
