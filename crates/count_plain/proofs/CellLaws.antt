@@ -34,7 +34,8 @@ use Rattle.count_rows.specs.Rows.{Solves, sumFrom}
 use Rattle.count_plain.specs.Pieces.{splitAt, HeldAt}
 use Rattle.count_plain.specs.Reading.{CellAt, Evaluates, Sums}
 
--- twice the number that falls at each cell: "eight times the length less the prefix length falls at each cell" (01)
+-- twice the number that falls at each cell: "eight times the length less the prefix length falls at
+-- each cell" (01)
 abbrev pub measureOf : List ℕ → ℕ → ℕ → ℕ
 measureOf sheet e t = 2 * (8 * (fieldOf sheet e 0 + t) - fieldOf sheet e 0)
 

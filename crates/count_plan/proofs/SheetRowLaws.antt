@@ -1,4 +1,5 @@
--- The sheet that was written is the sheet that is read, and it is a plan with the places of the entries.
+-- The sheet that was written is the sheet that is read, and it is a plan with the places of the
+-- entries.
 -- Assumes nothing.
 use Prim.Native.Nat.{ℕ, zero, suc, _+_, _*_, _-_, _%_, _≤_, _<_}
 use native.Mathlib.Nat.{mod-eq-of-lt}

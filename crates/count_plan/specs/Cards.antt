@@ -1,4 +1,5 @@
--- What is looked up for an entry: the indices of the entries of its children, or of its target. Definitions only.
+-- What is looked up for an entry: the indices of the entries of its children, or of its target.
+-- Definitions only.
 use Prim.Native.Nat.{ℕ, suc, _-_, _<_}
 use mathlib.Core.Path.{_≡_}
 use mathlib.Core.Bool.{cond}

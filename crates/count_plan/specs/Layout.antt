@@ -20,7 +20,8 @@ prefixAt s i = (entryAt s i) .prefix
 abbrev pub lengthAt : Scheme → ℕ → ℕ
 lengthAt s i = (getD (s .entries) i noEntry) .length
 
--- where in a row of length at most n the cells of the entry with index i begin: C(n, k) cells for each entry before it, k being its length
+-- where in a row of length at most n the cells of the entry with index i begin: C(n, k) cells for
+-- each entry before it, k being its length
 unfoldable pub placeAt : ℕ → Scheme → ℕ → ℕ
 unfolding binomial
 placeAt n s zero = 0

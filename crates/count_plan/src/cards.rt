@@ -23,8 +23,9 @@ ghost use Rattle.forms.specs.SchemeMemory.{entryIn};
 ghost use Rattle.scheme.specs.Links.{LinkedEntry};
 ghost use Rattle.count_plan.specs.Cards.{Coded, indexFound, indexIn, ChildLinks, Expands, Deletes, Shorter, EntryCard};
 
-// What counting has to know of an entry beside its gap vectors: its length; the value that it deletes, or 0; what it has at total 0 where it
-// expands; the indices of the entries of its children, in the order of their last entries, or of its target.
+// What counting has to know of an entry beside its gap vectors: its length; the value that it
+// deletes, or 0; what it has at total 0 where it expands; the indices of the entries of its
+// children, in the order of their last entries, or of its target.
 pub struct Card {
     pub length: usize,
     pub deleted: usize,

@@ -14,7 +14,8 @@ ghost use Rattle.scheme.specs.Proper.{Proper};
 // The places of all entries, and one for the width.
 pub const PLACES: usize = ENTRIES + 1;
 
-// Where in a row the cells of each entry begin; the place behind the last entry is the number of cells of a row.
+// Where in a row the cells of each entry begin; the place behind the last entry is the number of
+// cells of a row.
 pub fn places_of(s: Scheme, n: usize, b: &[usize]) -> [usize; PLACES]
     requires { ⌜ Proper (schemeIn s) × (n ≤ LENGTH) × Pascal (now b) ⌝ }
     ensures { λ r. ⌜ Places n s r ⌝ }

@@ -1,4 +1,5 @@
--- What an entry is given in a row, and a row in a run: links counted from a place in the table, the task of an entry.
+-- What an entry is given in a row, and a row in a run: links counted from a place in the table, the
+-- task of an entry.
 -- Assumes nothing.
 use Prim.Native.Nat.{ℕ, zero, suc, _+_, _-_, _≤_, _<_}
 use native.Mathlib.Omega.{arith}

@@ -1,6 +1,7 @@
--- "with no sum overflowing" (demand 3). The step and the plain evaluation add the values at next entries
--- one after the other: each sum that they make is a sum over n next entries from the q-th on. In an accepted
--- scheme it is at most the size of the cell, so at most 20!, and 20! is below 2 ^ 64: no sum meets its cap.
+-- "with no sum overflowing" (demand 3). The step and the plain evaluation add the values at next
+-- entries one after the other: each sum that they make is a sum over n next entries from the q-th
+-- on. In an accepted scheme it is at most the size of the cell, so at most 20!, and 20! is below 2
+-- ^ 64: no sum meets its cap.
 use Prim.Native.Nat.{ℕ, zero, suc, _+_, _-_, _≤_, _<_}
 use native.Mathlib.Omega.{arith}
 use mathlib.Core.Path.{_≡_, refl, sym, ap, _∙_}

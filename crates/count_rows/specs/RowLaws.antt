@@ -1,4 +1,5 @@
--- The rows of the table: which cells are apart, what a step stores, and how one state follows another.
+-- The rows of the table: which cells are apart, what a step stores, and how one state follows
+-- another.
 use Prim.Native.Nat.{ℕ, zero, suc, _+_, _*_, _-_, _%_, _≤_, _<_}
 use native.Mathlib.Nat.{suc-mod, zero-mul, one-mul}
 use native.Mathlib.Omega.{arith}

@@ -22,7 +22,8 @@ use Rattle.count_plan.specs.Plan.{Item, Plan}
 use Rattle.forms.specs.SchemeMemory.{schemeIn}
 use Rattle.scheme.specs.Proper.{Proper}
 
--- the block that an entry reads: its children's values stand in the row that is filled, its target's in the row before
+-- the block that an entry reads: its children's values stand in the row that is filled, its
+-- target's in the row before
 abbrev pub readsFrom : Item → ℕ → ℕ → ℕ
 readsFrom t here before = cond (eqb (t .deleted) 0) here before
 
@@ -60,8 +61,8 @@ Holds v n s T j d =
 abbrev pub RowDone : (List ℕ → List ℕ → ℕ) → ℕ → Scheme → List ℕ → ℕ → Type 0
 RowDone v n s T j = (d : ℕ) → d < s .count → Holds v n s T j d
 
--- The state of the table while row j is filled: the row before it is there, if there is one; of row j the cells of all entries longer than k, and
--- of those of length k with an index below e.
+-- The state of the table while row j is filled: the row before it is there, if there is one; of row
+-- j the cells of all entries longer than k, and of those of length k with an index below e.
 pub record State (v : List ℕ → List ℕ → ℕ) (n : ℕ) (s : Scheme) (j k e : ℕ) (T : List ℕ) : Type 0 where
   pub room : 2 * widthOf n s ≤ length T
   pub before : (i : ℕ) → suc i ≡ j → RowDone v n s T i
@@ -73,7 +74,8 @@ pub record Kept (n : ℕ) (s : Scheme) (T₀ T : List ℕ) : Type 0 where
   pub size : length T ≡ length T₀
   pub same : (i : ℕ) → 2 * widthOf n s ≤ i → getD T i 0 ≡ getD T₀ i 0
 
--- What a row is filled with. The scheme and its plan are those of a count up to n for the patterns P.
+-- What a row is filled with. The scheme and its plan are those of a count up to n for the patterns
+-- P.
 pub record Setting (s : Scheme) (items : ℕ → Item) (j here before : ℕ) : Type 0 where
   pub n : ℕ
   pub P : List (List ℕ)
@@ -107,7 +109,8 @@ pub record Top (j r : ℕ) : Type 0 where
   pub reach : r ≤ j + 1
   pub all : (PREFIX < r) ⊎ (j < r)
 
--- the row j is filled as far as the entries of length k, for every function that solves the recursion
+-- the row j is filled as far as the entries of length k, for every function that solves the
+-- recursion
 abbrev pub RowGoesTo : (s : Scheme) (items : ℕ → Item) (j here before k : ℕ) → List ℕ → List ℕ → Type 0
 RowGoesTo s items j here before k T₀ T =
     (r : Setting s items j here before) (v : List ℕ → List ℕ → ℕ) → Solves v (r .P) s → 2 * widthOf (r .n) s ≤ length T₀ →

@@ -14,7 +14,8 @@ use Rattle.forms.specs.SchemeMemory.{schemeIn}
 use Rattle.scheme.specs.Proper.{Proper}
 use Rattle.count_rows.specs.Rows.{Solves, RowDone, Kept}
 
--- what a run up to n is given: the scheme, its plan for the patterns P, the width of a row, and where the cells of ε begin
+-- what a run up to n is given: the scheme, its plan for the patterns P, the width of a row, and
+-- where the cells of ε begin
 pub record Outlook (s : Scheme) (items : ℕ → Item) (n width root : ℕ) : Type 0 where
   pub P : List (List ℕ)
   pub proper : Proper (schemeIn s)
@@ -36,7 +37,8 @@ RunTo s items n width root j T₀ T counts =
     (o : Outlook s items n width root) (v : List ℕ → List ℕ → ℕ) → Solves v (o .P) s → 2 * width ≤ length T₀ →
     ((i : ℕ) → suc i ≡ j → RowDone v n s T i) × Counted v j counts × Kept n s T₀ T
 
--- m zeros in front of what the table has behind them: "After a count those cells hold 0, the rest being untouched" (01)
+-- m zeros in front of what the table has behind them: "After a count those cells hold 0, the rest
+-- being untouched" (01)
 abbrev pub cleared : ℕ → List ℕ → List ℕ
 cleared m T = replicate m 0 ++ drop m T
 

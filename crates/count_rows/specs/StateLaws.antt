@@ -1,4 +1,5 @@
--- How one state of the table follows another: the cells of one entry, an entry of another length, the next length, the whole row.
+-- How one state of the table follows another: the cells of one entry, an entry of another length,
+-- the next length, the whole row.
 use Prim.Native.Nat.{ℕ, suc, _+_, _*_, _-_, _≤_, _<_}
 use native.Mathlib.Omega.{arith}
 use mathlib.Core.Path.{_≡_, refl, sym, ap, ap₂, _∙_}

@@ -22,7 +22,8 @@ ghost use Rattle.count_plan.specs.SheetRows.{fieldOf, linksAt, itemOf};
 ghost use Rattle.count_rows.specs.Rows.{EntryFilled};
 ghost use Rattle.count_rows.specs.Given.{taskOf, EntryGiven};
 
-// A row of the table: its length, where it begins, where the row before it begins, and the number of entries.
+// A row of the table: its length, where it begins, where the row before it begins, and the number
+// of entries.
 pub struct RowAt {
     pub length: usize,
     pub here: usize,
@@ -37,7 +38,8 @@ fn offset_of(deleted: usize, here: usize, before: usize) -> usize
     if deleted == 0 { here } else { before }
 }
 
-// Where the cells of each entry begin that the links of an entry name, in the row that begins at `offset`.
+// Where the cells of each entry begin that the links of an entry name, in the row that begins at
+// `offset`.
 fn links_from(sheet: &[u8], places: &[usize], e: usize, offset: usize) -> [usize; LINKS]
     requires { ⌜ (e < ENTRIES) × (length (now sheet) ≡ SHEET) × (offset ≤ NEAR) × ((a : ℕ) → getD (linksAt (now sheet) (now places) e) a 0 ≤ NEAR) ⌝ }
     ensures { λ r. ⌜ r ≡ map (λ x. offset + x) (linksAt (now (sheet .entry)) (now (places .entry)) e) ⌝ }

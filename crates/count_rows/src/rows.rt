@@ -1,6 +1,8 @@
-// One row of the table. The value at the entry with index d and the spacing g stands, in the row of length j, in the cell with index
-// (j mod 2) * width + place + rank: `width` is the sum of C(n, k) over all entries, `place` that over the entries before d, and `rank` the rank of g.
-// Longer entries come first, so that children are there before their parents; targets stand in the row before.
+// One row of the table. The value at the entry with index d and the spacing g stands, in the row of
+// length j, in the cell with index (j mod 2) * width + place + rank: `width` is the sum of C(n, k)
+// over all entries, `place` that over the entries before d, and `rank` the rank of g. Longer
+// entries come first, so that children are there before their parents; targets stand in the row
+// before.
 use crate::entry::RowAt;
 use crate::entry::fill_entry;
 use count_plan::reading::field;

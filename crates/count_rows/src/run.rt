@@ -25,7 +25,8 @@ ghost use Rattle.scheme.specs.Proper.{Proper};
 ghost use Rattle.count_rows.specs.Run.{cleared, Counts};
 ghost use Rattle.count_rows.specs.Given.{RunGiven, RunFilledTo};
 
-// What all rows share: the largest length, the width of a row, where in a row the cells of ε begin, and the number of entries.
+// What all rows share: the largest length, the width of a row, where in a row the cells of ε begin,
+// and the number of entries.
 pub struct Frame {
     pub last: usize,
     pub width: usize,
@@ -33,7 +34,8 @@ pub struct Frame {
     pub entries: usize,
 }
 
-// Fills the rows from 0 to the last, each in the block that the row before the last one had, and keeps the value at ε of each.
+// Fills the rows from 0 to the last, each in the block that the row before the last one had, and
+// keeps the value at ε of each.
 fn run(table: &mut [u64], sheet: &[u8], places: &[usize], f: Frame, b: &[usize]) -> [u64; COUNTS]
     requires { ⌜ RunGiven (now sheet) (now places) f × Pascal (now b) ⌝ }
     ensures { λ r. ⌜ RunFilledTo (now (sheet .entry)) (now (places .entry)) f (f .last + 1) (now (table .entry)) (now (table .exit)) r ⌝ }
@@ -81,8 +83,8 @@ pub fn need(s: Scheme, n: usize) -> usize
     2 * place_at(&places, s.count)
 }
 
-// The counts for the lengths from 0 to n of a scheme that is accepted for the patterns; the needed cells of the table hold 0 afterwards, the others what
-// they held.
+// The counts for the lengths from 0 to n of a scheme that is accepted for the patterns; the needed
+// cells of the table hold 0 afterwards, the others what they held.
 pub fn counts(
     set: [[u8; DIGITS]; PATTERNS],
     lengths: [u8; PATTERNS],

@@ -1,4 +1,5 @@
--- The proof of the cycle of calls {cell, next_sum}. The measure is twice the number that falls at each cell, for the sum one less.
+-- The proof of the cycle of calls {cell, next_sum}. The measure is twice the number that falls at
+-- each cell, for the sum one less.
 -- Assumes nothing.
 use denote.Ref.{now}
 use borrow.Author.Needs.{needs}
