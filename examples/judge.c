@@ -1,15 +1,18 @@
-/* Judges a scheme for a set of patterns: the set stands in the first file, the scheme in the second, each as one line of text.
-   Prints `accepted`, or `refused`, the number of the refusal and its word. The exit status is 0, 1 where the scheme is refused, and
-   2 where a file cannot be read. */
+/* Judges a scheme for a set of patterns: the set stands in the first file, the scheme in the
+   second, each as one line of text. Prints `accepted`, or `refused`, the number of the refusal and
+   its word. The exit status is 0, 1 where the scheme is refused, and 2 where a file cannot be
+   read. */
 #include "judge.h"
 
 #include <stdio.h>
 #include <stdlib.h>
 
-static const char *const words[] = {"accepted", "misspelt", "oversize", "no permutation", "repeated", "rootless", "width",
-                                    "no position", "childless", "no target", "live gap", "irreversible"};
+static const char *const words[] = {
+    "accepted", "misspelt", "oversize", "no permutation", "repeated", "rootless", "width",
+    "no position", "childless", "no target", "live gap", "irreversible"};
 
-/* The content of a file without the end of its last line; its length goes to *length. Null where it cannot be read. */
+/* The content of a file without the end of its last line; its length goes to *length. Null where
+   it cannot be read. */
 static uint8_t *content(const char *name, size_t *length) {
   FILE *file = fopen(name, "rb");
   uint8_t *bytes = NULL;
@@ -47,7 +50,8 @@ int main(int count, char **arguments) {
   if (answer == 0)
     printf("accepted\n");
   else
-    printf("refused %u %s\n", (unsigned)answer, answer < sizeof words / sizeof *words ? words[answer] : "");
+    printf("refused %u %s\n", (unsigned)answer,
+           answer < sizeof words / sizeof *words ? words[answer] : "");
   free(patterns);
   free(scheme);
   return answer != 0;

@@ -1,4 +1,5 @@
-//! Links the engine: the static libraries that `rt staticlib kernel` and `rt staticlib twin_exports` make, or those in the folder that ENGINE names.
+//! Links the engine: the static libraries that `rt staticlib kernel` and `rt staticlib
+//! twin_exports` make, or those in the folder that ENGINE names.
 use std::env;
 use std::path::PathBuf;
 

@@ -1,4 +1,5 @@
-//! Counting: one pass over the lengths, in rows of cells that are ranked by their sets of first values; and plain evaluation.
+//! Counting: one pass over the lengths, in rows of cells that are ranked by their sets of first
+//! values; and plain evaluation.
 
 use crate::judging::{avoids, judge};
 use crate::model::*;
@@ -27,7 +28,8 @@ pub fn need(scheme: &Scheme, n: usize) -> u64 {
 
 /// What is done at the cells of an entry.
 enum Step {
-    /// the places of the children, by the number of first values below the new one; the value at total 0
+    /// the places of the children, by the number of first values below the new one; the value at
+    /// total 0
     Sum([usize; PREFIX_LENGTH + 1], u64),
     /// the place of the target; which of the sorted first values goes, from 0
     Take(usize, usize),
@@ -58,7 +60,8 @@ struct Plan<'a> {
     step: Step,
 }
 
-/// The entries by falling prefix length, each with its place in a row of cells for lengths up to n; and the width of a row.
+/// The entries by falling prefix length, each with its place in a row of cells for lengths up to n;
+/// and the width of a row.
 fn plans<'a>(patterns: &Patterns, scheme: &'a Scheme, n: usize, c: &Binomials) -> (Vec<Plan<'a>>, usize) {
     let entries = &scheme.entries[..];
     let mut places = Vec::with_capacity(entries.len());
@@ -75,7 +78,8 @@ fn plans<'a>(patterns: &Patterns, scheme: &'a Scheme, n: usize, c: &Binomials) -
     (plans, width)
 }
 
-/// The counts for 0 to n. The scheme is accepted and the table has the cells that n needs, which hold 0 afterwards.
+/// The counts for 0 to n. The scheme is accepted and the table has the cells that n needs, which
+/// hold 0 afterwards.
 pub fn counts(patterns: &Patterns, scheme: &Scheme, n: usize, table: &mut [u64]) -> Vec<u64> {
     let c = binomials();
     let (plans, width) = plans(patterns, scheme, n, &c);
@@ -95,8 +99,8 @@ pub fn counts(patterns: &Patterns, scheme: &Scheme, n: usize, table: &mut [u64])
     counts
 }
 
-/// Fills the cells of an entry at length j. A cell is its set of first values, from 0 and ascending, with a sentinel behind: at rank
-/// C(c0, 1) + C(c1, 2) + ..
+/// Fills the cells of an entry at length j. A cell is its set of first values, from 0 and
+/// ascending, with a sentinel behind: at rank C(c0, 1) + C(c1, 2) + ..
 fn fill(plan: &Plan, j: usize, row: &mut [u64], before: &[u64], c: &Binomials) {
     let k = plan.length;
     let mut set = [0usize; PREFIX_LENGTH + 1];
@@ -181,7 +185,8 @@ pub fn count(patterns: &Patterns, scheme: &Scheme, n: usize, table: &mut [u64]) 
     Ok(counts(patterns, scheme, n, table)[n])
 }
 
-/// Counts for n up to 9 without a table: a cell asks for its children's sum, and the sum asks for cells.
+/// Counts for n up to 9 without a table: a cell asks for its children's sum, and the sum asks for
+/// cells.
 pub fn plain(patterns: &Patterns, scheme: &Scheme, n: usize) -> Result<u64, Refusal> {
     judge(patterns, scheme)?;
     if n > LONGEST_PLAIN {

@@ -1,4 +1,5 @@
-//! The engine: the functions of its static library, declared here and nowhere else, and its programs.
+//! The engine: the functions of its static library, declared here and nowhere else, and its
+//! programs.
 
 use std::io::Write;
 use std::path::{Path, PathBuf};
@@ -21,13 +22,7 @@ mod library {
             table: *mut u64,
             cells: usize,
         ) -> u64;
-        pub fn count_texts_plainly(
-            patterns: *const u8,
-            patterns_length: usize,
-            scheme: *const u8,
-            scheme_length: usize,
-            n: usize,
-        ) -> u64;
+        pub fn count_texts_plainly(patterns: *const u8, patterns_length: usize, scheme: *const u8, scheme_length: usize, n: usize) -> u64;
     }
 }
 
@@ -46,7 +41,8 @@ fn start(text: &[u8]) -> *const u8 {
     }
 }
 
-/// Counting: the two texts, n and the table; the count, or the number of the refusal. Plain evaluation: the same without a table.
+/// Counting: the two texts, n and the table; the count, or the number of the refusal. Plain
+/// evaluation: the same without a table.
 pub type Count = fn(&[u8], &[u8], usize, &mut [u64]) -> Result<u64, u32>;
 pub type Plain = fn(&[u8], &[u8], usize) -> Result<u64, u32>;
 
@@ -55,25 +51,15 @@ pub const COUNT: Option<Count> = Some(count);
 pub const PLAIN: Option<Plain> = Some(plain);
 
 fn count(patterns: &[u8], scheme: &[u8], n: usize, table: &mut [u64]) -> Result<u64, u32> {
-    // The library reads the two texts and writes the table, each within its length, and keeps none of them.
-    let code = unsafe {
-        library::count_texts(
-            start(patterns),
-            patterns.len(),
-            start(scheme),
-            scheme.len(),
-            n,
-            table.as_mut_ptr(),
-            table.len(),
-        )
-    };
+    // The library reads the two texts and writes the table, each within its length, and keeps none
+    // of them.
+    let code = unsafe { library::count_texts(start(patterns), patterns.len(), start(scheme), scheme.len(), n, table.as_mut_ptr(), table.len()) };
     answer(code)
 }
 
 fn plain(patterns: &[u8], scheme: &[u8], n: usize) -> Result<u64, u32> {
     // As for `judge`.
-    let code =
-        unsafe { library::count_texts_plainly(start(patterns), patterns.len(), start(scheme), scheme.len(), n) };
+    let code = unsafe { library::count_texts_plainly(start(patterns), patterns.len(), start(scheme), scheme.len(), n) };
     answer(code)
 }
 

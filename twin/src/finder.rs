@@ -1,12 +1,13 @@
-//! A small finder of schemes: from ε on, each prefix that is asked for gets its minimal empty gap vectors and the smallest deletable position, or
-//! expands.
+//! A small finder of schemes: from ε on, each prefix that is asked for gets its minimal empty gap
+//! vectors and the smallest deletable position, or expands.
 
 use crate::judging::{basis, covered, each_spacing, is_empty, violated};
 use crate::model::*;
 use crate::word::{child, deleted};
 use std::collections::BTreeMap;
 
-/// A scheme for the set with the prefixes that are asked for, or None if it needs prefixes beyond the depth. Gap vectors have at most the total.
+/// A scheme for the set with the prefixes that are asked for, or None if it needs prefixes beyond
+/// the depth. Gap vectors have at most the total.
 pub fn find(patterns: &[Pattern], more: &[Prefix], depth: usize, total: usize) -> Option<Vec<Entry>> {
     let basis = basis(patterns);
     let mut found = BTreeMap::new();

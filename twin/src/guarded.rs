@@ -1,4 +1,5 @@
-//! Memory that ends at a page which cannot be read: a text that stands at its end cannot be read past.
+//! Memory that ends at a page which cannot be read: a text that stands at its end cannot be read
+//! past.
 
 use std::ffi::c_void;
 

@@ -43,7 +43,8 @@ fn spaced(pair: &Pair, mut spaces: impl FnMut() -> usize) -> (Vec<u8>, Vec<u8>) 
     (join(pattern_pieces(&pair.patterns)), join(scheme_pieces(&pair.entries)))
 }
 
-/// The inputs that every run has: the published schemes, a space in every place, and both sides of each ceiling.
+/// The inputs that every run has: the published schemes, a space in every place, and both sides of
+/// each ceiling.
 pub fn fixed() -> Vec<Case> {
     let mut cases = vec![];
     for p in published() {
@@ -325,7 +326,7 @@ impl Maker {
     }
 
     /// The next random input.
-    pub fn next(&mut self) -> Case {
+    pub fn next_case(&mut self) -> Case {
         let kind = self.random.below(20);
         if kind == 0 {
             let pair = self.found();

@@ -65,7 +65,8 @@ fn compared(entry: &Entry, m: usize) -> usize {
     count
 }
 
-/// Goes through the spacings of a width and total, in lexicographic order, until the test says yes; whether it did.
+/// Goes through the spacings of a width and total, in lexicographic order, until the test says yes;
+/// whether it did.
 pub fn each_spacing(width: usize, total: usize, test: &mut impl FnMut(&[u8]) -> bool) -> bool {
     let mut g = [0u8; COMPONENTS];
     let g = &mut g[..width];
@@ -74,7 +75,8 @@ pub fn each_spacing(width: usize, total: usize, test: &mut impl FnMut(&[u8]) -> 
         if test(g) {
             return true;
         }
-        // The next one: the last component that is not 0 gives one to its left neighbour, and the rest of it goes to the end.
+        // The next one: the last component that is not 0 gives one to its left neighbour, and the
+        // rest of it goes to the end.
         let Some(last) = g.iter().rposition(|x| *x > 0) else { return false };
         if last == 0 {
             return false;
@@ -121,8 +123,9 @@ pub fn is_empty(basis: &[Pattern], prefix: &[u8], b: &[u16]) -> bool {
     !avoids(basis, &word[..k]) || !completable(basis, &mut word, k, unused)
 }
 
-/// Whether some order of the unused values, appended to the first k entries of the word, gives an avoider. The word avoids. A value that cannot
-/// follow now cannot follow later, so one such value ends the search.
+/// Whether some order of the unused values, appended to the first k entries of the word, gives an
+/// avoider. The word avoids. A value that cannot follow now cannot follow later, so one such value
+/// ends the search.
 fn completable(basis: &[Pattern], word: &mut [u8; 32], k: usize, unused: u32) -> bool {
     if unused == 0 {
         return true;
@@ -174,9 +177,10 @@ fn cut(pattern: &Pattern, total: usize) -> Cut<'_> {
     Cut { pattern, head, below, tail }
 }
 
-/// Whether deleting position r is no bijection for some spacing at or above no vector. There is such a spacing exactly if there is one of these:
-/// a prefix at a spacing g followed by as many values as g has, in the order of the last entries of a pattern, with a copy of the pattern through
-/// position r and all the last entries, while the word without position r avoids.
+/// Whether deleting position r is no bijection for some spacing at or above no vector. There is
+/// such a spacing exactly if there is one of these: a prefix at a spacing g followed by as many
+/// values as g has, in the order of the last entries of a pattern, with a copy of the pattern
+/// through position r and all the last entries, while the word without position r avoids.
 pub fn violated(basis: &[Pattern], prefix: &[u8], vectors: &[Vector], r: usize) -> bool {
     let k = prefix.len();
     (0..longest(basis)).any(|total| {
@@ -225,7 +229,8 @@ fn rest_avoids(basis: &[Pattern], prefix: &[u8], g: &[u8], r: usize, total: usiz
     !contains(cut.pattern.items(), word) && avoids(basis, word)
 }
 
-/// Whether the head goes on from `depth` with positions from `from` on, at the levels that it needs, through the deleted position.
+/// Whether the head goes on from `depth` with positions from `from` on, at the levels that it
+/// needs, through the deleted position.
 #[allow(clippy::too_many_arguments)]
 fn placed(
     cut: &Cut,

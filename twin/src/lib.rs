@@ -1,5 +1,6 @@
-//! An independent implementation of the engine, in plain Rust, written from document 01 and not from the engine's code. The differential test holds
-//! the engine to it, and the benchmark compares their times.
+//! An independent implementation of the engine, in plain Rust, written from document 01 and not
+//! from the engine's code. The differential test holds the engine to it, and the benchmark compares
+//! their times.
 
 pub mod clock;
 pub mod counting;

@@ -1,4 +1,5 @@
-//! The slow mode: the verdict and the counts by listing, word for word as document 01 defines them, for small lengths only.
+//! The slow mode: the verdict and the counts by listing, word for word as document 01 defines them,
+//! for small lengths only.
 
 use crate::model::*;
 use crate::word::{deleted, reduce};
@@ -30,11 +31,14 @@ fn permutations(n: usize) -> Vec<Vec<u8>> {
     all
 }
 
+/// The sizes of the cells of one prefix length and one length, by prefix and spacing.
+type Sizes = HashMap<(Vec<u8>, Vec<usize>), usize>;
+
 /// The avoiders of each length, listed once, and the sizes of their cells.
 pub struct Listing {
     patterns: Vec<Vec<u8>>,
     avoiders: Vec<Vec<Vec<u8>>>,
-    cells: HashMap<(usize, usize), HashMap<(Vec<u8>, Vec<usize>), usize>>,
+    cells: HashMap<(usize, usize), Sizes>,
 }
 
 impl Listing {
@@ -67,7 +71,8 @@ impl Listing {
         self.cells[&(k, n)].get(&(p.to_vec(), g.to_vec())).copied().unwrap_or(0)
     }
 
-    /// The verdict on a well-formed scheme by comparing sizes, or None if some length is too large to list.
+    /// The verdict on a well-formed scheme by comparing sizes, or None if some length is too large
+    /// to list.
     pub fn judge(&mut self, scheme: &Scheme) -> Option<Result<usize, Refusal>> {
         let m = self.patterns.iter().map(|p| p.len()).max().unwrap_or(0);
         let too_long = |e: &Entry| {

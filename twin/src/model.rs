@@ -12,7 +12,8 @@ pub const LONGEST_PLAIN: usize = 9;
 pub const PATTERN_TEXT: usize = 1_024;
 pub const SCHEME_TEXT: usize = 32_768;
 
-/// A list that keeps its first N items and the number of all of them, so that what is too long is known to be so and takes no more room.
+/// A list that keeps its first N items and the number of all of them, so that what is too long is
+/// known to be so and takes no more room.
 #[derive(Clone, Copy, Debug, PartialEq, Eq)]
 pub struct Kept<T, const N: usize> {
     items: [T; N],

@@ -93,7 +93,10 @@ impl Cursor<'_> {
 
     fn vector(&mut self) -> Read<Vector> {
         let mut vector = Vector::new();
-        self.list(OPEN, CLOSE, |cursor| Ok(vector.push(cursor.number()?)))?;
+        self.list(OPEN, CLOSE, |cursor| {
+            vector.push(cursor.number()?);
+            Ok(())
+        })?;
         Ok(vector)
     }
 
@@ -103,7 +106,10 @@ impl Cursor<'_> {
         entry.prefix = self.permutation()?;
         self.mark(b",")?;
         if !self.takes(EMPTY) {
-            self.list(b"{", b"}", |cursor| Ok(entry.vectors.push(cursor.vector()?)))?;
+            self.list(b"{", b"}", |cursor| {
+                entry.vectors.push(cursor.vector()?);
+                Ok(())
+            })?;
         }
         self.mark(b",")?;
         if !self.takes(EMPTY) {
@@ -120,7 +126,10 @@ fn spelt_patterns(text: &[u8]) -> Read<Patterns> {
     let mut cursor = Cursor(text);
     let mut patterns = Patterns::new();
     if !cursor.takes(EMPTY) {
-        cursor.list(b"{", b"}", |cursor| Ok(patterns.push(cursor.permutation()?)))?;
+        cursor.list(b"{", b"}", |cursor| {
+            patterns.push(cursor.permutation()?);
+            Ok(())
+        })?;
     }
     cursor.end()?;
     Ok(patterns)
@@ -130,7 +139,10 @@ fn spelt_scheme(text: &[u8]) -> Read<Scheme> {
     let mut cursor = Cursor(text);
     let mut scheme = Scheme::default();
     if !cursor.takes(EMPTY) {
-        cursor.list(b"{", b"}", |cursor| Ok(scheme.push(cursor.entry()?)))?;
+        cursor.list(b"{", b"}", |cursor| {
+            scheme.push(cursor.entry()?);
+            Ok(())
+        })?;
     }
     cursor.end()?;
     Ok(scheme)
@@ -154,7 +166,8 @@ pub fn read_scheme(text: &[u8]) -> Result<Scheme, Refusal> {
     Ok(scheme)
 }
 
-/// The pieces of a set: marks and numbers, in their order. Joined, they are what the writer gives; spaces may stand between any two.
+/// The pieces of a set: marks and numbers, in their order. Joined, they are what the writer gives;
+/// spaces may stand between any two.
 pub fn pattern_pieces(patterns: &[Pattern]) -> Vec<String> {
     if patterns.is_empty() {
         return vec!["∅".into()];

@@ -1,4 +1,5 @@
-//! The tests 2 to 4 of a pattern set and 2 to 9 of a scheme, each over the whole list before the next.
+//! The tests 2 to 4 of a pattern set and 2 to 9 of a scheme, each over the whole list before the
+//! next.
 
 use crate::model::*;
 use crate::word::{child, code, deleted, is_permutation};

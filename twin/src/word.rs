@@ -29,7 +29,8 @@ pub fn contains(pattern: &[u8], word: &[u8]) -> bool {
     extend(pattern, word, &mut chosen, 0, 0)
 }
 
-/// Whether the entries chosen for the pattern's first `depth` entries go on to a copy, with positions from `from` on.
+/// Whether the entries chosen for the pattern's first `depth` entries go on to a copy, with
+/// positions from `from` on.
 fn extend(pattern: &[u8], word: &[u8], chosen: &mut [u8; 32], depth: usize, from: usize) -> bool {
     if depth == pattern.len() {
         return true;
@@ -46,7 +47,8 @@ fn extend(pattern: &[u8], word: &[u8], chosen: &mut [u8; 32], depth: usize, from
     false
 }
 
-/// Whether x compares with the chosen entries as the pattern's entry at `depth` does with those before it.
+/// Whether x compares with the chosen entries as the pattern's entry at `depth` does with those
+/// before it.
 #[inline]
 fn fits(pattern: &[u8], chosen: &[u8; 32], depth: usize, x: u8) -> bool {
     let p = pattern[depth];

@@ -7,7 +7,8 @@ use crate::random::Random;
 use crate::word::deleted;
 use std::collections::BTreeMap;
 
-/// The patterns that begin with the word and go on with the other values up to eight, in every order.
+/// The patterns that begin with the word and go on with the other values up to eight, in every
+/// order.
 pub fn beginning_with(head: &[u8]) -> Vec<Pattern> {
     let rest: Vec<u8> = (1..=8).filter(|x| !head.contains(x)).collect();
     words(rest.len()).iter().map(|w| Pattern::of(&[head, &w.iter().map(|&i| rest[i as usize - 1]).collect::<Vec<u8>>()].concat())).collect()
@@ -33,8 +34,9 @@ pub fn beginning_low(seed: u64) -> Vec<Pattern> {
     set
 }
 
-/// A set with true deletions of prefixes of length 6, up to a number, and then the entries that they need, some of them false, so that the search goes
-/// through all the true ones before it refuses.
+/// A set with true deletions of prefixes of length 6, up to a number, and then the entries that
+/// they need, some of them false, so that the search goes through all the true ones before it
+/// refuses.
 pub fn true_deletions(patterns: Vec<Pattern>, number: usize) -> Pair {
     let basis = basis(&patterns);
     let mut chosen: BTreeMap<Vec<u8>, usize> = BTreeMap::new();
@@ -82,7 +84,8 @@ fn deleting(prefix: &[u8], r: usize) -> Entry {
     Entry { prefix: Prefix::of(prefix), rule: Rule::Delete(r as u16), ..Entry::default() }
 }
 
-/// 23 patterns of length 8 beside 12: a long set with a short basis. Prefixes of length 6 that contain 12 with and without the deleted position.
+/// 23 patterns of length 8 beside 12: a long set with a short basis. Prefixes of length 6 that
+/// contain 12 with and without the deleted position.
 pub fn short_basis() -> Pair {
     let mut patterns = vec![Pattern::of(&[1, 2])];
     patterns.extend(&beginning_with(&[1, 2, 3, 4])[..PATTERNS - 1]);
@@ -114,7 +117,8 @@ pub fn short_basis() -> Pair {
     Pair { patterns, entries }
 }
 
-/// Random patterns of one length, and entries of length 6 with eight empty gap vectors of total 8 each; the entries that they need stand behind.
+/// Random patterns of one length, and entries of length 6 with eight empty gap vectors of total 8
+/// each; the entries that they need stand behind.
 pub fn gap_vectors(length: usize, entries: usize, seed: u64) -> Pair {
     let mut random = Random::new(seed);
     let mut patterns: Vec<Pattern> = vec![];
@@ -154,8 +158,8 @@ pub fn gap_vectors(length: usize, entries: usize, seed: u64) -> Pair {
     Pair { patterns, entries: chosen }
 }
 
-/// A few empty gap vectors of total 8 whose emptiness shows late: whatever begins with 1234 and has four values above it contains a pattern, but the
-/// four others may stand anywhere between.
+/// A few empty gap vectors of total 8 whose emptiness shows late: whatever begins with 1234 and has
+/// four values above it contains a pattern, but the four others may stand anywhere between.
 pub fn late_gap_vectors() -> Pair {
     let vectors = [[4, 0, 0, 0, 0, 0, 4], [0, 4, 0, 0, 0, 0, 4]];
     let mut entry = deleting(&[1, 6, 3, 2, 4, 5], 2);
@@ -166,7 +170,8 @@ pub fn late_gap_vectors() -> Pair {
     Pair { patterns: beginning_with(&[1, 2, 3, 4]), entries }
 }
 
-/// No patterns, and 128 entries, most of them of length 6 with seven gap vectors. ε has a live gap vector, so that judging ends there.
+/// No patterns, and 128 entries, most of them of length 6 with seven gap vectors. ε has a live gap
+/// vector, so that judging ends there.
 pub fn long_text() -> Pair {
     let mut entries = vec![Entry { vectors: Kept::of(&[Vector::of(&[0])]), ..Entry::default() }];
     let mut needed = BTreeMap::new();
@@ -189,7 +194,8 @@ pub fn long_text() -> Pair {
     Pair { patterns: vec![], entries }
 }
 
-/// The pair with a live gap vector on ε, which is the last entry: refused 10, whatever 11 would find.
+/// The pair with a live gap vector on ε, which is the last entry: refused 10, whatever 11 would
+/// find.
 pub fn with_live_gap(mut pair: Pair) -> Pair {
     let root = pair.entries.last_mut().expect("an entry for ε");
     root.vectors.push(Vector::of(&[0]));

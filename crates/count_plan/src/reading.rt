@@ -27,7 +27,7 @@ pub fn gaps_of(sheet: &[u8], e: usize) -> &[u8]
     &sheet[at..at + PARTS]
 }
 
-// The same number.
+// A length as a number of 64 bits, as values have them.
 pub fn long(x: usize) -> u64
     ensures { λ r. ⌜ r ≡ x ⌝ }
 {

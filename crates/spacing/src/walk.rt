@@ -36,7 +36,7 @@ pub fn rank_without(g: [u8; COMPONENTS], k: usize, v: usize, start: usize, b: &[
     rank
 }
 
-// The same number.
+// A byte as a number that can be added and compared with lengths.
 pub fn wide(x: u8) -> usize
     ensures { λ r. ⌜ r ≡ x ⌝ }
 {

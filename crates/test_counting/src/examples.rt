@@ -23,7 +23,7 @@ const EMPTY: [u8; 3] = *b"\xE2\x88\x85";
 // the scheme of all permutations: `{(ε,∅,∅),(1,∅,{1})}`
 const ALL: [u8; 26] = *b"{(\xCE\xB5,\xE2\x88\x85,\xE2\x88\x85),(1,\xE2\x88\x85,{1})}";
 
-// All lines.
+// The lines of all examples, in the order of document 01.
 pub fn lines() {
     lengths();
     tables();

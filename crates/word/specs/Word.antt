@@ -81,7 +81,8 @@ isPerm w = all (within (length w)) w && distinct w
 unfoldable pub bump : ℕ → ℕ → ℕ
 bump a y = cond (ltb y a) y (suc y)
 
--- the permutations of length n, by their first entry: in lexicographic order (a law of the file Perms)
+-- the permutations of length n, by their first entry: in lexicographic order
+-- (AscendLaws.perms-ascend)
 unfoldable pub perms : ℕ → List (List ℕ)
 unfolding bump
 perms zero = [] ∷ []

@@ -1,8 +1,14 @@
-//! The benchmark: the engine and the second implementation on the same inputs in one run, as ratios of user time.
+//! The benchmark: the engine and the second implementation on the same inputs in one run, as ratios
+//! of user time.
 //!
-//! `benchmark [--instructions] [WORD]` prints a table; with a WORD, only the inputs whose names contain it. With --instructions it adds ratios of
-//! instructions, counted by callgrind, where valgrind is there and a call is short.
+//! `benchmark [--instructions] [WORD]` prints a table; with a WORD, only the inputs whose names
+//! contain it. With --instructions it adds ratios of instructions, counted by callgrind, where
+//! valgrind is there and a call is short.
 
+use std::hint::black_box;
+use std::path::{Path, PathBuf};
+use std::process::Command;
+use std::time::Duration;
 use twin::clock::user_time;
 use twin::counting::{count, need, plain};
 use twin::engine;
@@ -11,10 +17,6 @@ use twin::judging::judge_texts;
 use twin::notation::{read_patterns, read_scheme, write_patterns, write_scheme};
 use twin::published::published;
 use twin::worst::*;
-use std::hint::black_box;
-use std::path::{Path, PathBuf};
-use std::process::Command;
-use std::time::Duration;
 
 #[derive(Clone, Copy)]
 enum Work {
@@ -32,7 +34,8 @@ struct Input {
     target: Option<f64>,
 }
 
-/// A call of the engine or of the second implementation, on an input; its answer as a number: the count, or 0 and the number of the refusal.
+/// A call of the engine or of the second implementation, on an input; its answer as a number: the
+/// count, or 0 and the number of the refusal.
 type Call = fn(&Input) -> Option<u64>;
 
 fn by_engine(input: &Input) -> Option<u64> {
@@ -170,7 +173,8 @@ fn shown(seconds: Option<f64>) -> String {
     }
 }
 
-/// The least user times of a call, of both, in some rounds: nine for short calls, three for others, one where a call of the engine takes more than 1.5 s.
+/// The least user times of a call, of both, in some rounds: nine for short calls, three for others,
+/// one where a call of the engine takes more than 1.5 s.
 fn times(input: &Input) -> (Option<f64>, Option<f64>) {
     let (of_engine, of_twin) = (repeats(input, by_engine), repeats(input, by_twin));
     let (mut engine, mut twin) = (f64::MAX, f64::MAX);

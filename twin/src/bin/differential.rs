@@ -1,8 +1,17 @@
-//! The differential test: the engine against the second implementation, on many inputs from a printed seed.
+//! The differential test: the engine against the second implementation, on many inputs from a
+//! printed seed.
 //!
-//! `differential [COUNT] [SEED]` makes COUNT random inputs beside the fixed ones. It prints how many there were of each kind, how many were
-//! accepted and refused, and each disagreement with its input. The exit status is 1 where there was a disagreement, a crash or a hang.
+//! `differential [COUNT] [SEED]` makes COUNT random inputs beside the fixed ones. It prints how
+//! many there were of each kind, how many were accepted and refused, and each disagreement with its
+//! input. The exit status is 1 where there was a disagreement, a crash or a hang.
 
+use std::collections::BTreeMap;
+use std::fs;
+use std::path::{Path, PathBuf};
+use std::process::{exit, Command};
+use std::sync::atomic::{AtomicU64, Ordering};
+use std::thread;
+use std::time::{Duration, Instant, SystemTime};
 use twin::counting::{count, need, plain};
 use twin::engine;
 use twin::guarded::Guarded;
@@ -14,13 +23,6 @@ use twin::notation::{read_patterns, read_scheme, write_patterns, write_scheme};
 use twin::published::published;
 use twin::random::Random;
 use twin::table::table;
-use std::collections::BTreeMap;
-use std::fs;
-use std::path::{Path, PathBuf};
-use std::process::{exit, Command};
-use std::sync::atomic::{AtomicU64, Ordering};
-use std::thread;
-use std::time::{Duration, Instant, SystemTime};
 
 /// The stack that include/judge.h asks of a thread that calls the judge.
 const STACK: usize = 512 * 1024;
@@ -132,7 +134,7 @@ impl Test {
         let mut maker = Maker::new(self.seed, (count / 50).clamp(20, 600));
         for _ in 0..count {
             STARTED.fetch_add(1, Ordering::Relaxed);
-            let case = maker.next();
+            let case = maker.next_case();
             self.judge(&case);
         }
         self.print();
@@ -179,7 +181,7 @@ impl Test {
     fn list(&mut self, case: &Case, fast: Result<usize, Refusal>) {
         let (Ok(patterns), Ok(scheme)) = (read_patterns(&case.patterns), read_scheme(&case.scheme)) else { return };
         self.claims += 1;
-        if self.claims > 3_000 && self.claims % 8 != 0 {
+        if self.claims > 3_000 && self.claims & 7 != 0 {
             return;
         }
         let m = twin::judging::longest(patterns.items());
@@ -328,7 +330,8 @@ fn line(verdict: Result<usize, Refusal>) -> String {
     }
 }
 
-/// Inputs of the table program: published schemes at every N, third lines of all kinds, lines too few and too many, damaged ones.
+/// Inputs of the table program: published schemes at every N, third lines of all kinds, lines too
+/// few and too many, damaged ones.
 fn table_inputs(maker: &mut Maker) -> Vec<Vec<u8>> {
     let mut inputs: Vec<Vec<u8>> = vec![];
     let join = |set: &[u8], scheme: &[u8], rest: &[u8]| [set, b"\n", scheme, b"\n", rest].concat();
@@ -366,9 +369,9 @@ fn table_inputs(maker: &mut Maker) -> Vec<Vec<u8>> {
         inputs.push([set.to_vec(), b"\n".to_vec(), pad(front)].concat());
         inputs.push([pad(front), b"\n\n".to_vec(), pad(back)].concat());
     }
-    let mut random = Random::new(maker.random.next());
+    let mut random = Random::new(maker.random.number());
     for _ in 0..1_000 {
-        let case = maker.next();
+        let case = maker.next_case();
         let third = match random.below(4) {
             0 => thirds[random.below(thirds.len())].to_string(),
             _ => format!("{}{}", random.below(22), if random.one_in(2) { "\n" } else { "" }),

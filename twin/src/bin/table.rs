@@ -1,4 +1,5 @@
-//! The table program of the second implementation: three lines on standard input, a b-file or a refusal on standard output.
+//! The table program of the second implementation: three lines on standard input, a b-file or a
+//! refusal on standard output.
 
 use std::io::{stdin, stdout, Read, Write};
 
