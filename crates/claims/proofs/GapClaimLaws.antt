@@ -119,7 +119,6 @@ module _ (P : List (List ℕ)) (p b : List ℕ) where
 abbrev pub shows : List (List ℕ) → List ℕ → ℕ → List ℕ → ℕ → List ℕ → List ℕ → Bool
 shows set lengths count prefix k parts = showsEmpty (patternsOf set lengths count) (take k prefix) (take (k + 1) parts)
 
-
 -- whether the cell at a vector is not empty
 abbrev pub liveAt : List (List ℕ) → List ℕ → List ℕ → Bool
 liveAt P p b = not (isEmpty (cell P p b))

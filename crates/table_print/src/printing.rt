@@ -2,12 +2,12 @@
 use counting::answer::fault_of;
 use counting::by_table::all_counts;
 use counting::by_table::table_fault;
-use judge::texts::TextsJudged;
-use judge::texts::read_and_judge;
 use forms::memory::Fault;
 use forms::memory::Patterns;
 use forms::memory::Scheme;
 use forms::order::is_fault;
+use judge::texts::TextsJudged;
+use judge::texts::read_and_judge;
 use table_lines::input::Lines;
 use table_lines::input::Number;
 use table_lines::input::SCHEME;

@@ -1,6 +1,5 @@
 // Writing pattern sets and schemes over a lent page. Bytes behind the end of the page are dropped, so that a run on an empty page gives the length.
 use forms::gaps::entry_gap;
-use word::bytes::wide;
 use forms::memory::Entry;
 use forms::memory::Gap;
 use forms::memory::Pattern;
@@ -14,6 +13,7 @@ use text_grammar::marks::RIGHT;
 use text_page::bytes::put;
 use text_page::bytes::put_bytes;
 use text_page::bytes::put_decimal;
+use word::bytes::wide;
 ghost use mathlib.Core.Path.{_≡_};
 ghost use mathlib.Core.List.{[], _∷_};
 ghost use Prim.Native.Nat.{_-_, _≤_, _<_};

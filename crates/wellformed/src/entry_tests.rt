@@ -1,11 +1,11 @@
 // The tests 2, 3, 4, 6 and 7 of one entry in memory, and test 2 over the whole list.
 use forms::gaps::entry_gap;
-use word::bytes::wide;
 use forms::memory::Entry;
 use forms::memory::Fault;
 use forms::memory::Gap;
 use forms::memory::Rule;
 use forms::memory::Scheme;
+use word::bytes::wide;
 use word::limits::COMPONENTS;
 use word::limits::ENTRIES;
 use word::limits::GAPS;
