@@ -14,8 +14,8 @@ ghost use Rattle.word.specs.Vocabulary.{fits};
 ghost use Rattle.cell.specs.Candidate.{place};
 ghost use Rattle.candidate.specs.Lookup.{entryOf, flagged};
 
-// How far the head of a pattern is placed: how many of its entries are, the index in the prefix from
-// which the next one is sought, and whether a value among them is deleted.
+// How far the head of a pattern is placed: how many of its entries are, the index in the prefix
+// from which the next one is sought, and whether a value among them is deleted.
 pub struct Placing {
     pub placed: usize,
     pub from: usize,

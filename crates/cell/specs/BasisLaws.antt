@@ -1,4 +1,5 @@
--- Laws of the basis of a set of patterns: the same words avoid it, so the cells, the claims and the verdicts are the same.
+-- Laws of the basis of a set of patterns: the same words avoid it, so the cells, the claims and the
+-- verdicts are the same.
 use Prim.Native.Nat.{ℕ, zero, suc, _+_, _≤_, _<_}
 use mathlib.Core.Path.{_≡_, refl, sym, ap, _∙_, fun-ext}
 use mathlib.Core.Logic.{_↔_}
@@ -142,7 +143,8 @@ module _ (P : List (List ℕ)) (each-perm : (β : List ℕ) → List·Memᴰ β 
     λ h g l f. rw (basis-cell p g, basis-cell (deleted R p) (merged R p g)) (h g l f),
   )
 
-  -- so the sizes agree up to the longest pattern of the set exactly if they agree up to that of the basis: the same verdict
+  -- so the sizes agree up to the longest pattern of the set exactly if they agree up to that of the
+  -- basis: the same verdict
   pub basis-sizes : (p : List ℕ) (B : List (List ℕ)) (R : List ℕ) → isPerm p ≡ true → all (within (length p)) R ≡ true →
       SizesAgree P p B R ↔ SizesAgree (basis P) p B R
   basis-sizes p B R perm inside =

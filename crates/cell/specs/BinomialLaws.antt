@@ -1,4 +1,5 @@
--- Laws of binomials, the number of spacings with a given total, and how many spacings an entry compares at most.
+-- Laws of binomials, the number of spacings with a given total, and how many spacings an entry
+-- compares at most.
 use Prim.Native.Nat.{ℕ, zero, suc, _+_, _-_, _≤_, _<_}
 use native.Mathlib.Omega.{arith}
 use mathlib.Core.Path.{_≡_, refl, sym, ap, ap₂, _∙_}
@@ -39,7 +40,8 @@ module _ {A B C : Type 0} where
   each-lengths f h [] e = refl
   each-lengths f h (x ∷ l) e = length-append (f x) (each f l) ∙ ap₂ _+_ (e x) (each-lengths f h l e) ∙ sym (length-append (h x) (each h l))
 
--- the vectors by their first component: it is 0, or one more than in a vector of a total one smaller
+-- the vectors by their first component: it is 0, or one more than in a vector of a total one
+-- smaller
 vectors-zero : (k : ℕ) → length (vectors (suc k) 0) ≡ length (vectors k 0)
 unfolding vectors
 vectors-zero k = omega (arith, length-append (map (λ g. 0 ∷ g) (vectors k 0)) [], length-map (vectors k 0) (λ g. 0 ∷ g))

@@ -1,4 +1,5 @@
--- A cell is the list of the built words that avoid the patterns, one for each rest, in the order of the rests.
+-- A cell is the list of the built words that avoid the patterns, one for each rest, in the order of
+-- the rests.
 use Prim.Native.Nat.{ℕ, suc, _+_, _≤_, _<_}
 use native.Mathlib.Omega.{arith}
 use mathlib.Core.Path.{_≡_, refl, sym, ap, ap₂, _∙_}

@@ -100,7 +100,8 @@ val-lift g a s h = go (below-or-not (level g a) s)
     go (inl k) = lt-ltb (val g a) (lift g s) (below-lift g a s h k) ∙ sym (lt-ltb (level g a) s k)
     go (inr k) = le-ltb (val g a) (lift g s) (above-lift g a s h k) ∙ sym (le-ltb (level g a) s k)
 
--- two words that are cut at the same place: their parts are isomorphic, and the entries before the cut compare alike with those behind it
+-- two words that are cut at the same place: their parts are isomorphic, and the entries before the
+-- cut compare alike with those behind it
 
 alike-append : (x : ℕ) (u v : List ℕ) (y : ℕ) (u′ v′ : List ℕ) → alike x u y u′ ≡ true → alike x v y v′ ≡ true → alike x (u ++ v) y (u′ ++ v′) ≡ true
 unfolding alike
@@ -138,7 +139,8 @@ getD-map f [] i h = absurd (omega arith)
 getD-map f (x ∷ u) zero h = refl
 getD-map f (x ∷ u) (suc i) h = getD-map f u i (omega arith)
 
--- Built words are isomorphic where their prefixes and their rests are, and where each prefix entry is below the same entries of the rest.
+-- Built words are isomorphic where their prefixes and their rests are, and where each prefix entry
+-- is below the same entries of the rest.
 pub iso-built : (p g σ q h τ : List ℕ) → iso p q ≡ true → iso σ τ ≡ true →
     ((i : ℕ) → i < length p → getD p i 0 < length g) → ((i : ℕ) → i < length p → getD q i 0 < length h) →
     ((i j : ℕ) → i < length p → j < length σ → ltb (level g (getD p i 0)) (getD σ j 0) ≡ ltb (level h (getD q i 0)) (getD τ j 0)) →

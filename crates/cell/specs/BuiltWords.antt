@@ -1,4 +1,5 @@
--- Built words: they are permutations, they have the prefix and the spacing that they are built from, and every such permutation is built.
+-- Built words: they are permutations, they have the prefix and the spacing that they are built
+-- from, and every such permutation is built.
 use Prim.Native.Nat.{ℕ, zero, suc, _+_, _-_, _≤_, _<_}
 use native.Mathlib.Omega.{arith}
 use mathlib.Core.Path.{_≡_, refl, sym, ap, ap₂, _∙_}

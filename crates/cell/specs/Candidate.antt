@@ -1,4 +1,5 @@
--- The candidates for a violation of a deletion, one word for each pattern and spacing. Definitions only.
+-- The candidates for a violation of a deletion, one word for each pattern and spacing. Definitions
+-- only.
 use Prim.Native.Nat.{ℕ, _-_}
 use mathlib.Core.Bool.{Bool, true, false, _&&_, _||_}
 use mathlib.Core.List.{List, [], _∷_, _++_, map}
@@ -10,8 +11,9 @@ use Rattle.word.specs.Vocabulary.{fits}
 use Rattle.cell.specs.Cell.{total, without, compared}
 use Rattle.cell.specs.Built.{level, built}
 
--- The head entries `hs` can be placed, in their order, at entries of `ps`: b of the head stands already at the prefix values c, each new pair
--- compares with these alike, and the level of the prefix value is the one that the head entry needs. One of the prefix values is to be gone.
+-- The head entries `hs` can be placed, in their order, at entries of `ps`: b of the head stands
+-- already at the prefix values c, each new pair compares with these alike, and the level of the
+-- prefix value is the one that the head entry needs. One of the prefix values is to be gone.
 unfoldable pub place : (ℕ → ℕ) → (ℕ → ℕ) → (ℕ → Bool) → Bool → List ℕ → List ℕ → List ℕ → List ℕ → Bool
 unfolding fits
 place need lev gone used b c [] ps = used
@@ -24,7 +26,8 @@ place need lev gone used b c (x ∷ hs) (a ∷ ps) =
 abbrev pub headLength : List ℕ → ℕ → ℕ
 headLength β t = length β - t
 
--- the pattern's last t entries are the rest; the entries before them are placed in the prefix, a deleted position among them
+-- the pattern's last t entries are the rest; the entries before them are placed in the prefix, a
+-- deleted position among them
 unfoldable pub hit : List ℕ → List ℕ → List ℕ → List ℕ → Bool
 unfolding place under level total has entry
 hit p R g β =
@@ -32,7 +35,8 @@ hit p R g β =
     ltb t (length β) &&
     place (under (drop (headLength β t) β)) (level g) (λ a. has a (map (entry p) R)) false [] [] (take (headLength β t) β) p
 
--- the pattern hits, and the word without the deleted positions avoids: a member of the shorter cell has no partner
+-- the pattern hits, and the word without the deleted positions avoids: a member of the shorter cell
+-- has no partner
 unfoldable pub violates : List (List ℕ) → List ℕ → List ℕ → List ℕ → List ℕ → Bool
 unfolding hit avoids built without reduce
 violates P p R g β = hit p R g β && avoids P (built (without R p) g (reduce (drop (headLength β (total g)) β)))

@@ -1,4 +1,5 @@
--- The candidates decide the deletion claim: no compared spacing has a violation exactly if the claim holds.
+-- The candidates decide the deletion claim: no compared spacing has a violation exactly if the
+-- claim holds.
 use Prim.Native.Nat.{ℕ, suc, _+_, _<_}
 use native.Mathlib.Nat.{zero-add, suc-add, add-suc, add-zero}
 use native.Mathlib.Omega.{arith}
@@ -77,7 +78,8 @@ sublist-kept R {a} {w} d h = rw (without-from R w) (kept-from R 1 d used)
         let k : List·Memᴰ (suc j) R = has-out (suc j) R (rw (suc-add, zero-add) at e) in
         true-not-false (sym (any-in (gone w R) m (has-in (Memᴰ·map (entry w) k))) ∙ h)
 
--- A pattern hits exactly if it has a copy with a part of the prefix, a deleted value in it, and the whole rest.
+-- A pattern hits exactly if it has a copy with a part of the prefix, a deleted value in it, and the
+-- whole rest.
 
 hit-out : (p R g β : List ℕ) → hit p R g β ≡ true →
     (total g < length β) × Placed (under (tailOf β (total g))) (level g) (gone p R) false [] [] (headOf β (total g)) p
@@ -136,7 +138,8 @@ module _ (P : List (List ℕ)) (p R : List ℕ) (perm : isPerm p ≡ true) (apar
           absurd (no β m (and-right (hit p R g β) avoiding e) l f)
       go β m false e = refl
 
--- The candidates find no violation at the compared spacings exactly if the deletion claim holds at every length.
+-- The candidates find no violation at the compared spacings exactly if the deletion claim holds at
+-- every length.
 pub irreversible-law : (P : List (List ℕ)) (p R : List ℕ) → isPerm p ≡ true → all (within (length p)) R ≡ true →
     ((β : List ℕ) → List·Memᴰ β P → distinct β ≡ true) → (B : List (List ℕ)) → (irreversible P p B R ≡ false) ↔ DeletionClaim P p B R
 unfolding irreversible mOf

@@ -28,18 +28,20 @@ unfolding insert
 sort [] = []
 sort (x ∷ u) = insert x (sort u)
 
--- how many numbers lie between a and the first of an ascending list, between each two of its neighbours, and between the last and b
+-- how many numbers lie between a and the first of an ascending list, between each two of its
+-- neighbours, and between the last and b
 unfoldable pub between : ℕ → List ℕ → ℕ → List ℕ
 between a [] b = (b - a - 1) ∷ []
 between a (c ∷ u) b = (c - a - 1) ∷ between c u b
 
--- "For a permutation of length n whose first k entries, sorted, are c1 < .. < ck, it is (c1 − 1, c2 − c1 − 1, .., n − ck); for ε it is (n)" (01)
+-- "For a permutation of length n whose first k entries, sorted, are c1 < .. < ck, it is (c1 − 1, c2
+-- − c1 − 1, .., n − ck); for ε it is (n)" (01)
 unfoldable pub spacing : ℕ → List ℕ → List ℕ
 unfolding sort between
 spacing n u = between 0 (sort u) (suc n)
 
--- "The cell (p; g) is the set of permutations of length k + total(g) that avoid every pattern and whose first k entries reduce to p with
--- spacing g" (01), listed in lexicographic order
+-- "The cell (p; g) is the set of permutations of length k + total(g) that avoid every pattern and
+-- whose first k entries reduce to p with spacing g" (01), listed in lexicographic order
 unfoldable pub inCell : List (List ℕ) → List ℕ → List ℕ → List ℕ → Bool
 unfolding avoids reduce same spacing
 inCell P p g w = avoids P w && (same (reduce (take (length p) w)) p && same (spacing (length w) (take (length p) w)) g)
@@ -58,7 +60,8 @@ unfoldable pub deleted : List ℕ → List ℕ → List ℕ
 unfolding without reduce
 deleted R w = reduce (without R w)
 
--- "In g, counting from 0, the components v − 1 and v are added into one" (01), for each value v of a list; x is what component v - 1 holds
+-- "In g, counting from 0, the components v − 1 and v are added into one" (01), for each value v of
+-- a list; x is what component v - 1 holds
 unfoldable pub mergeFrom : List ℕ → ℕ → ℕ → List ℕ → List ℕ
 unfolding has
 mergeFrom vs v x [] = x ∷ []
@@ -102,8 +105,8 @@ vectors zero zero = [] ∷ []
 vectors zero (suc t) = []
 vectors (suc k) t = each (λ x. map (λ g. x ∷ g) (vectors k (t - x))) (row 0 (suc t))
 
--- "the spacings that are at least no listed vector and have total at most m − 1" (01), for a prefix of length k: by rising total,
--- lexicographic within a total
+-- "the spacings that are at least no listed vector and have total at most m − 1" (01), for a prefix
+-- of length k: by rising total, lexicographic within a total
 unfoldable pub compared : List (List ℕ) → ℕ → List (List ℕ) → List (List ℕ)
 unfolding mOf vectors free
 compared P k B = keep (free B) (each (vectors (suc k)) (row 0 (mOf P)))

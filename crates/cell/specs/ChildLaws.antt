@@ -1,4 +1,5 @@
--- The children of a cell: the next entry of a member, the child's prefix and spacing, and the cell as the cells of its children.
+-- The children of a cell: the next entry of a member, the child's prefix and spacing, and the cell
+-- as the cells of its children.
 use Prim.Native.Nat.{ℕ, zero, suc, _+_, _-_, _≤_, _<_}
 use native.Mathlib.Omega.{arith}
 use mathlib.Core.Path.{_≡_, refl, sym, ap, ap₂, _∙_, fun-ext}
@@ -139,7 +140,8 @@ lift-split (x ∷ g) s t h k = go (lift-split g (s - x) (t - x)) (held x g s) (b
         let i : lift (split g (s - x)) (t - x) ≡ lift g (bump (s - x) (t - x)) = ih (omega arith) (omega arith) in
         rw (r, l, u, shifted b c, i) refl
 
--- The key equation: the member with rest s ∷ map (bump s) τ is the member of the child's cell with rest τ.
+-- The key equation: the member with rest s ∷ map (bump s) τ is the member of the child's cell with
+-- rest τ.
 pub built-child : (p g : List ℕ) (s : ℕ) (τ : List ℕ) → 1 ≤ s → s ≤ total g →
     built p g (s ∷ map (bump s) τ) ≡ built (childAt p (slot g s)) (split g s) τ
 unfolding built childAt
@@ -199,7 +201,8 @@ perm-rotate u c =
     let l : length (u ++ (c ∷ [])) ≡ suc (length u) = omega (arith, length-append u (c ∷ [])) in
     ap₂ _&&_ (ap (λ n. all (within n) (u ++ (c ∷ []))) l ∙ all-rotate (within (suc (length u))) u c) (distinct-rotate u c)
 
--- The children of a permutation p are the words childAt p a, for a from 1 to one more than the length of p, each for one a.
+-- The children of a permutation p are the words childAt p a, for a from 1 to one more than the
+-- length of p, each for one a.
 
 pub child-length : (p : List ℕ) (a : ℕ) → length (childAt p a) ≡ suc (length p)
 unfolding childAt

@@ -1,4 +1,5 @@
--- The claims of an entry, with no bound on the totals of spacings, and the sizes that judge a deletion. Definitions only.
+-- The claims of an entry, with no bound on the totals of spacings, and the sizes that judge a
+-- deletion. Definitions only.
 use Prim.Native.Nat.{ℕ, suc}
 use mathlib.Core.Path.{_≡_}
 use mathlib.Core.Bool.{true}
@@ -16,8 +17,9 @@ pub record Carries (f : List ℕ → List ℕ) (X Y : List (List ℕ)) : Type 0 
   pub one-one : (v w : List ℕ) → List·Memᴰ v X → List·Memᴰ w X → f v ≡ f w → v ≡ w
   pub onto : (v : List ℕ) → List·Memᴰ v Y → (w : List ℕ) × List·Memᴰ w X × (f w ≡ v)
 
--- "A deletion of r claims that, for every other spacing g of any total, removing position r carries (p; g) one to one onto the whole cell of
--- the shorter prefix and merged spacing" (01), for a list of positions R; the other spacings are those at least no vector of B
+-- "A deletion of r claims that, for every other spacing g of any total, removing position r carries
+-- (p; g) one to one onto the whole cell of the shorter prefix and merged spacing" (01), for a list
+-- of positions R; the other spacings are those at least no vector of B
 abbrev pub DeletionClaim : List (List ℕ) → List ℕ → List (List ℕ) → List ℕ → Type 0
 DeletionClaim P p B R =
     (g : List ℕ) → length g ≡ suc (length p) → free B g ≡ true →

@@ -1,4 +1,5 @@
--- The finite test of a deletion: a violation at any spacing gives one whose rest is shorter than the longest pattern.
+-- The finite test of a deletion: a violation at any spacing gives one whose rest is shorter than
+-- the longest pattern.
 use Prim.Native.Nat.{ℕ, zero, suc, _+_, _-_, _≤_, _<_}
 use mathlib.Core.Path.{_≡_, refl, sym, ap, ap₂, _∙_, subst}
 use mathlib.Core.Bool.{Bool, true, false}
@@ -22,7 +23,8 @@ use Rattle.cell.specs.RestLaws.{take-out, Within, within-lowered, copy-l
 abbrev pub Agrees : List (List ℕ) → List ℕ → List ℕ → List ℕ → Type 0
 Agrees P p q g = (σ : List ℕ) → isPerm σ ≡ true → length σ ≡ total g → avoids P (built q g σ) ≡ true → avoids P (built p g σ) ≡ true
 
--- at spacing g: if a non-empty sublist of p with a rest is a copy of a pattern, q with that rest does not avoid the patterns
+-- at spacing g: if a non-empty sublist of p with a rest is a copy of a pattern, q with that rest
+-- does not avoid the patterns
 abbrev pub Clean : List (List ℕ) → List ℕ → List ℕ → List ℕ → Type 0
 Clean P p q g = (β : List ℕ) → List·Memᴰ β P → (a : List ℕ) → Sublistᴰ a p → (a ≡ [] → ⊥) →
     (σ : List ℕ) → isPerm σ ≡ true → length σ ≡ total g → iso β (built a g σ) ≡ true → avoids P (built q g σ) ≡ false
@@ -124,7 +126,8 @@ shrink P β q a (suc n) g σ r c k =
     further P β q a g (length r + n) (length r) m
     (shrink P β q a n (m .b) (m .τ) (m .t) (m .copied) (omega (arith, m .rest-length, m .part-length)))
 
--- a violation of Clean at a spacing that g is at least, with a total below the length of the longest pattern
+-- a violation of Clean at a spacing that g is at least, with a total below the length of the
+-- longest pattern
 pub record Violation (P : List (List ℕ)) (p q g : List ℕ) : Type 0 where
   pub b : List ℕ
   pub β : List ℕ
@@ -186,7 +189,8 @@ minimal-violation P p q g σ w d e l h k =
           avoiding = h;
         }
 
--- Clean below the length of the longest pattern is enough, for any set S of spacings that is closed downwards.
+-- Clean below the length of the longest pattern is enough, for any set S of spacings that is closed
+-- downwards.
 pub finite-test : (P : List (List ℕ)) (p q : List ℕ) (S : List ℕ → Type 0) → ((g b : List ℕ) → S g → atLeast g b ≡ true → S b) →
     ((g : List ℕ) → S g → Within p g) → Sublistᴰ q p → ((g : List ℕ) → S g → total g < longest P → Clean P p q g) →
     (g : List ℕ) → S g → Agrees P p q g
@@ -200,7 +204,8 @@ finite-test P p q S down w d clean g i σ e l h = go (avoids P (built p g σ)) r
     go true f = refl
     go false f = absurd (no (minimal-violation P p q g σ (w g i) d e l h f))
 
--- the other way round, at each spacing: a copy of a pattern in a sublist of built p is one in built p
+-- the other way round, at each spacing: a copy of a pattern in a sublist of built p is one in built
+-- p
 pub clean-of-agrees : (P : List (List ℕ)) (p q g : List ℕ) → Agrees P p q g → Clean P p q g
 clean-of-agrees P p q g agrees β m a d n σ e l i = go (avoids P (built q g σ)) refl
   where
@@ -209,7 +214,8 @@ clean-of-agrees P p q g agrees β m a d n σ e l i = go (avoids P (built q g σ)
         avoids-not P (built p g σ) m (contains-in β (built-sublist g d (Sublistᴰ·refl σ)) i)))
     go false f = refl
 
--- Two sets of patterns that the same words avoid give the same test: patterns that contain another pattern of the set may be left out.
+-- Two sets of patterns that the same words avoid give the same test: patterns that contain another
+-- pattern of the set may be left out.
 pub clean-basis : (P Q : List (List ℕ)) (p q g : List ℕ) → ((w : List ℕ) → avoids P w ≡ avoids Q w) → Agrees P p q g ↔ Agrees Q p q g
 clean-basis P Q p q g same = (
   λ h σ e l k. sym (same (built p g σ)) ∙ h σ e l (same (built q g σ) ∙ k),

@@ -1,4 +1,5 @@
--- Emptiness goes upwards: if some word over a spacing avoids the patterns, so does one over every smaller spacing.
+-- Emptiness goes upwards: if some word over a spacing avoids the patterns, so does one over every
+-- smaller spacing.
 use Prim.Native.Nat.{ℕ, zero, suc, _+_, _-_, _≤_, _<_}
 use mathlib.Core.Path.{_≡_, refl, sym, ap₂}
 use mathlib.Core.Bool.{true}
@@ -59,7 +60,8 @@ at-least-more (x ∷ g) (y ∷ b) h k = go (at-least-more g b rest) (below-or-no
     go ih (inl p) = (1, omega arith, omega arith, one p (lowers x g 1))
     go ih (inr p) = let (s, low, high, t) = ih (omega arith) in (x + s, omega arith, omega arith, more s low t (lowers x g (x + s)))
 
--- A gap vector's own cell decides: an avoiding word over g gives one over every b that g is at least.
+-- A gap vector's own cell decides: an avoiding word over g gives one over every b that g is at
+-- least.
 pub gap-core : (P : List (List ℕ)) (p g b σ : List ℕ) → Within p g → atLeast g b ≡ true → isPerm σ ≡ true → length σ ≡ total g →
     avoids P (built p g σ) ≡ true → (τ : List ℕ) × (isPerm τ ≡ true) × (length τ ≡ total b) × (avoids P (built p b τ) ≡ true)
 gap-core P p g b σ w h e l a = go (total g - total b) g σ w h e l a (omega (arith, atLeast-total g b h))

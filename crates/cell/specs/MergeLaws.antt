@@ -1,4 +1,5 @@
--- Laws of merging: the number of components, the total, and the level of each prefix value that is kept.
+-- Laws of merging: the number of components, the total, and the level of each prefix value that is
+-- kept.
 use Prim.Native.Nat.{ℕ, zero, suc, _+_, _≤_, _<_}
 use native.Mathlib.Nat.{add-zero, add-suc, suc-add, zero-add}
 use native.Mathlib.Omega.{arith}
@@ -123,7 +124,8 @@ kept-bounds R p e m = perm-bounds p e (sublist-mem (without-sublist R p) m)
 pub kept-distinct : (R w : List ℕ) → distinct w ≡ true → distinct (without R w) ≡ true
 kept-distinct R w e = distinct-sublist (without-sublist R w) e
 
--- A value of p is among the values at the positions R or among those at the others, and not among both.
+-- A value of p is among the values at the positions R or among those at the others, and not among
+-- both.
 module _ (R p : List ℕ) (perm : isPerm p ≡ true) (inside : all (within (length p)) R ≡ true) where
   removed-or-kept : (x : ℕ) → 1 ≤ x → x ≤ length p → has x (map (entry p) R) ≡ not (has x (without R p))
   removed-or-kept x l h = go (entry-onto (has-out x p (perm-has p x perm l h)))

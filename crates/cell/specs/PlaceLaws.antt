@@ -1,4 +1,5 @@
--- Laws of placing: what the search finds, and how a pattern that is cut before its last entries compares with a built word.
+-- Laws of placing: what the search finds, and how a pattern that is cut before its last entries
+-- compares with a built word.
 use Prim.Native.Nat.{ℕ, suc, _+_, _≤_, _<_}
 use native.Mathlib.Omega.{arith}
 use mathlib.Core.Path.{_≡_, refl, sym, ap, ap₂, _∙_}
@@ -30,8 +31,8 @@ or-cases : (a b : Bool) → a || b ≡ true → (a ≡ true) ⊎ (b ≡ true)
 or-cases true b h = inl refl
 or-cases false b h = inr h
 
--- What the search finds: a sublist of ps whose levels are those that hs needs, and that compares as hs does, after c as hs after b.
--- One of its entries is gone, if none was before.
+-- What the search finds: a sublist of ps whose levels are those that hs needs, and that compares as
+-- hs does, after c as hs after b. One of its entries is gone, if none was before.
 pub record Placed (need lev : ℕ → ℕ) (gone : ℕ → Bool) (used : Bool) (b c hs ps : List ℕ) : Type 0 where
   pub at : List ℕ
   pub part : Sublistᴰ at ps
@@ -181,7 +182,8 @@ iso-suffix [] u (c ∷ k) v l e = absurd (omega arith)
 iso-suffix (a ∷ h) u [] v l e = absurd (omega arith)
 iso-suffix (a ∷ h) u (c ∷ k) v l e = iso-suffix h u k v (omega arith) (and-right (alike a (h ++ u) c (k ++ v)) (iso (h ++ u) (k ++ v)) e)
 
--- an entry d at the prefix value a: as many entries of u are at most d as entries of the rest are at most the level of a
+-- an entry d at the prefix value a: as many entries of u are at most d as entries of the rest are
+-- at most the level of a
 alike-level : (d : ℕ) (u g : List ℕ) (a : ℕ) (σ : List ℕ) → a < length g → alike d u (val g a) (map (lift g) σ) ≡ true → under u d ≡ under σ (level g a)
 unfolding alike under
 alike-level d [] g a [] l e = refl
@@ -214,7 +216,8 @@ copy-levels (d ∷ h) u (x ∷ a) g σ l w p t e =
     ap₂ _∷_ (sym (alike-level d u g x σ (w x (List·Memᴰ·head refl)) i ∙ under-perm σ (level g x) p high))
     (copy-levels h u a g σ (omega arith) (λ (y : ℕ) (m : List·Memᴰ y a). w y (List·Memᴰ·tail m)) p t (and-right first rest e))
 
--- A copy with a in the prefix and the rest σ: its last entries, as many as the rest has, are the rest, and the others are placed at a.
+-- A copy with a in the prefix and the rest σ: its last entries, as many as the rest has, are the
+-- rest, and the others are placed at a.
 pub record Cut (β a g σ : List ℕ) : Type 0 where
   pub short : total g < length β
   pub size : length a ≡ headLength β (total g)

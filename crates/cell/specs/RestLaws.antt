@@ -1,4 +1,5 @@
--- One entry of the rest of a built word goes: the spacing with one component lowered, and the word that is left.
+-- One entry of the rest of a built word goes: the spacing with one component lowered, and the word
+-- that is left.
 use Prim.Native.Nat.{ℕ, zero, suc, _+_, _-_, _≤_, _<_}
 use mathlib.Core.Path.{_≡_, refl, sym, ap, _∙_}
 use mathlib.Core.Bool.{true, cond}
@@ -121,7 +122,8 @@ distinct-front (x ∷ u) s v h =
     other new fresh (inl e) = new (Memᴰ·append-right u (List·Memᴰ·head (sym e)))
     other new fresh (inr m) = fresh m
 
--- what is left of a permutation without its entry s, at any place, is a permutation τ that steps over s
+-- what is left of a permutation without its entry s, at any place, is a permutation τ that steps
+-- over s
 pub take-out : (σ u : List ℕ) (s : ℕ) (v : List ℕ) → σ ≡ u ++ (s ∷ v) → isPerm σ ≡ true →
     (τ : List ℕ) × (isPerm τ ≡ true) × (map (bump s) τ ≡ u ++ v) × (suc (length τ) ≡ length σ) × (1 ≤ s) × (s ≤ length σ)
 take-out σ u s v split h =
@@ -147,8 +149,8 @@ take-out σ u s v split h =
 abbrev pub Within : List ℕ → List ℕ → Type 0
 Within q g = (x : ℕ) → List·Memᴰ x q → x < length g
 
--- The word over the lowered spacing is isomorphic to the word whose rest r steps over s: for σ ≡ u ++ (s ∷ v) and r ≡ u ++ v, to the built
--- word without the entry s of its rest.
+-- The word over the lowered spacing is isomorphic to the word whose rest r steps over s: for σ ≡ u
+-- ++ (s ∷ v) and r ≡ u ++ v, to the built word without the entry s of its rest.
 pub iso-lowered : (q g r : List ℕ) (s : ℕ) (τ : List ℕ) → 1 ≤ s → Within q g → map (bump s) τ ≡ r → iso (built q (lowered g s) τ) (built q g r) ≡ true
 iso-lowered q g r s τ p w e =
     rw (← e) (iso-built q (lowered g s) τ q g (map (bump s) τ) (iso-refl q) (iso-map (bump s) (bump-keeps s) τ τ ∙ iso-refl τ)
@@ -164,7 +166,8 @@ iso-lowered q g r s τ p w e =
         let e : getD (map (bump s) τ) j 0 ≡ bump s (getD τ j 0) = rw zero-stays at (List·getD-map (bump s) τ j 0) in
         rw e (level-bump g s (getD q i 0) (getD τ j 0) p)
 
--- so the two contain the same patterns, avoid the same patterns, and are copies of the same patterns
+-- so the two contain the same patterns, avoid the same patterns, and are copies of the same
+-- patterns
 pub contains-lowered : (β q g r : List ℕ) (s : ℕ) (τ : List ℕ) → 1 ≤ s → Within q g → map (bump s) τ ≡ r →
     contains β (built q (lowered g s) τ) ≡ contains β (built q g r)
 contains-lowered β q g r s τ p w e = contains-word-iso β (built q (lowered g s) τ) (built q g r) (iso-lowered q g r s τ p w e)

@@ -1,4 +1,5 @@
--- A map that rises keeps comparisons, and so it goes through sorting, counting, reduction and the lexicographic order.
+-- A map that rises keeps comparisons, and so it goes through sorting, counting, reduction and the
+-- lexicographic order.
 use Prim.Native.Nat.{ℕ, suc, _≤_, _<_}
 use native.Mathlib.Omega.{arith}
 use mathlib.Core.Path.{_≡_, refl, sym, ap, ap₂, _∙_}

@@ -1,4 +1,5 @@
--- Laws of sorting and of spacings: what a sorted list holds, and how it is recovered from its spacing.
+-- Laws of sorting and of spacings: what a sorted list holds, and how it is recovered from its
+-- spacing.
 use Prim.Native.Nat.{ℕ, zero, suc, _+_, _-_, _≤_, _<_}
 use native.Mathlib.Nat.{zero-add}
 use native.Mathlib.Omega.{arith}
@@ -142,7 +143,8 @@ pub row-suc : (a n : ℕ) → row (suc a) n ≡ map suc (row a n)
 row-suc a zero = refl
 row-suc a (suc n) = ap (λ (r : List ℕ). suc a ∷ r) (row-suc (suc a) n)
 
--- the prefix values behind the first component, counted from c: the values of the other components, counted from above it
+-- the prefix values behind the first component, counted from c: the values of the other components,
+-- counted from above it
 shift : (c d x k : ℕ) (g : List ℕ) → d ≡ suc (c + x) → map (λ i. c + val (x ∷ g) i) (row 2 k) ≡ map (λ i. d + val g i) (oneTo k)
 unfolding val
 shift c d x k g e =
@@ -171,7 +173,8 @@ values-between c b (d ∷ u) h =
 from-zero : (g : List ℕ) (l : List ℕ) → map (λ i. 0 + val g i) l ≡ map (val g) l
 from-zero g l = map-same (λ i. 0 + val g i) (val g) l (λ i m. zero-add (val g i))
 
--- the spacing of the prefix values in their order, and the prefix values in their order from the spacing
+-- the spacing of the prefix values in their order, and the prefix values in their order from the
+-- spacing
 pub between-val : (k : ℕ) (g : List ℕ) → length g ≡ suc k → between 0 (map (val g) (oneTo k)) (suc (k + total g)) ≡ g
 between-val k g l =
     ap (λ (u : List ℕ). between 0 u (suc (k + total g))) (sym (from-zero g (oneTo k))) ∙ between-values 0 k (suc (k + total g)) g l (omega arith)

@@ -1,4 +1,5 @@
--- Laws of spacings: the order in each component, the lists of vectors and of compared spacings, and tests that keep equally many elements.
+-- Laws of spacings: the order in each component, the lists of vectors and of compared spacings, and
+-- tests that keep equally many elements.
 use Prim.Native.Nat.{ℕ, zero, suc, _+_, _-_, _≤_, _<_}
 use mathlib.Core.Path.{_≡_, refl, sym, ap, _∙_, subst}
 use mathlib.Core.Logic.{_⊎_, inl, inr}
@@ -92,7 +93,8 @@ compared-all P k B g l h f =
     keep-in (free B) (each-in (vectors (suc k)) (row-in 0 (mOf P) (total g) (omega arith) (omega arith))
     (subst (λ (n : ℕ). List·Memᴰ g (vectors n (total g))) l (vectors-all g))) f
 
--- Tests, the first implying the second, keep equally many elements exactly if they agree on every element.
+-- Tests, the first implying the second, keep equally many elements exactly if they agree on every
+-- element.
 
 module _ {A : Type 0} where
   pub keep-fewer : (f h : A → Bool) (l : List A) → ((x : A) → List·Memᴰ x l → f x ≡ true → h x ≡ true) → length (keep f l) ≤ length (keep h l)

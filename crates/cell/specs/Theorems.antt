@@ -149,7 +149,8 @@ module _ (P : List (List ℕ)) (p R : List ℕ) (perm : isPerm p ≡ true) (insi
         ((w : List ℕ) → List·Memᴰ w (cell P p g) → deleted R w ≡ v → ⊥) → length (cell P p g) ≡ length (cell P (deleted R p) (merged R p g)) → ⊥
     sizes-differ v m alone e = let (w, n, q) = carries-of-agrees (agrees-of-sizes e) .onto v m in alone w n q
 
-    -- A member of the shorter cell without a partner gives a violation that is the prefix and one copy of a pattern, at a spacing at most g.
+    -- A member of the shorter cell without a partner gives a violation that is the prefix and one
+    -- copy of a pattern, at a spacing at most g.
     pub least-violation : (v : List ℕ) → List·Memᴰ v (cell P (deleted R p) (merged R p g)) →
         ((w : List ℕ) → List·Memᴰ w (cell P p g) → deleted R w ≡ v → ⊥) → Violation P p (without R p) g
     least-violation v m alone = let (σ, s, a, e) = shorter-out m in let (sp, sl) = perms-are (total g) s in go σ s sp sl a e (avoids P (built p g σ)) refl
@@ -166,7 +167,8 @@ module _ (P : List (List ℕ)) (p R : List ℕ) (perm : isPerm p ≡ true) (insi
     Spoken : List ℕ → Type 0
     Spoken g = (length g ≡ suc (length p)) × (free B g ≡ true)
 
-    -- The deletion claim holds if no copy of a pattern is lost below the length of the longest pattern ..
+    -- The deletion claim holds if no copy of a pattern is lost below the length of the longest
+    -- pattern ..
     pub claim-of-clean : ((g : List ℕ) → length g ≡ suc (length p) → free B g ≡ true → total g < longest P → Clean P p (without R p) g) →
         DeletionClaim P p B R
     unfolding Spoken
@@ -183,7 +185,8 @@ module _ (P : List (List ℕ)) (p R : List ℕ) (perm : isPerm p ≡ true) (insi
     pub agrees-of-claim : DeletionClaim P p B R → (g : List ℕ) → length g ≡ suc (length p) → free B g ≡ true → Agrees P p (without R p) g
     agrees-of-claim claim g size f = agrees-of-carries g size (claim g size f)
 
-    -- Finite test: the sizes agree at all compared spacings exactly if the deletion claim holds at every length.
+    -- Finite test: the sizes agree at all compared spacings exactly if the deletion claim holds at
+    -- every length.
     pub finite-law : SizesAgree P p B R ↔ DeletionClaim P p B R
     unfolding mOf
     finite-law = (

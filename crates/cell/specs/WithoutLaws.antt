@@ -1,4 +1,5 @@
--- Laws of a word with some positions left out: it is a sublist, it has the entries of the other positions, and what follows the positions stays.
+-- Laws of a word with some positions left out: it is a sublist, it has the entries of the other
+-- positions, and what follows the positions stays.
 use Prim.Native.Nat.{ℕ, zero, suc, _+_, _≤_, _<_}
 use native.Mathlib.Nat.{zero-add, suc-add, add-suc, add-zero}
 use native.Mathlib.Omega.{arith}

@@ -1,4 +1,5 @@
-// The claims of one entry in memory: whether a gap vector's cell is not empty, whether the deletion is irreversible, how many cells are compared.
+// The claims of one entry in memory: whether a gap vector's cell is not empty, whether the deletion
+// is irreversible, how many cells are compared.
 use crate::gaps::is_live;
 use candidate::search::Deletion;
 use candidate::search::irreversible;

@@ -42,8 +42,8 @@ fn parts_of(b: Gap) -> [u8; COMPONENTS]
     b.parts
 }
 
-// Whether the cell of the prefix at the gap vector is not empty. Smaller vectors are tried first: by the gap law the cell is empty if one of theirs is, and
-// that shows sooner.
+// Whether the cell of the prefix at the gap vector is not empty. Smaller vectors are tried first:
+// by the gap law the cell is empty if one of theirs is, and that shows sooner.
 pub fn is_live(
     set: [[u8; DIGITS]; PATTERNS],
     lengths: [u8; PATTERNS],
@@ -62,7 +62,8 @@ pub fn is_live(
     is_live_at(set, lengths, count, prefix, k, parts)
 }
 
-// Whether the cell at the spacing is not empty: whether its first entries can be completed to an avoider.
+// Whether the cell at the spacing is not empty: whether its first entries can be completed to an
+// avoider.
 fn is_live_at(
     set: [[u8; DIGITS]; PATTERNS],
     lengths: [u8; PATTERNS],

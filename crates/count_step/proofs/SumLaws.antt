@@ -82,7 +82,8 @@ unfolding rankAfter total
 after-small i a [] h = omega arith
 after-small i a (x ∷ g) h = omega (arith, from-small i (a + x) g (omega arith))
 
--- The sum over every next entry: what is summed, and what is still to come. G is the spacing, z the first value of component i.
+-- The sum over every next entry: what is summed, and what is still to come. G is the spacing, z the
+-- first value of component i.
 pub record Sums (M : ℕ) (T links G : List ℕ) (k above below z sum i : ℕ) : Type 0 where
   pub whole : min (sum + childSum T links i below z (drop i G)) M ≡ min (childrenOf T links G) M
   pub high : above ≡ rankAfter (i + 1) z (drop i G)

@@ -14,8 +14,9 @@ unfolding binomial
 partSum T at col z zero = 0
 partSum T at col z (suc n) = getD T (at + binomial z col) 0 + partSum T at col (suc z) n
 
--- The sum over every next entry, component by component: the child whose last entry is i + 1 has its cells from `links` i on. The values of the
--- components before are counted in s, and end below a.
+-- The sum over every next entry, component by component: the child whose last entry is i + 1 has
+-- its cells from `links` i on. The values of the components before are counted in s, and end below
+-- a.
 unfoldable pub childSum : List ℕ → List ℕ → ℕ → ℕ → ℕ → List ℕ → ℕ
 unfolding partSum binomial rankFrom
 childSum T links i s a [] = 0

@@ -77,7 +77,8 @@ module _ (T links : List ℕ) where
           nextCell (suc i) (s + binomial (a + x) (suc i)) (suc (a + x)) g q ≡ nextCell i s a (x ∷ g) (x + q)
       later q m = let (low, high) = row-out 1 (total g) m in later-cell i s a x g q low (omega arith)
 
--- the cells of n next entries from the q-th on, if the table has the terms in the cells of the children
+-- the cells of n next entries from the q-th on, if the table has the terms in the cells of the
+-- children
 pub cells-sum : (T links : List ℕ) (u : ℕ → List ℕ → ℕ) (g : List ℕ) →
     ((q : ℕ) → 1 ≤ q → q ≤ total g → getD T (getD links (slot g q - 1) 0 + rankOf (split g q)) 0 ≡ u (slot g q) (split g q)) →
     (q n : ℕ) → 1 ≤ q → q + n ≤ suc (total g) →
@@ -92,7 +93,8 @@ cells-sum T links u g h q n low high = ap total (map-same (nextCell T links 0 0 
         let f : 0 + rankAfter 0 0 (split g s) ≡ rankAfter 0 0 (split g s) = omega arith in
         rw (e, f) (h s (omega arith) (omega arith))
 
--- The sum of a step is a sum over every next entry, if the table has the terms in the cells of the children.
+-- The sum of a step is a sum over every next entry, if the table has the terms in the cells of the
+-- children.
 pub children-sum : (T links : List ℕ) (u : ℕ → List ℕ → ℕ) (g : List ℕ) →
     ((q : ℕ) → 1 ≤ q → q ≤ total g → getD T (getD links (slot g q - 1) 0 + rankOf (split g q)) 0 ≡ u (slot g q) (split g q)) →
     childrenOf T links g ≡ total (map (λ q. u (slot g q) (split g q)) (oneTo (total g)))

@@ -43,7 +43,8 @@ pub record Outside (at n : ℕ) (before after : List ℕ) : Type 0 where
   pub size : length after ≡ length before
   pub same : (i : ℕ) → (i < at) ⊎ (at + n ≤ i) → getD after i 0 ≡ getD before i 0
 
--- the steps at the spacings of length k + 1 and total t have the values v, whatever stands in these n cells
+-- the steps at the spacings of length k + 1 and total t have the values v, whatever stands in these
+-- n cells
 abbrev pub Steady : (List ℕ → List ℕ → ℕ) → ℕ → ℕ → ℕ → ℕ → List ℕ → (List ℕ → ℕ) → Type 0
 Steady step k t at n before v =
     (T : List ℕ) → Outside at n before T → (h : List ℕ) → length h ≡ suc k → total h ≡ t → step T h ≡ v h
@@ -52,7 +53,8 @@ Steady step k t at n before v =
 abbrev pub UpTo : ℕ → ℕ → ℕ → ℕ → List ℕ → (List ℕ → ℕ) → Type 0
 UpTo k t at p after v = (h : List ℕ) → length h ≡ suc k → total h ≡ t → rankOf h < p → getD after (at + rankOf h) 0 ≡ v h
 
--- The first p of n cells are filled: each has the value of its spacing, wherever the steps have values; no cell outside the n cells is changed.
+-- The first p of n cells are filled: each has the value of its spacing, wherever the steps have
+-- values; no cell outside the n cells is changed.
 pub record Filled (step : List ℕ → List ℕ → ℕ) (k t at n p : ℕ) (before after : List ℕ) : Type 0 where
   pub outside : Outside at n before after
   pub cells : (v : List ℕ → ℕ) → Steady step k t at n before v → at + n ≤ length before → UpTo k t at p after v

@@ -15,8 +15,9 @@ ghost use Rattle.spacing.specs.Pascal.{Pascal};
 ghost use Rattle.count_step.specs.Step.{partSum, childrenOf, capped};
 ghost use Rattle.count_step.specs.Task.{Near, TaskFits, TaskGaps, spacingIn, taskStep, REACH};
 
-// What the cells of one entry at one length share: the entry's length and the total of its spacings; the value that the entry deletes, or 0; what an
-// expanding entry has at total 0; where in the table the cells of its children, or of its target, begin; the number of its gap vectors.
+// What the cells of one entry at one length share: the entry's length and the total of its
+// spacings; the value that the entry deletes, or 0; what an expanding entry has at total 0; where
+// in the table the cells of its children, or of its target, begin; the number of its gap vectors.
 pub struct Task {
     pub length: usize,
     pub total: usize,
@@ -62,8 +63,9 @@ fn part_sum(table: &[u64], at: usize, col: usize, first: usize, n: usize, b: &[u
     sum
 }
 
-// The sum over every next entry: component by component, the cells of the child that belongs to it. Each value of a component joins the values before,
-// whose binomials stay (`below`), and those behind it, which are now counted as one more (`above`).
+// The sum over every next entry: component by component, the cells of the child that belongs to it.
+// Each value of a component joins the values before, whose binomials stay (`below`), and those
+// behind it, which are now counted as one more (`above`).
 fn child_sum(
     table: &[u64],
     links: [usize; LINKS],
@@ -94,8 +96,8 @@ fn child_sum(
     capped_sum(sum, end)
 }
 
-// The value at the spacing g: 0 where a gap vector covers it; else, for a deleting entry, the value at its target, and for an expanding entry the sum
-// over every next entry.
+// The value at the spacing g: 0 where a gap vector covers it; else, for a deleting entry, the value
+// at its target, and for an expanding entry the sum over every next entry.
 pub fn value_at(table: &[u64], task: Task, gaps: &[u8], g: [u8; COMPONENTS], b: &[usize]) -> u64
     requires { ⌜ TaskFits task × TaskGaps task (now gaps) × (total (spacingIn (task .length) g) ≡ task .total) × Pascal (now b) ⌝ }
     ensures { λ r. ⌜ r ≡ taskStep task (now (gaps .entry)) (now (table .entry)) (spacingIn (task .length) g) ⌝ }

@@ -31,7 +31,8 @@ pub fn fill_one(
     store(table, at, x);
 }
 
-// The cells of one entry at one length, `size` of them from `at` on: the one with index p has the value at the spacing of rank p.
+// The cells of one entry at one length, `size` of them from `at` on: the one with index p has the
+// value at the spacing of rank p.
 pub fn fill_cells(table: &mut [u64], at: usize, size: usize, task: Task, gaps: &[u8], b: &[usize])
     requires { ⌜ TaskFits task × TaskGaps task (now gaps) × (size ≡ binomial (task .length + task .total) (task .length)) × (at ≤ FAR) × Pascal (now b) ⌝ }
     ensures { λ r. ⌜ Filled (taskStep task (now (gaps .entry))) (task .length) (task .total) at size size (now (table .entry)) (now (table .exit)) ⌝ }

@@ -26,7 +26,8 @@ ghost use Rattle.scheme.specs.Proper.{Proper};
 ghost use Rattle.count_rows.specs.Run.{cleared, Counts as CountsTo};
 ghost use Rattle.counting.specs.Counting.{tableTests, Counts};
 
-// The number of permutations of 1 to n that avoid the patterns, by a scheme that is judged first. Nothing is asked of the caller.
+// The number of permutations of 1 to n that avoid the patterns, by a scheme that is judged first.
+// Nothing is asked of the caller.
 pub fn count(patterns: Patterns, scheme: Scheme, n: usize, table: &mut [u64]) -> Counted
     ensures { λ r. ⌜ Counts (patternsIn patterns) (schemeIn scheme) n (now (table .entry)) (now (table .exit)) r ⌝ }
 {

@@ -5,7 +5,8 @@ use lib.ListN.{length, take, drop}
 use Rattle.word.specs.Ceilings.{COMPONENTS}
 use Rattle.word.specs.Lists.{row}
 
--- the vector with index j of those that stand in one array, as many of its components as the width says
+-- the vector with index j of those that stand in one array, as many of its components as the width
+-- says
 abbrev pub vectorAt : List ℕ → ℕ → ℕ → List ℕ
 vectorAt parts width j = take width (drop (COMPONENTS * j) parts)
 

@@ -1,4 +1,5 @@
--- The lists that patterns and schemes in memory stand for, and findings in memory. Definitions only.
+-- The lists that patterns and schemes in memory stand for, and findings in memory. Definitions
+-- only.
 use Prim.Native.Nat.{ℕ, _*_}
 use mathlib.Core.Bool.{Bool, true, false}
 use mathlib.Core.List.{List, [], map, _++_}
@@ -19,7 +20,8 @@ use Rattle.forms.specs.declared.memory.Scheme.{Scheme}
 use Rattle.forms.specs.declared.memory.Fault.{Fault}
 use Rattle.forms.specs.declared.memory.Fault.the-variants.{Clean, At}
 
--- the first n numbers of an array, with zeros where the array ends before: a length beyond the array stands for a list of that length
+-- the first n numbers of an array, with zeros where the array ends before: a length beyond the
+-- array stands for a list of that length
 abbrev pub padded : ℕ → List ℕ → List ℕ
 padded n l = take n (l ++ replicate n 0)
 

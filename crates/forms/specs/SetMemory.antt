@@ -1,4 +1,5 @@
--- A set of patterns as containment takes it: an array of arrays of digits, with lengths beside it. Definitions only.
+-- A set of patterns as containment takes it: an array of arrays of digits, with lengths beside it.
+-- Definitions only.
 use Prim.Native.Nat.{ℕ, _%_, _<_}
 use mathlib.Core.Path.{_≡_}
 use mathlib.Core.List.{List, []}

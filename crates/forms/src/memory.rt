@@ -1,4 +1,5 @@
-// Patterns and schemes in memory. A count or a length may be any number: one beyond its array is refused as oversize by that field alone.
+// Patterns and schemes in memory. A count or a length may be any number: one beyond its array is
+// refused as oversize by that field alone.
 use word::limits::COMPONENTS;
 use word::limits::DIGITS;
 use word::limits::ENTRIES;

@@ -1,4 +1,5 @@
-// Judging a set of patterns and a scheme: the tests 2 to 4 of the patterns, 2 to 9 of the scheme, then 10 and 11.
+// Judging a set of patterns and a scheme: the tests 2 to 4 of the patterns, 2 to 9 of the scheme,
+// then 10 and 11.
 use crate::compared::compared_cells;
 use crate::deletions::irreversible_fault;
 use crate::live_gaps::live_fault;
@@ -43,8 +44,9 @@ fn formed_fault(patterns: Patterns, scheme: Scheme) -> Fault
     earlier(first, second)
 }
 
-// Judges the claims of a well-formed scheme: test 10, then test 11, then the number of compared cells.
-// Patterns that contain another pattern of the set change no cell, so the tests run on the others.
+// Judges the claims of a well-formed scheme: test 10, then test 11, then the number of compared
+// cells. Patterns that contain another pattern of the set change no cell, so the tests run on the
+// others.
 pub fn judge_claims(patterns: Patterns, scheme: Scheme) -> Verdict
     requires { ⌜ WellFormed (patternsIn patterns) (schemeIn scheme) ⌝ }
     ensures { λ r. ⌜ r ≡ answered (faultOf (firstFault (claimTests (patternsIn patterns) (schemeIn scheme)))) (comparedCells (patternsIn patterns) (schemeIn scheme)) ⌝ }

@@ -17,7 +17,8 @@ pub struct TextsJudged {
     pub scheme: Scheme,
 }
 
-// Judges the scheme that one text spells for the patterns that another spells. The texts may have any length and content.
+// Judges the scheme that one text spells for the patterns that another spells. The texts may have
+// any length and content.
 pub fn judge_texts(patterns: &[u8], scheme: &[u8]) -> Verdict
     ensures { λ r. ⌜ JudgesTexts (now (patterns .entry)) (now (scheme .entry)) r ⌝ }
 {
@@ -25,7 +26,8 @@ pub fn judge_texts(patterns: &[u8], scheme: &[u8]) -> Verdict
     judged.verdict
 }
 
-// The same, with the lists that were read. They went through their tests while they were read, so only their claims are judged.
+// The same, with the lists that were read. They went through their tests while they were read, so
+// only their claims are judged.
 pub fn read_and_judge(patterns: &[u8], scheme: &[u8]) -> TextsJudged
     ensures { λ r. ⌜ JudgesAndReads (now (patterns .entry)) (now (scheme .entry)) r ⌝ }
 {

@@ -14,13 +14,15 @@ ghost use mathlib.Core.Path.{_≡_};
 ghost use Rattle.forms.specs.SchemeMemory.{patternsIn};
 ghost use Rattle.notation.specs.PatternAnswers.{nonePatterns, patternsAnswer, ReadsPatterns, WritesPatterns};
 
-// What reading a set of patterns answers: the set where there is no fault, or a refusal with its index beside a set of none.
+// What reading a set of patterns answers: the set where there is no fault, or a refusal with its
+// index beside a set of none.
 pub struct PatternsRead {
     pub fault: Fault,
     pub patterns: Patterns,
 }
 
-// Reads a set of patterns. A text of more than 1,024 bytes is refused with 2, one that spells no set with 1; then the tests 2 to 4.
+// Reads a set of patterns. A text of more than 1,024 bytes is refused with 2, one that spells no
+// set with 1; then the tests 2 to 4.
 pub fn read_patterns(text: &[u8]) -> PatternsRead
     ensures { λ r. ⌜ (r ≡ patternsAnswer (now (text .entry))) × ReadsPatterns (now (text .entry)) r ⌝ }
 {
@@ -47,7 +49,8 @@ fn refused_patterns(fault: Fault) -> PatternsRead
     PatternsRead { fault, patterns }
 }
 
-// Writes a set of patterns at the start of the page: the tests 2 to 4, then 13; the number of bytes. A refused call leaves the page as it is.
+// Writes a set of patterns at the start of the page: the tests 2 to 4, then 13; the number of
+// bytes. A refused call leaves the page as it is.
 pub fn write_patterns(s: Patterns, page: &mut [u8]) -> Written
     ensures { λ r. ⌜ WritesPatterns (patternsIn s) (now (page .entry)) (now (page .exit)) r ⌝ }
 {

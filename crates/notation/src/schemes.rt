@@ -14,13 +14,15 @@ ghost use mathlib.Core.Path.{_≡_};
 ghost use Rattle.forms.specs.SchemeMemory.{schemeIn};
 ghost use Rattle.notation.specs.SchemeAnswers.{noScheme, schemeAnswer, ReadsScheme, WritesScheme};
 
-// What reading a scheme answers: the scheme where there is no fault, or a refusal with its index beside a scheme of no entries.
+// What reading a scheme answers: the scheme where there is no fault, or a refusal with its index
+// beside a scheme of no entries.
 pub struct SchemeRead {
     pub fault: Fault,
     pub scheme: Scheme,
 }
 
-// Reads a scheme. A text of more than 32,768 bytes is refused with 2, one that spells no scheme with 1; then the tests 2 to 9.
+// Reads a scheme. A text of more than 32,768 bytes is refused with 2, one that spells no scheme
+// with 1; then the tests 2 to 9.
 pub fn read_scheme(text: &[u8]) -> SchemeRead
     ensures { λ r. ⌜ (r ≡ schemeAnswer (now (text .entry))) × ReadsScheme (now (text .entry)) r ⌝ }
 {
@@ -47,7 +49,8 @@ fn refused_scheme(fault: Fault) -> SchemeRead
     SchemeRead { fault, scheme }
 }
 
-// Writes a scheme at the start of the page: the tests 2 to 9, then 13; the number of bytes. A refused call leaves the page as it is.
+// Writes a scheme at the start of the page: the tests 2 to 9, then 13; the number of bytes. A
+// refused call leaves the page as it is.
 pub fn write_scheme(s: Scheme, page: &mut [u8]) -> Written
     ensures { λ r. ⌜ WritesScheme (schemeIn s) (now (page .entry)) (now (page .exit)) r ⌝ }
 {

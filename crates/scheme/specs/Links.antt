@@ -1,4 +1,5 @@
--- Looking entries up by their prefix, and what the tests 8 and 9 ask of a scheme in memory. Definitions only.
+-- Looking entries up by their prefix, and what the tests 8 and 9 ask of a scheme in memory.
+-- Definitions only.
 use Prim.Native.Nat.{ℕ, suc, _≤_, _<_}
 use mathlib.Core.Path.{_≡_}
 use mathlib.Core.Bool.{Bool, true, false, not, cond}

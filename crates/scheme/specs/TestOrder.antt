@@ -1,4 +1,5 @@
--- What the tests in memory have in hand: an item at a place, the items before a place, the tests in three parts.
+-- What the tests in memory have in hand: an item at a place, the items before a place, the tests in
+-- three parts.
 use Prim.Native.Nat.{ℕ, zero, suc}
 use mathlib.Core.List.{List, [], _∷_}
 use lib.ListN.{getD}
@@ -17,7 +18,8 @@ abbrev pub seen : {A : Type 0} → (ℕ → A) → ℕ → List A
 seen g zero = []
 seen g (suc i) = g i ∷ seen g i
 
--- the tests of a scheme list in three parts: those of the ceilings, those of each entry, those that look entries up
+-- the tests of a scheme list in three parts: those of the ceilings, those of each entry, those that
+-- look entries up
 abbrev pub sizeTests : List EntryList → List Finding
 sizeTests E = countTest E ∷ sizeTest E ∷ []
 

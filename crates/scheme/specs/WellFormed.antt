@@ -1,4 +1,5 @@
--- The tests 2 to 4 of a pattern list and 2 to 9 of a scheme list, in the order of document 01. Definitions only.
+-- The tests 2 to 4 of a pattern list and 2 to 9 of a scheme list, in the order of document 01.
+-- Definitions only.
 use Prim.Native.Nat.{ℕ, suc}
 use mathlib.Core.Bool.{Bool, false, not, cond, _||_}
 use mathlib.Core.List.{List, [], _∷_, map}
@@ -19,7 +20,8 @@ abbrev pub firstAt : {A : Type 0} → Refusal → (A → Bool) → ℕ → List 
 firstAt r f i [] = clean
 firstAt r f i (x ∷ l) = cond (f x) (fault r i) (firstAt r f (suc i) l)
 
--- the first item that an earlier one equals: "for 4 the later twin" (01); `seen` are the items before
+-- the first item that an earlier one equals: "for 4 the later twin" (01); `seen` are the items
+-- before
 abbrev pub firstTwin : {A : Type 0} → (List A → A → Bool) → ℕ → List A → List A → Finding
 firstTwin twin i seen [] = clean
 firstTwin twin i seen (x ∷ l) = cond (twin seen x) (fault Repeated i) (firstTwin twin (suc i) (x ∷ seen) l)
@@ -33,13 +35,15 @@ abbrev pub repeats : List (List ℕ) → Bool
 repeats [] = false
 repeats (x ∷ l) = listed l x || repeats l
 
--- "The set is up to 24 patterns of up to 8 digits each" (01); "Within 2: number of items, then items in order"
+-- "The set is up to 24 patterns of up to 8 digits each" (01); "Within 2: number of items, then
+-- items in order"
 abbrev pub patternTests : List (List ℕ) → List Finding
 patternTests P =
     test Oversize (ltb PATTERNS (length P)) ∷ firstAt Oversize (λ β. ltb DIGITS (length β)) 0 P ∷ firstAt NoPermutation (λ β. not (isPattern β)) 0 P ∷
     firstTwin listed 0 [] P ∷ []
 
--- "Entries 128, prefix length 6, gap vectors per entry 8, components of a gap vector 7, total of a gap vector 8" (01)
+-- "Entries 128, prefix length 6, gap vectors per entry 8, components of a gap vector 7, total of a
+-- gap vector 8" (01)
 abbrev pub largeGap : List ℕ → Bool
 largeGap b = ltb COMPONENTS (length b) || ltb TOTAL (total b)
 

@@ -118,7 +118,8 @@ pub fn child(prefix: [u8; PREFIX], k: usize, a: u8) -> [u8; PREFIX]
     digits
 }
 
-// The digits that are left of a prefix of length k without its position r, reduced: the larger values are lowered by one.
+// The digits that are left of a prefix of length k without its position r, reduced: the larger
+// values are lowered by one.
 pub fn shorter(prefix: [u8; PREFIX], k: usize, r: usize) -> [u8; PREFIX]
     requires { ⌜ (1 ≤ r) × (r ≤ k) × (k ≤ PREFIX) × (isPerm (take k prefix) ≡ true) ⌝ }
     ensures { λ q. ⌜ take (k - 1) q ≡ deleted (r ∷ []) (take k prefix) ⌝ }

@@ -19,7 +19,8 @@ use Rattle.spacing.specs.Rank.{rankAfter, carry, nextOf}
 use Rattle.spacing.specs.RankLaws.{leaveFrom, merge-rank}
 use Rattle.spacing.specs.PascalLaws.{binomial-small}
 
--- The walk: what is counted, and what is still to come. G is the spacing, z the next value, t its number.
+-- The walk: what is counted, and what is still to come. G is the spacing, z the next value, t its
+-- number.
 pub record Walk (G : List ℕ) (k v start z count rank t : ℕ) : Type 0 where
   pub whole : rankAfter start 0 (mergeValues (v ∷ []) G) ≡ rank + leaveFrom (v ∷ []) t count z (drop t G)
   pub low : 1 ≤ t

@@ -18,7 +18,8 @@ use Rattle.spacing.specs.SpacingOrder.{vectors-first, first-total, keep-
 abbrev pub passing : (List ℕ → Bool) → List (List ℕ) → ℕ
 passing f l = length (keep f l)
 
--- how far the walk along the spacings with k + 1 components and total t has come: v is next, and count passed before it
+-- how far the walk along the spacings with k + 1 components and total t has come: v is next, and
+-- count passed before it
 pub record Walk (f : List ℕ → Bool) (k t : ℕ) (v : List ℕ) (count : ℕ) : Type 0 where
   pub counted : count + passing f (v ∷ later v) ≡ passing f (vectors (suc k) t)
   pub held : total v ≡ t

@@ -1,10 +1,12 @@
--- The rank of a spacing among those of its length and total, and the spacing that comes next. Definitions only.
+-- The rank of a spacing among those of its length and total, and the spacing that comes next.
+-- Definitions only.
 use Prim.Native.Nat.{ℕ, zero, suc, _+_}
 use mathlib.Core.List.{List, [], _∷_}
 use Rattle.cell.specs.Binomial.{binomial}
 
--- The values of a cell's first entries, counted from 0 and in rising order, are c0 < c1 < ..: the first is the first component of the spacing, and
--- each other is one more than the value before it and the component between them. The rank is C(c0, 1) + C(c1, 2) + ..; i values are counted
+-- The values of a cell's first entries, counted from 0 and in rising order, are c0 < c1 < ..: the
+-- first is the first component of the spacing, and each other is one more than the value before it
+-- and the component between them. The rank is C(c0, 1) + C(c1, 2) + ..; i values are counted
 -- already, z is the next one, and the list is what follows of the spacing.
 unfoldable pub rankFrom : ℕ → ℕ → List ℕ → ℕ
 unfolding binomial
@@ -22,8 +24,8 @@ unfoldable pub rankOf : List ℕ → ℕ
 unfolding rankAfter
 rankOf g = rankAfter 0 0 g
 
--- The spacing that comes next by rank: the first component after the first that is not 0 gives one to the component before it, which then also has what
--- the first component had.
+-- The spacing that comes next by rank: the first component after the first that is not 0 gives one
+-- to the component before it, which then also has what the first component had.
 unfoldable pub carry : ℕ → List ℕ → List ℕ
 carry t [] = t ∷ []
 carry t (zero ∷ g) = zero ∷ carry t g

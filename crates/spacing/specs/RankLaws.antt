@@ -1,5 +1,5 @@
--- Laws of ranks: below the number of spacings, different spacings have different ranks, the next spacing has the next rank; the ranks after a
--- split and after a merge.
+-- Laws of ranks: below the number of spacings, different spacings have different ranks, the next
+-- spacing has the next rank; the ranks after a split and after a merge.
 use Prim.Native.Nat.{ℕ, zero, suc, _+_, _-_, _≤_, _<_}
 use native.Mathlib.Nat.{add-zero}
 use native.Mathlib.Omega.{arith}
@@ -205,7 +205,8 @@ pub first-rank : (k t : ℕ) → rankOf (firstVector k t) ≡ 0
 unfolding rankOf
 first-rank k t = first-after 0 k t
 
--- A merge: the walk over a spacing that leaves out the values of a list. z is the next value, u its number counted from 1.
+-- A merge: the walk over a spacing that leaves out the values of a list. z is the next value, u its
+-- number counted from 1.
 unfoldable pub leaveFrom : List ℕ → ℕ → ℕ → ℕ → List ℕ → ℕ
 unfolding has binomial
 leaveFrom vs u i z [] = 0

@@ -1,5 +1,5 @@
-// The spacings of one total in lexicographic order, and the number of compared spacings of an entry;
-// binomials, the rank of a spacing, and the spacing that comes next by rank.
+// The spacings of one total in lexicographic order, and the number of compared spacings of an
+// entry; binomials, the rank of a spacing, and the spacing that comes next by rank.
 pub mod binomials;
 pub mod walk;
 
@@ -29,7 +29,8 @@ pub struct Next {
     pub g: [u8; COMPONENTS],
 }
 
-// The spacing that comes next: the last component that is not 0 gives one to the component before it, and the rest of it goes to the end.
+// The spacing that comes next: the last component that is not 0 gives one to the component before
+// it, and the rest of it goes to the end.
 pub fn next_spacing(g: [u8; COMPONENTS], k: usize) -> Next
     requires { ⌜ (k < COMPONENTS) × (total (take (k + 1) g) < 256) ⌝ }
     ensures { λ r. ⌜ Steps g k (r .found) (r .g) ⌝ }
@@ -114,7 +115,8 @@ fn free_count(gaps: &[u8], n: usize, k: usize, t: u8) -> usize
     }
 }
 
-// How many spacings are compared for an entry of length k: those with a total below m that are at least none of the first n gap vectors.
+// How many spacings are compared for an entry of length k: those with a total below m that are at
+// least none of the first n gap vectors.
 pub fn compared_count(m: usize, k: usize, gaps: &[u8], n: usize) -> usize
     requires { ⌜ (k < COMPONENTS) × (m ≤ DIGITS) × HasVectors (now gaps) n ⌝ }
     ensures { λ r. ⌜ r ≡ length (keep (free (gapsOf (now (gaps .entry)) (k + 1) n)) (each (vectors (suc k)) (row 0 m))) ⌝ }

@@ -11,8 +11,9 @@ ghost use Rattle.spacing.specs.Sizes.{RANKS};
 ghost use Rattle.spacing.specs.Rank.{rankAfter, nextOf};
 ghost use Rattle.spacing.specs.Pascal.{Pascal};
 
-// The rank of the spacing without the value v: components v - 1 and v added into one. Where v is 0, that of the spacing itself. With a `start` of 1
-// each value is counted as if one more came before it.
+// The rank of the spacing without the value v: components v - 1 and v added into one. Where v is 0,
+// that of the spacing itself. With a `start` of 1 each value is counted as if one more came before
+// it.
 pub fn rank_without(g: [u8; COMPONENTS], k: usize, v: usize, start: usize, b: &[usize]) -> usize
     requires { ⌜ (k ≤ PREFIX) × (start ≤ 1) × (k + total (take (k + 1) g) ≤ LENGTH) × Pascal (now b) ⌝ }
     ensures { λ r. ⌜ (r ≡ rankAfter start 0 (mergeValues (v ∷ []) (take (k + 1) g))) × (r ≤ RANKS) ⌝ }

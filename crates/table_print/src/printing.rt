@@ -21,7 +21,6 @@ use word::refusal::Refusal;
 ghost use mathlib.Core.Path.{_≡_};
 ghost use mathlib.Core.List.{[]};
 ghost use Prim.Native.Nat.{_≤_, min};
-ghost use lib.ListN.{take};
 ghost use Rattle.forms.specs.SchemeMemory.{patternsIn, schemeIn};
 ghost use Rattle.text_page.specs.Page.{Writes};
 ghost use Rattle.judge.specs.TextJudgement.{JudgesAndReads};
@@ -53,15 +52,8 @@ fn judge_lines(lines: Lines) -> TextsJudged
 {
     let set = lines.set;
     let scheme = lines.scheme;
-    judge_parts(set, lines.set_length, scheme, lines.scheme_length)
-}
-
-// The verdict on the first bytes of two arrays: as many as are asked for, or all.
-fn judge_parts(set: [u8; SET], a: usize, scheme: [u8; SCHEME], b: usize) -> TextsJudged
-    ensures { λ r. ⌜ JudgesAndReads (take a set) (take b scheme) r ⌝ }
-{
-    let m = least(a, SET);
-    let n = least(b, SCHEME);
+    let m = least(lines.set_length, SET);
+    let n = least(lines.scheme_length, SCHEME);
     read_and_judge(&set[..m], &scheme[..n])
 }
 

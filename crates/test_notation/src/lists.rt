@@ -61,8 +61,8 @@ fn with_pattern(f: Flat, p: Pattern) -> Flat {
     with_bytes(f, prefix(&digits, p.length))
 }
 
-// The numbers and one field of an entry: its prefix, one of its gap vectors where it has that one, or
-// its rule.
+// The numbers and one field of an entry: its prefix, one of its gap vectors where it has that one,
+// or its rule.
 fn with_field(f: Flat, e: Entry, field: usize) -> Flat {
     if field == 0 {
         let digits = e.prefix;

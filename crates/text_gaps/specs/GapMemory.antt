@@ -1,5 +1,5 @@
--- The memory of a gap vector of any size, and of those of an entry: the first components of each, and
--- widths. Definitions only.
+-- The memory of a gap vector of any size, and of those of an entry: the first components of each,
+-- and widths. Definitions only.
 use Prim.Native.Nat.{ℕ}
 use mathlib.Core.Bool.{cond}
 use mathlib.Core.List.{List, map}

@@ -1,4 +1,5 @@
--- What the readers of numbers and gap vectors promise of their parts: a digit, a number, one item more, the items of a list. Definitions only.
+-- What the readers of numbers and gap vectors promise of their parts: a digit, a number, one item
+-- more, the items of a list. Definitions only.
 use Prim.Native.Nat.{ℕ, suc, _*_, _≤_}
 use mathlib.Core.Path.{_≡_}
 use mathlib.Core.Bool.{Bool, true, false}

@@ -1,4 +1,5 @@
--- Items of a list, read one after the other: what comes after an item, and what is read in all from a place on. Definitions only.
+-- Items of a list, read one after the other: what comes after an item, and what is read in all from
+-- a place on. Definitions only.
 use Prim.Native.Nat.{ℕ, _+_, _-_, _≤_, _<_}
 use mathlib.Core.Path.{_≡_}
 use mathlib.Core.Bool.{Bool, true, false, cond}

@@ -1,4 +1,5 @@
--- What the readers of parts promise: what the grammar finds in the tokens from a place on, kept in memory; numbers and gap vectors. Definitions only.
+-- What the readers of parts promise: what the grammar finds in the tokens from a place on, kept in
+-- memory; numbers and gap vectors. Definitions only.
 use Prim.Native.Nat.{ℕ, _≤_, _<_}
 use mathlib.Core.Path.{_≡_}
 use mathlib.Core.Bool.{Bool, true, false}

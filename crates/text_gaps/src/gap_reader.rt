@@ -78,7 +78,8 @@ pub fn number_at(s: &[u8], c: Cursor) -> NumberRead
     }
 }
 
-// The number of the run that stands from `from` on: one to three digits, and no zero in front of others.
+// The number of the run that stands from `from` on: one to three digits, and no zero in front of
+// others.
 fn number_of(s: &[u8], from: usize, len: usize) -> Numeral
     requires { ⌜ len ≡ length (run (drop from (now s))) ⌝ }
     ensures { λ r. ⌜ Numbered (run (drop from (now (s .entry)))) r ⌝ }

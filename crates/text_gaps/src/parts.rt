@@ -1,4 +1,5 @@
-// What the readers of numbers and gap vectors give: whether the part is spelt, the part in memory, and the cursor behind it.
+// What the readers of numbers and gap vectors give: whether the part is spelt, the part in memory,
+// and the cursor behind it.
 use forms::memory::Gap;
 use text_grammar::cursor::Cursor;
 use word::limits::GAPS;

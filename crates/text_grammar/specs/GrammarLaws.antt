@@ -1,4 +1,5 @@
--- Reading finds a list in tokens exactly where they are the pieces of the list and it can be written.
+-- Reading finds a list in tokens exactly where they are the pieces of the list and it can be
+-- written.
 use Prim.Native.Nat.{ℕ, zero, suc, _+_, _*_, _/_, _%_, _≤_, _<_}
 use native.Mathlib.Omega.{arith}
 use mathlib.Core.Path.{_≡_, refl, sym, ap, _∙_, ap₂, subst}
@@ -57,7 +58,8 @@ same-out t (byte b) h e = ap decode (sym (eqb-true (code t) (code (byte b)) e)) 
 pub same-self : (t : Token) → same t t ≡ true
 same-self t = eq-eqb (code t) (code t) refl
 
--- A reader reads a kind of value: it finds each that can be written in its pieces, and what it finds are the pieces of such a value.
+-- A reader reads a kind of value: it finds each that can be written in its pieces, and what it
+-- finds are the pieces of such a value.
 
 module _ {A : Type 0} where
   abbrev pub Sound : (A → List Token) → (A → Bool) → List Token → Read A → Type 0
@@ -172,7 +174,8 @@ module _ {A : Type 0} (read : List Token → Read A) (pieces : A → List Token)
       sound = λ ts. items-sound (length ts) ts;
     }
 
-    -- the bound on the items is no part of what is read: an item, then the end or a comma and the items after it
+    -- the bound on the items is no part of what is read: an item, then the end or a comma and the
+    -- items after it
     pick-same : (f g : List Token → Read (List A)) (x : A) (b c : Bool) (q : List Token) → f q ≡ g q
         → pick b (got (x ∷ [])) (pick c (λ v. after (f v) (λ l u. got (x ∷ l) u)) fail) q
         ≡ pick b (got (x ∷ [])) (pick c (λ v. after (g v) (λ l u. got (x ∷ l) u)) fail) q

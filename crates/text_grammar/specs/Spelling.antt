@@ -1,4 +1,5 @@
--- The notation of document 01: the marks as bytes, the pieces of a pattern set and of a scheme, and which texts spell them. Definitions only.
+-- The notation of document 01: the marks as bytes, the pieces of a pattern set and of a scheme, and
+-- which texts spell them. Definitions only.
 use Prim.Native.Nat.{ℕ, _+_, _/_, _%_}
 use mathlib.Core.Path.{_≡_}
 use mathlib.Core.Bool.{Bool, true, not, cond, _&&_}
@@ -26,7 +27,8 @@ bytesOf left = 0xE2 ∷ 0x9F ∷ 0xA8 ∷ []
 bytesOf right = 0xE2 ∷ 0x9F ∷ 0xA9 ∷ []
 bytesOf (byte b) = b ∷ []
 
--- "Spaces (byte 20) may stand around marks and numbers, never within" (01): the text is these pieces in their order, with spaces before, between and after
+-- "Spaces (byte 20) may stand around marks and numbers, never within" (01): the text is these
+-- pieces in their order, with spaces before, between and after
 pub data Holds : List Token → List ℕ → Type 0 where
   done : (n : ℕ) → Holds [] (replicate n 0x20)
   next : (n : ℕ) (t : Token) {ts : List Token} {s : List ℕ} → Holds ts s → Holds (t ∷ ts) (replicate n 0x20 ++ (bytesOf t ++ s))
@@ -75,7 +77,8 @@ entryPieces e =
 abbrev pub schemePieces : List EntryList → List Token
 schemePieces E = braced (map entryPieces E)
 
--- what can be written so: digits 0 to 9, numbers up to 999, vectors with a component ("`⟨⟩` .. misspelt")
+-- what can be written so: digits 0 to 9, numbers up to 999, vectors with a component ("`⟨⟩` ..
+-- misspelt")
 abbrev pub digitRun : List ℕ → Bool
 digitRun u = all (λ d. leb d 9) u
 
@@ -89,7 +92,8 @@ writableRule (deletes r) = leb r 999
 abbrev pub writableEntry : EntryList → Bool
 writableEntry e = digitRun (e .prefix) && (all writableVector (e .gaps) && writableRule (e .rule))
 
--- A text spells a list if it is the list's marks and numbers in their order with any number of spaces around them.
+-- A text spells a list if it is the list's marks and numbers in their order with any number of
+-- spaces around them.
 abbrev pub SpellsPatterns : List ℕ → List (List ℕ) → Type 0
 SpellsPatterns s P = Holds (patternPieces P) s × (all digitRun P ≡ true)
 

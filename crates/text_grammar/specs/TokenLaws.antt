@@ -1,4 +1,5 @@
--- Every text is its tokens with spaces between, and proper tokens with no two runs as neighbours are found again.
+-- Every text is its tokens with spaces between, and proper tokens with no two runs as neighbours
+-- are found again.
 use Prim.Native.Nat.{ℕ, zero, suc, _+_, _-_, _≤_, _<_}
 use native.Mathlib.Omega.{arith}
 use mathlib.Core.Path.{_≡_, refl, sym, ap, _∙_, ap₂, subst}

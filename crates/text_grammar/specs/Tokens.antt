@@ -1,4 +1,5 @@
--- A text cut into tokens: spaces are passed over, and every other byte belongs to one token. Definitions only.
+-- A text cut into tokens: spaces are passed over, and every other byte belongs to one token.
+-- Definitions only.
 use Prim.Native.Nat.{ℕ, zero, suc, _-_}
 use mathlib.Core.Bool.{Bool, true, false, not, cond, _&&_}
 use mathlib.Core.List.{List, [], _∷_}
@@ -58,7 +59,8 @@ unfoldable pub tokens : List ℕ → List Token
 unfolding tokensAfter
 tokens s = tokensAfter zero s
 
--- tokens that a text can show: runs of digits 0 to 9 with at least one digit, marks, and bytes that begin none of these and are no space
+-- tokens that a text can show: runs of digits 0 to 9 with at least one digit, marks, and bytes that
+-- begin none of these and are no space
 abbrev pub proper : Token → Bool
 proper (digits []) = false
 proper (digits (d ∷ u)) = digitRun (d ∷ u)

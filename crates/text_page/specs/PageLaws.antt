@@ -79,7 +79,8 @@ writes-join {xs} {ys} {at} {mid} {next} {t} {u} {w} a b =
       page = b .page ∙ rw (a .page, a .moved) (overlay-join at xs ys t);
     }
 
--- written from the start of a page: the length is the next place, and on a page that is long enough the bytes stand first and the others stay
+-- written from the start of a page: the length is the next place, and on a page that is long enough
+-- the bytes stand first and the others stay
 
 pub length-after : {xs t u : List ℕ} {next : ℕ} → Writes xs 0 t u next → next ≡ length xs
 length-after w = let p = w .moved in omega arith
@@ -87,7 +88,8 @@ length-after w = let p = w .moved in omega arith
 pub page-after : {xs t u : List ℕ} {next : ℕ} → Writes xs 0 t u next → length xs ≤ length t → u ≡ xs ++ drop (length xs) t
 page-after {xs} {t} w h = w .page ∙ overlay-whole 0 xs t (omega arith) ∙ rw (zero-add (length xs)) refl
 
--- Of `total`, to be written at `at` on the page `before`, what is still to come: `rest`, to be written at `next` on the page as it is now.
+-- Of `total`, to be written at `at` on the page `before`, what is still to come: `rest`, to be
+-- written at `next` on the page as it is now.
 pub record ToCome (total : List ℕ) (at : ℕ) (before rest : List ℕ) (next : ℕ) (now : List ℕ) : Type 0 where
   pub place : at + length total ≡ next + length rest
   pub same : overlay at total before ≡ overlay next rest now

@@ -1,5 +1,5 @@
--- Laws on the walk of the reader of pattern sets: each token keeps what is read in all, and less is left.
--- Assumes nothing.
+-- Laws on the walk of the reader of pattern sets: each token keeps what is read in all, and less is
+-- left. Assumes nothing.
 use Prim.Native.Nat.{ℕ, _+_, _-_, _≤_, _<_}
 use native.Mathlib.Omega.{arith}
 use mathlib.Core.Path.{_≡_, refl, sym, ap, ap₂, _∙_, subst}

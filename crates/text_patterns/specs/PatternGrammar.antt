@@ -1,4 +1,5 @@
--- Which tokens spell a pattern set, and the set: ∅, or items in braces with commas between them. Definitions only.
+-- Which tokens spell a pattern set, and the set: ∅, or items in braces with commas between them.
+-- Definitions only.
 use Prim.Native.Nat.{ℕ}
 use mathlib.Core.Bool.{Bool, true, false, cond}
 use mathlib.Core.List.{List, [], _∷_}

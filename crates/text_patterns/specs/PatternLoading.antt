@@ -1,5 +1,6 @@
--- A pattern list in memory has the first fault of the list itself, and where there is none it stands for that list.
--- The laws before those of one pattern hold for any list that memory keeps in part; SchemeLoading uses them too.
+-- A pattern list in memory has the first fault of the list itself, and where there is none it
+-- stands for that list. The laws before those of one pattern hold for any list that memory keeps in
+-- part; SchemeLoading uses them too.
 use Prim.Native.Nat.{ℕ, zero, suc, _≤_, _<_}
 use native.Mathlib.Omega.{arith}
 use mathlib.Core.Path.{_≡_, refl, sym, ap, ap₂, _∙_}
@@ -45,7 +46,8 @@ places-filled : {A B : Type 0} (g : A → B) (z d : A) (n : ℕ) (l : List A) �
     → map (λ i. g (getD (filled n z l) i d)) (row 0 (length l)) ≡ map g l
 places-filled g z d n l h = places-same (λ i. g (getD (filled n z l) i d)) g d l (λ i k. ap g (filled-at z d n l i k (omega arith)))
 
--- an array with n places, into which the elements of a list are put and from which as many are taken
+-- an array with n places, into which the elements of a list are put and from which as many are
+-- taken
 module _ {A B C : Type 0} (put : A → B) (taken : B → C) (z d : B) (n : ℕ) (l : List A) where
   pub places-length : length (map (λ i. taken (getD (filled n z (map put l)) i d)) (row 0 (length l))) ≡ length l
   places-length = length-map (row 0 (length l)) (λ i. taken (getD (filled n z (map put l)) i d)) ∙ length-row 0 (length l)
@@ -59,7 +61,8 @@ module _ {A B C : Type 0} (put : A → B) (taken : B → C) (z d : B) (n : ℕ) 
 no-fault : (r : Refusal) (i : ℕ) → fault r i ≡ clean → ⊥
 no-fault r i e = let z : _≡_ {A = ℕ} 0 1 = cc in omega arith
 
--- a list whose elements are kept in part: a kept element is large where the element is, and one that is not large is kept as it is
+-- a list whose elements are kept in part: a kept element is large where the element is, and one
+-- that is not large is kept as it is
 
 module _ {A : Type 0} (large : A → Bool) (keeps : A → A) (as-large : (x : A) → large (keeps x) ≡ large x)
     (as-it-is : (x : A) → large x ≡ false → keeps x ≡ x)

@@ -1,4 +1,5 @@
--- The memory of a pattern list of any size: true counts and lengths, the first 24 patterns, of each the first 8 digits. Definitions only.
+-- The memory of a pattern list of any size: true counts and lengths, the first 24 patterns, of each
+-- the first 8 digits. Definitions only.
 use Prim.Native.Nat.{ℕ, zero, suc}
 use mathlib.Core.Bool.{true, false}
 use mathlib.Core.List.{List, [], _∷_, map}

@@ -1,4 +1,5 @@
--- The walk of the reader of pattern sets: the places between tokens, and what is read from each of them. Definitions only.
+-- The walk of the reader of pattern sets: the places between tokens, and what is read from each of
+-- them. Definitions only.
 use Prim.Native.Nat.{ℕ, _+_, _-_, _≤_, _<_}
 use mathlib.Core.Path.{_≡_}
 use mathlib.Core.Bool.{Bool, true, false, cond}

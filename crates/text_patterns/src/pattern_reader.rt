@@ -24,14 +24,16 @@ ghost use Rattle.text_patterns.specs.PatternGrammar.{readPatterns};
 ghost use Rattle.text_patterns.specs.PatternMemory.{filled, loadedPatterns, storedIn, patternText};
 ghost use Rattle.text_patterns.specs.PatternWalk.{Ready, Storable, Advanced, goesOn, isItem, isSpelt, placeAfter, itemAfter, patternsAfter, textAt};
 
-// What a text spells: whether it spells a pattern set, and the set. The count is the true number of patterns, each length the true number
-// of digits; the first 24 patterns are kept, of each the first 8 digits. Where the text spells none, the set is empty.
+// What a text spells: whether it spells a pattern set, and the set. The count is the true number of
+// patterns, each length the true number of digits; the first 24 patterns are kept, of each the
+// first 8 digits. Where the text spells none, the set is empty.
 pub struct PatternText {
     pub spelt: bool,
     pub patterns: Patterns,
 }
 
-// What may come next: the first mark, an item, a comma or the closing brace, nothing more. Then the text is read, or it is misspelt.
+// What may come next: the first mark, an item, a comma or the closing brace, nothing more. Then the
+// text is read, or it is misspelt.
 pub enum Place {
     Start,
     Item,
@@ -41,14 +43,16 @@ pub enum Place {
     Wrong,
 }
 
-// How far a text is read: what may come next, the patterns so far, and the number of bytes of the last token with the spaces before it.
+// How far a text is read: what may come next, the patterns so far, and the number of bytes of the
+// last token with the spaces before it.
 pub struct Reading {
     pub place: Place,
     pub patterns: Patterns,
     pub bytes: usize,
 }
 
-// The pattern set that a text spells. "after each mark the rest of the text is read on from there" (01)
+// The pattern set that a text spells. "after each mark the rest of the text is read on from there"
+// (01)
 pub fn load_patterns(s: &[u8]) -> PatternText
     ensures { λ r. ⌜ r ≡ patternText (readPatterns (tokens (now (s .entry)))) ⌝ }
 {
@@ -130,9 +134,9 @@ fn advance(s: &[u8], m: Reading) -> Reading
     }
 }
 
-// What may come after a token. First comes ∅ or the opening brace; after the opening brace and after
-// a comma an item; after an item a comma or the closing brace; after ∅ and after the closing brace
-// the text ends.
+// What may come after a token. First comes ∅ or the opening brace; after the opening brace and
+// after a comma an item; after an item a comma or the closing brace; after ∅ and after the closing
+// brace the text ends.
 fn place_after(place: Place, kind: Kind) -> Place
     ensures { λ r. ⌜ r ≡ placeAfter place kind ⌝ }
 {
@@ -215,7 +219,8 @@ fn with_item(s: &[u8], t: Step, patterns: Patterns) -> Patterns
     patterns
 }
 
-// The first eight digits of the run that stands from `from` on, as their values, and zeros after them.
+// The first eight digits of the run that stands from `from` on, as their values, and zeros after
+// them.
 fn digits_at(s: &[u8], from: usize, len: usize) -> [u8; DIGITS]
     requires { ⌜ len ≡ length (run (drop from (now s))) ⌝ }
     ensures { λ r. ⌜ r ≡ filled DIGITS 0 (run (drop from (now (s .entry)))) ⌝ }

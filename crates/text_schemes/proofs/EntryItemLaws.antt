@@ -1,5 +1,5 @@
--- Laws on the reader of schemes: entries one after the other, each kept in memory, and nothing after the last mark.
--- Assumes nothing.
+-- Laws on the reader of schemes: entries one after the other, each kept in memory, and nothing
+-- after the last mark. Assumes nothing.
 use Prim.Native.Nat.{ℕ, suc, _+_, _-_, _≤_, _<_}
 use native.Mathlib.Omega.{arith}
 use mathlib.Core.Path.{_≡_, refl, sym, ap, ap₂, _∙_, subst}
@@ -115,7 +115,8 @@ pub leftBy : Bool → ℕ → ℕ
 leftBy true n = suc n
 leftBy false n = 0
 
--- the entries m are read up to the place `at`; `more` says whether a further one is due, and there are fewer of them than bytes before it
+-- the entries m are read up to the place `at`; `more` says whether a further one is due, and there
+-- are fewer of them than bytes before it
 pub record ReadTo (s : List ℕ) (m : Scheme) (at : ℕ) (more spelt : Bool) : Type 0 where
   pub same : goingOn more spelt m (tokens (drop at s)) ≡ kept loadedScheme (inBraces readEntry (tokens s))
   pub inside : at ≤ length s

@@ -1,5 +1,5 @@
--- What the reader of schemes promises of its parts: marks, a prefix, the three parts of an entry, and entries one after the other.
--- Definitions only.
+-- What the reader of schemes promises of its parts: marks, a prefix, the three parts of an entry,
+-- and entries one after the other. Definitions only.
 use Prim.Native.Nat.{ℕ, suc, _≤_, _<_}
 use mathlib.Core.Path.{_≡_}
 use mathlib.Core.Bool.{Bool, true, false}
@@ -81,7 +81,8 @@ abbrev pub goingOn : Bool → Bool → Scheme → List Token → Read Scheme
 goingOn true b m ts = onto m (items readEntry (byte 0x7D) ts)
 goingOn false b m ts = found b m ts
 
--- r is the entry at the front of the text s with the mark behind it: whatever is kept before, what is read in all is what is read from there on
+-- r is the entry at the front of the text s with the mark behind it: whatever is kept before, what
+-- is read in all is what is read from there on
 pub record ItemAt (s : List ℕ) (r : ItemRead) : Type 0 where
   pub gives : (m : Scheme)
       → onto m (items readEntry (byte 0x7D) (tokens s)) ≡ goingOn (r .more) (r .spelt) (storedEntry m (r .entry)) (tokens (drop (r .bytes) s))

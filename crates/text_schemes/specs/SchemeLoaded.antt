@@ -1,5 +1,6 @@
--- The memory of a scheme list of any size: true counts and lengths, the first 128 entries, of each the first 6 digits and the first 8 vectors,
--- of each vector the first 7 components. Definitions only.
+-- The memory of a scheme list of any size: true counts and lengths, the first 128 entries, of each
+-- the first 6 digits and the first 8 vectors, of each vector the first 7 components. Definitions
+-- only.
 use mathlib.Core.List.{List, [], map}
 use lib.ListN.{length}
 use Rattle.word.specs.Ceilings.{ENTRIES, PREFIX}

@@ -1,4 +1,5 @@
--- A scheme list in memory has the first fault of the list itself, and where there is none it stands for that list.
+-- A scheme list in memory has the first fault of the list itself, and where there is none it stands
+-- for that list.
 use Prim.Native.Nat.{ℕ, _+_, _≤_, _<_}
 use native.Mathlib.Omega.{arith}
 use mathlib.Core.Path.{_≡_, refl, sym, ap, ap₂, _∙_}

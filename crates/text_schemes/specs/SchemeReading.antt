@@ -1,4 +1,5 @@
--- What the readers of the parts of a scheme promise: a rule, an entry, and what a whole text spells. Definitions only.
+-- What the readers of the parts of a scheme promise: a rule, an entry, and what a whole text
+-- spells. Definitions only.
 use Prim.Native.Nat.{ℕ}
 use mathlib.Core.Path.{_≡_}
 use mathlib.Core.Bool.{true, false}

@@ -1,4 +1,5 @@
-// What the readers of the parts of a scheme give: whether the part is spelt, the part in memory, and the cursor behind it.
+// What the readers of the parts of a scheme give: whether the part is spelt, the part in memory,
+// and the cursor behind it.
 use forms::memory::Entry;
 use forms::memory::Rule;
 use forms::memory::Scheme;
@@ -18,7 +19,8 @@ pub struct EntryRead {
     pub next: Cursor,
 }
 
-// An entry and the mark behind it: whether a further entry is due, whether both are spelt, and the number of bytes up to the end of the mark.
+// An entry and the mark behind it: whether a further entry is due, whether both are spelt, and the
+// number of bytes up to the end of the mark.
 pub struct ItemRead {
     pub more: bool,
     pub spelt: bool,

@@ -145,7 +145,8 @@ fn separator_at(s: &[u8], c: Cursor) -> Choice
     }
 }
 
-// The first six digits of the run that stands from `from` on, as their values, and zeros after them.
+// The first six digits of the run that stands from `from` on, as their values, and zeros after
+// them.
 fn digits_at(s: &[u8], from: usize, len: usize) -> [u8; PREFIX]
     requires { ⌜ len ≡ length (run (drop from (now s))) ⌝ }
     ensures { λ r. ⌜ r ≡ filled PREFIX 0 (run (drop from (now (s .entry)))) ⌝ }
@@ -188,7 +189,8 @@ fn prefix_at(s: &[u8], c: Cursor) -> PrefixRead
     }
 }
 
-// The first part of an entry, with which the text begins: an opening parenthesis, a prefix, and a comma.
+// The first part of an entry, with which the text begins: an opening parenthesis, a prefix, and a
+// comma.
 fn head_at(s: &[u8]) -> PrefixRead
     ensures { λ r. ⌜ HeadAt (now (s .entry)) 0 r ⌝ }
 {
@@ -253,7 +255,8 @@ fn tail_at(s: &[u8]) -> RuleRead
     RuleRead { spelt, rule, next }
 }
 
-// The entry with which the text begins. Where a part of it is misspelt, so is the entry. "after each mark the rest of the text is read on from there" (01)
+// The entry with which the text begins. Where a part of it is misspelt, so is the entry. "after
+// each mark the rest of the text is read on from there" (01)
 fn entry_at(s: &[u8]) -> EntryRead
     ensures { λ r. ⌜ EntryAt (now (s .entry)) 0 r ⌝ }
 {
@@ -317,7 +320,8 @@ fn item_at(s: &[u8]) -> ItemRead
     }
 }
 
-// The entries after the first mark, to the last of them or to one that is misspelt. All are counted, the first 128 are kept.
+// The entries after the first mark, to the last of them or to one that is misspelt. All are
+// counted, the first 128 are kept.
 fn all_entries(s: &[u8], mark: Choice) -> EntriesRead
     requires { ⌜ ChoiceAt empty (byte 0x7B) (now s) 0 mark ⌝ }
     ensures { λ r. ⌜ found (r .spelt) (r .scheme) (tokens (drop (r .next .at) (now (s .entry)))) ≡ kept loadedScheme (inBraces readEntry (tokens (now (s .entry)))) ⌝ }

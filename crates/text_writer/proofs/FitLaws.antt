@@ -64,7 +64,8 @@ patterns-writable P e =
     all-in digitRun P
     (λ (β : List ℕ) (m : List·Memᴰ β P). let h = proper-pattern P e β m in let short = h .short in perm-digits β (h .perm) (omega arith))
 
--- patterns of fewer bytes than this, a comma for each, and two braces, or three bytes for no pattern
+-- patterns of fewer bytes than this, a comma for each, and two braces, or three bytes for no
+-- pattern
 abbrev WIDEST : ℕ
 WIDEST = DIGITS + 3
 

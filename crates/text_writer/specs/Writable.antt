@@ -1,4 +1,5 @@
--- What the writer requires of patterns and schemes in memory, and the texts that its parts write. Definitions only.
+-- What the writer requires of patterns and schemes in memory, and the texts that its parts write.
+-- Definitions only.
 use Prim.Native.Nat.{ℕ, zero, suc, _≤_, _<_}
 use mathlib.Core.Path.{_≡_}
 use mathlib.Core.List.{List, [], _∷_, _++_, map}

@@ -1,4 +1,5 @@
--- Laws of the texts that the writer's parts write: items with commas between them, items in braces, the first numbers of an array.
+-- Laws of the texts that the writer's parts write: items with commas between them, items in braces,
+-- the first numbers of an array.
 use Prim.Native.Nat.{ℕ, zero, suc, _+_, _-_, _/_, _%_, _≤_, _<_}
 use native.Mathlib.Numerals.{add-one}
 use native.Mathlib.Omega.{arith}

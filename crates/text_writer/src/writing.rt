@@ -1,4 +1,5 @@
-// Writing pattern sets and schemes over a lent page. Bytes behind the end of the page are dropped, so that a run on an empty page gives the length.
+// Writing pattern sets and schemes over a lent page. Bytes behind the end of the page are dropped,
+// so that a run on an empty page gives the length.
 use forms::gaps::entry_gap;
 use forms::memory::Entry;
 use forms::memory::Gap;

@@ -1,4 +1,5 @@
--- The size of a cell, the listed prefixes, and the number that falls at each cell. Definitions only.
+-- The size of a cell, the listed prefixes, and the number that falls at each cell. Definitions
+-- only.
 use Prim.Native.Nat.{ℕ, _+_, _*_, _-_}
 use mathlib.Core.Path.{_≡_}
 use mathlib.Core.Bool.{true}

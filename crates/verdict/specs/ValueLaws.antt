@@ -1,4 +1,5 @@
--- The theorem on values: in a well-formed scheme whose claims are all true, the value at each listed prefix and spacing is the size of the cell.
+-- The theorem on values: in a well-formed scheme whose claims are all true, the value at each
+-- listed prefix and spacing is the size of the cell.
 use Prim.Native.Nat.{ℕ, zero, suc, _+_, _*_, _-_, _≤_, _<_}
 use native.Mathlib.Nat.{add-zero, suc-mul}
 use native.Mathlib.Omega.{arith}

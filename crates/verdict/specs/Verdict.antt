@@ -1,4 +1,5 @@
--- The verdict on a set of patterns and a scheme, as document 01 defines it: by the sizes of cells. Definitions only.
+-- The verdict on a set of patterns and a scheme, as document 01 defines it: by the sizes of cells.
+-- Definitions only.
 use Prim.Native.Nat.{ℕ}
 use mathlib.Core.Bool.{Bool, true, false, not}
 use mathlib.Core.List.{List, [], _∷_, _++_, map}
@@ -21,7 +22,8 @@ abbrev pub isEmpty : List (List ℕ) → Bool
 isEmpty [] = true
 isEmpty (w ∷ l) = false
 
--- "the cell at a gap vector is not empty" (01, refusal 10): "a gap vector is judged by its own cell alone"
+-- "the cell at a gap vector is not empty" (01, refusal 10): "a gap vector is judged by its own cell
+-- alone"
 unfoldable pub liveGap : List (List ℕ) → List ℕ → List (List ℕ) → Bool
 unfolding cell
 liveGap P p B = any (λ b. not (isEmpty (cell P p b))) B
@@ -31,8 +33,8 @@ unfoldable pub sizesDiffer : List (List ℕ) → List ℕ → List ℕ → List 
 unfolding cell deleted merged
 sizesDiffer P p R g = not (eqb (length (cell P p g)) (length (cell P (deleted R p) (merged R p g))))
 
--- "some compared sizes differ" (01, refusal 11): "a deletion is judged by comparing sizes for the spacings that are at least no listed vector and
--- have total at most m − 1"
+-- "some compared sizes differ" (01, refusal 11): "a deletion is judged by comparing sizes for the
+-- spacings that are at least no listed vector and have total at most m − 1"
 unfoldable pub differs : List (List ℕ) → List ℕ → List (List ℕ) → Does → Bool
 unfolding sizesDiffer compared
 differs P p B expands = false

@@ -1,4 +1,5 @@
--- The theorem on the verdict: a scheme is accepted exactly if it is well-formed and all its claims are true at every length.
+-- The theorem on the verdict: a scheme is accepted exactly if it is well-formed and all its claims
+-- are true at every length.
 use Prim.Native.Nat.{ℕ}
 use mathlib.Core.Path.{_≡_, refl, sym, ap, _∙_}
 use mathlib.Core.Bool.{Bool, true, false, not}

@@ -1,4 +1,5 @@
-// The answer of judging: an acceptance with the number of compared cells, or a refusal with its index.
+// The answer of judging: an acceptance with the number of compared cells, or a refusal with its
+// index.
 use forms::memory::Fault;
 use word::refusal::Refusal;
 ghost use mathlib.Core.Path.{_≡_};

@@ -77,7 +77,8 @@ fn first_none(s: Patterns) -> Fault
     Fault::Clean
 }
 
-// Whether the digits are no pattern. A length beyond the array stands for digits with a 0 among them.
+// Whether the digits are no pattern. A length beyond the array stands for digits with a 0 among
+// them.
 fn no_pattern(p: Pattern) -> bool
     ensures { λ r. ⌜ r ≡ not (isPattern (patternIn p)) ⌝ }
 {

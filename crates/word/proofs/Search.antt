@@ -1,5 +1,5 @@
--- The walk of `first_copy`: what is left to try at each of its points, that this is the first copy at the start, and how it falls.
--- Assumes nothing.
+-- The walk of `first_copy`: what is left to try at each of its points, that this is the first copy
+-- at the start, and how it falls. Assumes nothing.
 use Prim.Native.Nat.{ℕ, zero, suc, _+_, _-_, _≤_, _<_, min}
 use mathlib.Core.Path.{_≡_, refl, sym, ap, _∙_, fun-ext}
 use mathlib.Core.Bool.{Bool, true, false, not, cond, _&&_, Bool·beq}
@@ -42,7 +42,8 @@ map-map : (g h : List ℕ → List ℕ) (a : Option (List ℕ)) → Option·map 
 map-map g h none = refl
 map-map g h (some a) = refl
 
--- the first completion: b of the pattern stands at the entries s, r is still to be placed, at positions of q
+-- the first completion: b of the pattern stands at the entries s, r is still to be placed, at
+-- positions of q
 unfoldable pub seek : (ℕ → ℕ) → List ℕ → List ℕ → List ℕ → List ℕ → Option (List ℕ)
 seek f b [] s q = some []
 seek f b (x ∷ r) s [] = none
@@ -302,8 +303,9 @@ module _ (b e : List ℕ) (x y d j : ℕ) (hb : d ≤ length b) (he : d ≤ leng
   pub pair-failed : not (Bool·beq (ltb (getD b j 0) x) (ltb (getD e j 0) y)) ≡ true → fits (drop j (take d b)) x (drop j (take d e)) y ≡ false
   pair-failed t = rw (pair-cons b e x y d j hb he h, not-true (Bool·beq (ltb (getD b j 0) x) (ltb (getD e j 0) y)) t) refl
 
--- the state of the walk before the entry at place d is sought after position i: the first copy is the first that is left, the entries are
--- those at the positions, and behind the pattern's length no position was written
+-- the state of the walk before the entry at place d is sought after position i: the first copy is
+-- the first that is left, the entries are those at the positions, and behind the pattern's length
+-- no position was written
 pub record Walk (β w : List ℕ) (k : ℕ) (at entries : List ℕ) (d i : ℕ) : Type 0 where
   pub answer : firstCopy β w ≡ left β w at d (after w i)
   pub same : take d entries ≡ map (entry w) (take d at)

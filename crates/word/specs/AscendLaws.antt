@@ -97,7 +97,8 @@ perms-ascend (suc n) = blocks-ascend (perms n) 1 (suc n) (perms-ascend n)
 pub perms-once : (n i j : ℕ) → i < j → j < length (perms n) → getD (perms n) i [] ≡ getD (perms n) j [] → ⊥
 perms-once n i j h k q = ascends-once (perms n) i j (perms-ascend n) h k q
 
--- the words of the list avoiders P n are the permutations of length n that avoid P, in lexicographic order
+-- the words of the list avoiders P n are the permutations of length n that avoid P, in
+-- lexicographic order
 pub avoiders-are : (P : List (List ℕ)) (n : ℕ) {w : List ℕ} → List·Memᴰ w (avoiders P n) → (isPerm w ≡ true) × (length w ≡ n) × (avoids P w ≡ true)
 unfolding avoiders
 avoiders-are P n m =

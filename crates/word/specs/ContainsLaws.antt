@@ -1,4 +1,5 @@
--- Laws of containment and avoidance: copies are sublists, containment is transitive, and neither sees more of a word than its order.
+-- Laws of containment and avoidance: copies are sublists, containment is transitive, and neither
+-- sees more of a word than its order.
 use Prim.Native.Nat.{ℕ, _≤_}
 use mathlib.Core.Path.{_≡_, refl, sym, ap, _∙_, ap₂, subst, fun-ext}
 use mathlib.Core.Bool.{Bool, true, false, not, Bool·beq}
@@ -32,7 +33,8 @@ contains-self w = contains-in w (Sublistᴰ·refl w) (iso-refl w)
 pub contains-sublist : (β : List ℕ) {v w : List ℕ} → Sublistᴰ v w → contains β v ≡ true → contains β w ≡ true
 contains-sublist β {v} d h = let r = contains-out β v h in contains-in β (Sublistᴰ·trans (r .1) d) (r .2)
 
--- the entries of v at the places of a sublist s of α: isomorphic to s, and seen by other entries as s is
+-- the entries of v at the places of a sublist s of α: isomorphic to s, and seen by other entries as
+-- s is
 sublist-places : {s α : List ℕ} → Sublistᴰ s α → (v : List ℕ) → iso α v ≡ true
     → (t : List ℕ) × Sublistᴰ t v × (iso s t ≡ true) × ((a b : ℕ) → alike a α b v ≡ true → alike a s b t ≡ true)
 unfolding iso
@@ -138,7 +140,8 @@ unfolding longest
 longest-at-least (α ∷ P) (List·Memᴰ·head e) = omega (arith, ap length e)
 longest-at-least (α ∷ P) (List·Memᴰ·tail m) = omega (arith, longest-at-least P m)
 
--- a word that does not avoid the patterns has a sublist, no longer than the longest pattern, that no avoiding word contains
+-- a word that does not avoid the patterns has a sublist, no longer than the longest pattern, that
+-- no avoiding word contains
 pub short-fault : (P : List (List ℕ)) (w : List ℕ) → avoids P w ≡ false
     → (s : List ℕ) × Sublistᴰ s w × (length s ≤ longest P) × ((v : List ℕ) → contains s v ≡ true → avoids P v ≡ false)
 short-fault P w h =

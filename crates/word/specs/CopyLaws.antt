@@ -1,4 +1,5 @@
--- Laws of the first copy of a pattern: it is there exactly if the pattern is contained, it is a copy, and no copy comes before it.
+-- Laws of the first copy of a pattern: it is there exactly if the pattern is contained, it is a
+-- copy, and no copy comes before it.
 use Prim.Native.Nat.{ℕ, zero, suc, _≤_, _<_}
 use mathlib.Core.Path.{_≡_, refl, sym, ap, _∙_, subst}
 use mathlib.Core.Logic.{_⊎_, inl, inr}

@@ -1,4 +1,5 @@
--- The order of refusals: an input goes through a list of tests, and the first with a fault refuses it.
+-- The order of refusals: an input goes through a list of tests, and the first with a fault refuses
+-- it.
 use Prim.Native.Nat.{ℕ}
 use mathlib.Core.Bool.{Bool, true, false}
 use mathlib.Core.List.{List, [], _∷_}

@@ -1,4 +1,5 @@
--- Laws of order isomorphism: it is an equivalence, it is decided entry by entry, and maps that keep the order keep it.
+-- Laws of order isomorphism: it is an equivalence, it is decided entry by entry, and maps that keep
+-- the order keep it.
 use Prim.Native.Nat.{ℕ, suc, _≤_, _<_}
 use mathlib.Core.Path.{_≡_, refl, sym, ap, _∙_, ap₂}
 use mathlib.Core.Bool.{Bool, true, false, _&&_, Bool·beq, cond, and-false, and-true, and-assoc}

@@ -73,7 +73,8 @@ unfolding isPerm
 perm-in w h k = and-in (all (within (length w)) w) (distinct w)
     (all-in (within (length w)) w (λ (x : ℕ) (m : List·Memᴰ x w). within-in (length w) x (h x m .0) (h x m .1))) k
 
--- The recursion of permutations: a first entry a, and a permutation with its entries stepped over a.
+-- The recursion of permutations: a first entry a, and a permutation with its entries stepped over
+-- a.
 pub perm-cons : (a : ℕ) (s : List ℕ) → isPerm s ≡ true → 1 ≤ a → a ≤ suc (length s) → isPerm (a ∷ map (bump a) s) ≡ true
 perm-cons a s e h k = perm-in (a ∷ map (bump a) s) bounds (distinct-in a (map (bump a) s) fresh rest)
   where
@@ -131,7 +132,8 @@ perm-uncons a r e = (map (unbump a) r, perm-in (map (unbump a) r) bounds rest, s
     rest = distinct-map (unbump a) r
         (λ (x y : ℕ) (m : List·Memᴰ x r) (n : List·Memᴰ y r) (q : unbump a x ≡ unbump a y). sym (over x m) ∙ ap (bump a) q ∙ over y n) (parts .1)
 
--- what holds of the empty word, and of a ∷ map (bump a) s where it holds of s, holds of every permutation
+-- what holds of the empty word, and of a ∷ map (bump a) s where it holds of s, holds of every
+-- permutation
 pub perm-induction : (P : List ℕ → Type 0) → P [] →
     ((a : ℕ) (s : List ℕ) → isPerm s ≡ true → 1 ≤ a → a ≤ suc (length s) → P s → P (a ∷ map (bump a) s)) →
     (w : List ℕ) → isPerm w ≡ true → P w

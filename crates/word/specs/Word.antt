@@ -1,4 +1,5 @@
--- Words, containment, reduction, permutations and avoiders, as documents 000, 001 and 01 have them. Definitions only.
+-- Words, containment, reduction, permutations and avoiders, as documents 000, 001 and 01 have them.
+-- Definitions only.
 use Prim.Native.Nat.{ℕ, zero, suc, max}
 use mathlib.Core.Bool.{Bool, true, false, not, _&&_, Bool·beq, cond}
 use mathlib.Core.List.{List, [], _∷_, map}
@@ -14,8 +15,9 @@ alike a [] b (y ∷ v) = false
 alike a (x ∷ u) b [] = false
 alike a (x ∷ u) b (y ∷ v) = Bool·beq (ltb a x) (ltb b y) && alike a u b v
 
--- Order isomorphism: "compare pairwise as the pattern's entries do" (01). Of two entries of a permutation one is the smaller, so it is
--- enough to ask of each entry and each later one whether the first is below the second.
+-- Order isomorphism: "compare pairwise as the pattern's entries do" (01). Of two entries of a
+-- permutation one is the smaller, so it is enough to ask of each entry and each later one whether
+-- the first is below the second.
 unfoldable pub iso : List ℕ → List ℕ → Bool
 unfolding alike
 iso [] [] = true
@@ -23,7 +25,8 @@ iso [] (y ∷ v) = false
 iso (x ∷ u) [] = false
 iso (x ∷ u) (y ∷ v) = alike x u y v && iso u v
 
--- "A permutation contains a pattern if some of its entries, in their order, compare pairwise as the pattern's entries do" (01)
+-- "A permutation contains a pattern if some of its entries, in their order, compare pairwise as the
+-- pattern's entries do" (01)
 unfoldable pub contains : List ℕ → List ℕ → Bool
 unfolding iso
 contains β w = any (iso β) (sublists (length β) w)

@@ -20,8 +20,9 @@ fn capped(len: usize) -> usize
     if len < DIGITS { len } else { DIGITS }
 }
 
-// The lexicographically first copy, in w, of the first `len` digits of p. The search tries the positions of w for one pattern entry after
-// the other, each position against the pairs with the entries that stand already, and goes back one entry where too few positions are left.
+// The lexicographically first copy, in w, of the first `len` digits of p. The search tries the
+// positions of w for one pattern entry after the other, each position against the pairs with the
+// entries that stand already, and goes back one entry where too few positions are left.
 pub fn first_copy(p: [u8; DIGITS], len: usize, w: &[u8]) -> FirstCopy
     ensures { λ r. ⌜ r ≡ shown (firstCopy (take len p) (now (w .entry))) ⌝ }
 {

@@ -1,4 +1,5 @@
-// Words and containment: the refusals, permutations, the first copy of a pattern, and the public operation `contains`.
+// Words and containment: the refusals, permutations, the first copy of a pattern, and the public
+// operation `contains`.
 pub mod bytes;
 pub mod containment;
 pub mod copy;

@@ -1,5 +1,5 @@
-// The ceilings of document 01, and the sizes that follow from them; specs/Ceilings.antt has the same
-// names for statements.
+// The ceilings of document 01, and the sizes that follow from them; specs/Ceilings.antt has the
+// same names for statements.
 
 // digits of a pattern
 pub const DIGITS: usize = 8;

@@ -26,18 +26,6 @@ loop-holds c =
     let a = c .args in
     (allowed-start (patternsOf (a .set) (a .lengths) (a .count)) (a .n) (take (a .len) (a .word)), omega arith)
 
-cast-v : tie.Need-cast-v Inv-loop μ-loop
-cast-v c = search needs
-
-add-next : tie.Need-add-next Inv-loop μ-loop
-add-next c = search needs
-
-stands-requires : tie.Need-stands-requires Inv-loop μ-loop
-stands-requires c κs = search needs
-
-loop-less : tie.Need-loop-less Inv-loop μ-loop
-loop-less c = search needs
-
 loop-again : tie.Need-loop-again Inv-loop μ-loop
 loop-again c =
     let a = c .before .before .before .before .args in
@@ -47,15 +35,6 @@ loop-again c =
       omega arith,
     )
 
-put-requires : tie.Need-put-requires Inv-loop μ-loop
-put-requires c κs = search needs
-
-add-contained : tie.Need-add-contained Inv-loop μ-loop
-add-contained c = search needs
-
-contained-requires : tie.Need-contained-requires Inv-loop μ-loop
-contained-requires c κs = search needs
-
 returns : tie.Need-returns Inv-loop μ-loop
 returns c =
     let a = c .before .before .before .before .before .before .before .args in
@@ -64,9 +43,6 @@ returns c =
     sym (l .inv .0 ∙ allowed-fails P (take (a .len) (a .word)) (l .next) (a .n) (omega arith)
     (sym (c .before .before .before .before .stands .ensures) ∙ c .before .before .before .if1 .left)
     (ap (avoids P) (sym (c .before .before .put .ensures)) ∙ not-true _ (sym (c .before .contained .ensures) ∙ c .if2 .taken)))
-
-loop-less-2 : tie.Need-loop-less-2 Inv-loop μ-loop
-loop-less-2 c = search needs
 
 loop-again-2 : tie.Need-loop-again-2 Inv-loop μ-loop
 loop-again-2 c =
@@ -92,15 +68,15 @@ all-allowed-spec =
     Inv-loop
     μ-loop
     loop-holds
-    cast-v
-    add-next
-    stands-requires
-    loop-less
+    (λ c. search needs)
+    (λ c. search needs)
+    (λ c κs. search needs)
+    (λ c. search needs)
     loop-again
-    put-requires
-    add-contained
-    contained-requires
+    (λ c κs. search needs)
+    (λ c. search needs)
+    (λ c κs. search needs)
     returns
-    loop-less-2
+    (λ c. search needs)
     loop-again-2
     returns-2)

@@ -19,9 +19,6 @@ returns c =
     let size = length-take-le (a .len) (a .word) (omega arith) in
     sym (too-long (patternsOf (a .set) (a .lengths) (a .count)) (a .n) (take (a .len) (a .word)) (omega arith))
 
-is-begun-requires : tie.Need-is-begun-requires
-is-begun-requires c κs = search needs
-
 returns-2 : tie.Need-returns-2
 returns-2 c =
     let a = c .before .before .before .args in
@@ -30,9 +27,6 @@ returns-2 c =
 goes-on-requires : tie.Need-goes-on-requires
 goes-on-requires c κs = (omega arith, omega arith, sym (c .before .is-begun .ensures) ∙ not-false _ (c .if2 .left))
 
-returns-3 : tie.Need-returns-3
-returns-3 c = search needs
-
 pub completable-spec : {M : Type 1} → statement M
 completable-spec =
-    tie.close (tie.spec returns is-begun-requires returns-2 goes-on-requires returns-3)
+    tie.close (tie.spec returns (λ c κs. search needs) returns-2 goes-on-requires (λ c. search needs))

@@ -22,18 +22,12 @@ abbrev μ-loop : tie.MeasureT-loop
 loop-holds : tie.Need-loop-holds Inv-loop μ-loop
 loop-holds c = (begun-none (c .args .n), omega arith)
 
-array-read-x : tie.Need-array-read-x Inv-loop μ-loop
-array-read-x c = search needs
-
 returns : tie.Need-returns Inv-loop μ-loop
 returns c =
     let a = c .before .before .before .args in
     let long : length (a .t1) ≡ 20 = search needs in
     sym (begun-fails (a .n) (a .t1) (c .before .before .loop .i) (a .len) (omega arith) (omega arith)
     (λ (l : 1 ≤ getD (a .t1) (c .before .before .loop .i) 0) m e. omega (arith, c .if1 .taken)))
-
-wide-requires : tie.Need-wide-requires Inv-loop μ-loop
-wide-requires c κs = search needs
 
 returns-2 : tie.Need-returns-2 Inv-loop μ-loop
 returns-2 c =
@@ -42,21 +36,12 @@ returns-2 c =
     sym (begun-fails (a .n) (a .t1) (c .before .before .before .before .loop .i) (a .len) (omega arith) (omega arith)
     (λ l (m : getD (a .t1) (c .before .before .before .before .loop .i) 0 ≤ a .n) e. omega (arith, c .before .wide .ensures .0)))
 
-stands-requires : tie.Need-stands-requires Inv-loop μ-loop
-stands-requires c κs = search needs
-
 returns-3 : tie.Need-returns-3 Inv-loop μ-loop
 returns-3 c =
     let a = c .before .before .before .before .before .before .before .args in
     let long : length (a .t1) ≡ 20 = search needs in
     sym (begun-fails (a .n) (a .t1) (c .before .before .before .before .before .before .loop .i) (a .len) (omega arith) (omega arith)
     (λ l m e. true-not-false (sym (c .if3 .taken) ∙ c .before .stands .ensures ∙ e)))
-
-add-i : tie.Need-add-i Inv-loop μ-loop
-add-i c = search needs
-
-loop-less : tie.Need-loop-less Inv-loop μ-loop
-loop-less c = search needs
 
 loop-again : tie.Need-loop-again Inv-loop μ-loop
 loop-again c =
@@ -79,13 +64,13 @@ is-begun-spec =
     Inv-loop
     μ-loop
     loop-holds
-    array-read-x
+    (λ c. search needs)
     returns
-    wide-requires
+    (λ c κs. search needs)
     returns-2
-    stands-requires
+    (λ c κs. search needs)
     returns-3
-    add-i
-    loop-less
+    (λ c. search needs)
+    (λ c. search needs)
     loop-again
     returns-4)

@@ -8,9 +8,6 @@ use borrow.Author.Needs.{needs}
 use Rattle.completion.proofs.put.Statement.{statement}
 use Rattle.completion.proofs.put.Tie as tie
 
-array-write-longer : tie.Need-array-write-longer
-array-write-longer c = search needs
-
 returns : tie.Need-returns
 returns c =
     let a = c .args in
@@ -18,4 +15,4 @@ returns c =
     rw (add-one (a .len)) (take-suc-set (a .word) (a .len) (a .v) room)
 
 pub put-spec : {M : Type 1} → statement M
-put-spec = tie.close (tie.spec array-write-longer returns)
+put-spec = tie.close (tie.spec (λ c. search needs) returns)

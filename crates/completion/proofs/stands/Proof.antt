@@ -18,12 +18,6 @@ Inv-loop len v word i₀ i = has v (take len word) ≡ has v (drop i (take len w
 abbrev μ-loop : tie.MeasureT-loop
 μ-loop len v word i₀ i = len - i
 
-loop-holds : tie.Need-loop-holds Inv-loop μ-loop
-loop-holds c = search needs
-
-array-read-if1 : tie.Need-array-read-if1 Inv-loop μ-loop
-array-read-if1 c = search needs
-
 returns : tie.Need-returns Inv-loop μ-loop
 returns c =
     let a = c .before .before .before .args in
@@ -31,12 +25,6 @@ returns c =
     let long : length (a .t1) ≡ 20 = search needs in
     let size = length-take-le (a .len) (a .t1) (omega arith) in
     sym (c .before .before .loop .inv ∙ has-here (a .v) (take (a .len) (a .t1)) i (omega arith) (getD-take (a .len) (a .t1) i 0 (omega arith) ∙ c .if1 .taken))
-
-add-i : tie.Need-add-i Inv-loop μ-loop
-add-i c = search needs
-
-loop-less : tie.Need-loop-less Inv-loop μ-loop
-loop-less c = search needs
 
 loop-again : tie.Need-loop-again Inv-loop μ-loop
 loop-again c =
@@ -60,10 +48,10 @@ stands-spec =
     (tie.spec
     Inv-loop
     μ-loop
-    loop-holds
-    array-read-if1
+    (λ c. search needs)
+    (λ c. search needs)
     returns
-    add-i
-    loop-less
+    (λ c. search needs)
+    (λ c. search needs)
     loop-again
     returns-2)

@@ -5,16 +5,10 @@ use borrow.Author.Needs.{needs}
 use Rattle.kernel.proofs.judge.Statement.{statement}
 use Rattle.kernel.proofs.judge.Tie as tie
 
-judge-texts-requires : tie.Need-judge-texts-requires
-judge-texts-requires c κs = search needs
-
-refusal-number-requires : tie.Need-refusal-number-requires
-refusal-number-requires c κs = search needs
-
 returns : tie.Need-returns
 returns c =
     let v = c .before .judge-texts in
     called _ _ (v .result) (c .refusal-number .result) (v .ensures) (c .refusal-number .ensures)
 
 pub judge-spec : {M : Type 1} → statement M
-judge-spec = tie.close (tie.spec judge-texts-requires refusal-number-requires returns)
+judge-spec = tie.close (tie.spec (λ c κs. search needs) (λ c κs. search needs) returns)

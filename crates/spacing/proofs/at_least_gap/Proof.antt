@@ -19,20 +19,8 @@ Inv-loop gaps j k g at p₀ p = (p ≤ k + 1) × (atLeast (take (k + 1) g) (vect
 abbrev μ-loop : tie.MeasureT-loop
 μ-loop gaps j k g at p₀ p = k + 1 - p
 
-mul-at : tie.Need-mul-at Inv-loop μ-loop
-mul-at c = search needs
-
 loop-holds : tie.Need-loop-holds Inv-loop μ-loop
 loop-holds c = (omega arith, refl)
-
-array-read-if1 : tie.Need-array-read-if1 Inv-loop μ-loop
-array-read-if1 c = search needs
-
-add-if1 : tie.Need-add-if1 Inv-loop μ-loop
-add-if1 c = search needs
-
-shared-slice-read-if1 : tie.Need-shared-slice-read-if1 Inv-loop μ-loop
-shared-slice-read-if1 c = search needs
 
 returns : tie.Need-returns Inv-loop μ-loop
 returns c =
@@ -42,12 +30,6 @@ returns c =
     let seven : length (a .t1) ≡ COMPONENTS = search needs in
     sym (l .inv .1 ∙ least-fails (a .t1) (drop (COMPONENTS * a .j) parts) (a .k) (l .p) (omega arith) (omega (arith, part-room parts (a .j) (c .before .before .before .before .pre .1)))
     (omega arith) (omega (arith, part-at parts (a .j) (l .p), c .if1 .taken)))
-
-add-p : tie.Need-add-p Inv-loop μ-loop
-add-p c = search needs
-
-loop-less : tie.Need-loop-less Inv-loop μ-loop
-loop-less c = search needs
 
 loop-again : tie.Need-loop-again Inv-loop μ-loop
 loop-again c =
@@ -74,13 +56,13 @@ at-least-gap-spec =
     (tie.spec
     Inv-loop
     μ-loop
-    mul-at
+    (λ c. search needs)
     loop-holds
-    array-read-if1
-    add-if1
-    shared-slice-read-if1
+    (λ c. search needs)
+    (λ c. search needs)
+    (λ c. search needs)
     returns
-    add-p
-    loop-less
+    (λ c. search needs)
+    (λ c. search needs)
     loop-again
     returns-2)

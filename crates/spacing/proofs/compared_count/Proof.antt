@@ -1,5 +1,5 @@
--- `spacing::compared_count` meets its contract: what was counted and what passes from total t on are the whole.
--- Assumes nothing.
+-- `spacing::compared_count` meets its contract: what was counted and what passes from total t on
+-- are the whole. Assumes nothing.
 use denote.Ref.{now}
 use Prim.Native.Nat.{suc, _+_, _-_, _≤_}
 use mathlib.Core.Path.{_≡_}
@@ -24,15 +24,6 @@ loop-holds c =
     let a = c .before .args in
     (omega arith, omega (arith, totals-start (free (gapsOf (now (a .gaps)) (a .k + 1) (a .n))) (a .k) (a .m)))
 
-add-loop : tie.Need-add-loop Inv-loop μ-loop
-add-loop c = search needs
-
-cast-free-count : tie.Need-cast-free-count Inv-loop μ-loop
-cast-free-count c = search needs
-
-free-count-requires : tie.Need-free-count-requires Inv-loop μ-loop
-free-count-requires c κs = search needs
-
 add-count : tie.Need-add-count Inv-loop μ-loop
 add-count c =
     let a = c .before .before .before .before .args in
@@ -40,12 +31,6 @@ add-count c =
     let f = free (gapsOf (now (a .gaps)) (a .k + 1) (a .n)) in
     let most = totals-bound f (a .k) (a .m) (omega arith) (omega arith) in
     omega (arith, most, l .inv .1, totals-step f (a .k) (a .m) (l .t) (omega arith), c .free-count .ensures)
-
-add-t : tie.Need-add-t Inv-loop μ-loop
-add-t c = search needs
-
-loop-less : tie.Need-loop-less Inv-loop μ-loop
-loop-less c = search needs
 
 loop-again : tie.Need-loop-again Inv-loop μ-loop
 loop-again c =
@@ -68,11 +53,11 @@ compared-count-spec =
     Inv-loop
     μ-loop
     loop-holds
-    add-loop
-    cast-free-count
-    free-count-requires
+    (λ c. search needs)
+    (λ c. search needs)
+    (λ c κs. search needs)
     add-count
-    add-t
-    loop-less
+    (λ c. search needs)
+    (λ c. search needs)
     loop-again
     returns)

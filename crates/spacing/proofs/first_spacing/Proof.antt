@@ -6,11 +6,8 @@ use borrow.Author.Needs.{needs}
 use Rattle.spacing.proofs.first_spacing.Statement.{statement}
 use Rattle.spacing.proofs.first_spacing.Tie as tie
 
-array-write-g : tie.Need-array-write-g
-array-write-g c = search needs
-
 returns : tie.Need-returns
 returns c = first-memory (c .args .k) COMPONENTS (c .args .t) (c .pre)
 
 pub first-spacing-spec : {M : Type 1} → statement M
-first-spacing-spec = tie.close (tie.spec array-write-g returns)
+first-spacing-spec = tie.close (tie.spec (λ c. search needs) returns)

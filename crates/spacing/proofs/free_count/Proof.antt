@@ -1,5 +1,5 @@
--- `spacing::free_count` meets its contract: what was counted and what passes from g on are the whole.
--- Assumes nothing.
+-- `spacing::free_count` meets its contract: what was counted and what passes from g on are the
+-- whole. Assumes nothing.
 use denote.Ref.{now}
 use Prim.Native.Nat.{suc, _+_}
 use mathlib.Core.Path.{_≡_, sym, _∙_}
@@ -21,16 +21,10 @@ Inv-loop gaps n k t g₀ count₀ g count = Walk (free (gapsOf gaps (k + 1) n)) 
 abbrev μ-loop : tie.MeasureT-loop
 μ-loop gaps n k t g₀ count₀ g count = length (later (take (k + 1) g))
 
-first-spacing-requires : tie.Need-first-spacing-requires Inv-loop μ-loop
-first-spacing-requires c κs = search needs
-
 loop-holds : tie.Need-loop-holds Inv-loop μ-loop
 loop-holds c =
     let a = c .before .before .args in
     walk-start (free (gapsOf (now (a .gaps)) (a .k + 1) (a .n))) (a .k) (a .t) (take (a .k + 1) (c .first-spacing .result)) (c .first-spacing .ensures)
-
-is-free-requires : tie.Need-is-free-requires Inv-loop μ-loop
-is-free-requires c κs = search needs
 
 add-count : tie.Need-add-count Inv-loop μ-loop
 add-count c =
@@ -88,9 +82,9 @@ free-count-spec =
     (tie.spec
     Inv-loop
     μ-loop
-    first-spacing-requires
+    (λ c κs. search needs)
     loop-holds
-    is-free-requires
+    (λ c κs. search needs)
     add-count
     next-spacing-requires
     returns

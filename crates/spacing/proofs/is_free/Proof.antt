@@ -1,5 +1,5 @@
--- `spacing::is_free` meets its contract: g is at least no gap vector if it is at least none from j on.
--- Assumes nothing.
+-- `spacing::is_free` meets its contract: g is at least no gap vector if it is at least none from j
+-- on. Assumes nothing.
 use denote.Ref.{now}
 use Prim.Native.Nat.{_+_, _-_}
 use mathlib.Core.Path.{_≡_, sym, _∙_}
@@ -23,20 +23,11 @@ loop-holds c =
     let a = c .before .args in
     free-start (now (a .gaps)) (a .k + 1) (a .n) (take (a .k + 1) (a .g))
 
-at-least-gap-requires : tie.Need-at-least-gap-requires Inv-loop μ-loop
-at-least-gap-requires c κs = search needs
-
 returns : tie.Need-returns Inv-loop μ-loop
 returns c =
     let a = c .before .before .before .before .before .args in
     let l = c .before .before .before .loop in
     sym (l .inv ∙ free-fails (now (a .gaps)) (a .k + 1) (a .n) (take (a .k + 1) (a .g)) (l .j) (omega arith) (sym (c .before .at-least-gap .ensures) ∙ c .if1 .taken))
-
-add-j : tie.Need-add-j Inv-loop μ-loop
-add-j c = search needs
-
-loop-less : tie.Need-loop-less Inv-loop μ-loop
-loop-less c = search needs
 
 loop-again : tie.Need-loop-again Inv-loop μ-loop
 loop-again c =
@@ -57,9 +48,9 @@ is-free-spec =
     Inv-loop
     μ-loop
     loop-holds
-    at-least-gap-requires
+    (λ c κs. search needs)
     returns
-    add-j
-    loop-less
+    (λ c. search needs)
+    (λ c. search needs)
     loop-again
     returns-2)

@@ -21,47 +21,17 @@ loop-holds c =
     let seven : length g ≡ COMPONENTS = search needs in
     seen-start g (c .args .k) (omega arith)
 
-array-read-r : tie.Need-array-read-r Inv-loop μ-loop
-array-read-r c = search needs
-
-array-write-n : tie.Need-array-write-n Inv-loop μ-loop
-array-write-n c = search needs
-
-sub-n : tie.Need-sub-n Inv-loop μ-loop
-sub-n c = search needs
-
-array-read-n : tie.Need-array-read-n Inv-loop μ-loop
-array-read-n c = search needs
-
 add-n : tie.Need-add-n Inv-loop μ-loop
 add-n c =
     let a = c .before .before .before .args in
     let seven : length (a .t1) ≡ COMPONENTS = search needs in
     omega (arith, next-fits (a .t1) (a .k) (c .before .before .loop .j) (omega arith) (omega arith) (c .before .before .loop .inv) (c .if1 .taken) (c .before .before .before .pre .1))
 
-sub-n-2 : tie.Need-sub-n-2 Inv-loop μ-loop
-sub-n-2 c = search needs
-
-array-write-n-2 : tie.Need-array-write-n-2 Inv-loop μ-loop
-array-write-n-2 c = search needs
-
-sub-n-3 : tie.Need-sub-n-3 Inv-loop μ-loop
-sub-n-3 c = search needs
-
-array-write-n-3 : tie.Need-array-write-n-3 Inv-loop μ-loop
-array-write-n-3 c = search needs
-
 returns : tie.Need-returns Inv-loop μ-loop
 returns c =
     let a = c .before .before .before .args in
     let seven : length (a .t1) ≡ COMPONENTS = search needs in
     next-memory (a .t1) (a .k) (c .before .before .loop .j) (omega arith) (omega arith) (c .before .before .loop .inv) (c .if1 .taken)
-
-sub-j : tie.Need-sub-j Inv-loop μ-loop
-sub-j c = search needs
-
-loop-less : tie.Need-loop-less Inv-loop μ-loop
-loop-less c = search needs
 
 loop-again : tie.Need-loop-again Inv-loop μ-loop
 loop-again c =
@@ -82,17 +52,17 @@ next-spacing-spec =
     Inv-loop
     μ-loop
     loop-holds
-    array-read-r
-    array-write-n
-    sub-n
-    array-read-n
+    (λ c. search needs)
+    (λ c. search needs)
+    (λ c. search needs)
+    (λ c. search needs)
     add-n
-    sub-n-2
-    array-write-n-2
-    sub-n-3
-    array-write-n-3
+    (λ c. search needs)
+    (λ c. search needs)
+    (λ c. search needs)
+    (λ c. search needs)
     returns
-    sub-j
-    loop-less
+    (λ c. search needs)
+    (λ c. search needs)
     loop-again
     returns-2)

@@ -15,17 +15,8 @@ Inv-loop reading₀ turns₀ reading turns = ReadsAll reading
 abbrev μ-loop : tie.MeasureT-loop
 μ-loop reading₀ turns₀ reading turns = turns
 
-nothing-requires : tie.Need-nothing-requires Inv-loop μ-loop
-nothing-requires c κs = search needs
-
 loop-holds : tie.Need-loop-holds Inv-loop μ-loop
 loop-holds c = record { input = []; kept = c .nothing .ensures }
-
-read-some-requires : tie.Need-read-some-requires Inv-loop μ-loop
-read-some-requires c κs = search needs
-
-has-more-requires : tie.Need-has-more-requires Inv-loop μ-loop
-has-more-requires c κs = search needs
 
 sub-turns : tie.Need-sub-turns Inv-loop μ-loop
 sub-turns c = omega arith
@@ -54,10 +45,10 @@ read-all-spec =
     (tie.spec
     Inv-loop
     μ-loop
-    nothing-requires
+    (λ c κs. search needs)
     loop-holds
-    read-some-requires
-    has-more-requires
+    (λ c κs. search needs)
+    (λ c κs. search needs)
     sub-turns
     loop-less
     loop-again

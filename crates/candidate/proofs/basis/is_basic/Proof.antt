@@ -28,21 +28,6 @@ returns c =
     let l = c .before .before .loop in
     sym (l .inv ∙ basic-none (from (a .t1) (a .t2) (a .count) (l .j)) (take (a .b) (a .q)) (from-counted (a .t1) (a .t2) (a .count) (l .j) (omega arith)))
 
-mul-leaves : tie.Need-mul-leaves Inv-loop μ-loop
-mul-leaves c = search needs
-
-array-copy-out-leaves : tie.Need-array-copy-out-leaves Inv-loop μ-loop
-array-copy-out-leaves c = search needs
-
-array-read-leaves : tie.Need-array-read-leaves Inv-loop μ-loop
-array-read-leaves c = search needs
-
-cast-leaves : tie.Need-cast-leaves Inv-loop μ-loop
-cast-leaves c = search needs
-
-leaves-requires : tie.Need-leaves-requires Inv-loop μ-loop
-leaves-requires c κs = search needs
-
 returns-2 : tie.Need-returns-2 Inv-loop μ-loop
 returns-2 c =
     let a = c .before .before .before .before .before .before .args in
@@ -50,12 +35,6 @@ returns-2 c =
     let t = c .before .leaves in
     sym (l .inv ∙ basic-here (a .t1) (a .t2) (a .count) (take (a .b) (a .q)) (l .j)
     (search needs) (search needs) (omega arith) (t .result) (t .ensures) (c .if2 .taken))
-
-add-j : tie.Need-add-j Inv-loop μ-loop
-add-j c = search needs
-
-loop-less : tie.Need-loop-less Inv-loop μ-loop
-loop-less c = search needs
 
 loop-again : tie.Need-loop-again Inv-loop μ-loop
 loop-again c =
@@ -80,13 +59,13 @@ is-basic-spec =
     μ-loop
     loop-holds
     returns
-    mul-leaves
-    array-copy-out-leaves
-    array-read-leaves
-    cast-leaves
-    leaves-requires
+    (λ c. search needs)
+    (λ c. search needs)
+    (λ c. search needs)
+    (λ c. search needs)
+    (λ c κs. search needs)
     returns-2
-    add-j
-    loop-less
+    (λ c. search needs)
+    (λ c. search needs)
     loop-again
     returns-3)

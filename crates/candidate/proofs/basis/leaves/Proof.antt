@@ -8,17 +8,11 @@ use borrow.Author.Needs.{needs}
 use Rattle.candidate.proofs.basis.leaves.Statement.{statement}
 use Rattle.candidate.proofs.basis.leaves.Tie as tie
 
-same-digits-requires : tie.Need-same-digits-requires
-same-digits-requires c κs = search needs
-
 returns : tie.Need-returns
 returns c =
     let a = c .before .before .args in
     let t : same (take (a .a) (a .p)) (take (a .b) (a .q)) ≡ true = sym (c .before .same-digits .ensures) ∙ c .if1 .taken in
     rw t refl
-
-stands-in-requires : tie.Need-stands-in-requires
-stands-in-requires c κs = search needs
 
 returns-2 : tie.Need-returns-2
 returns-2 c =
@@ -27,4 +21,4 @@ returns-2 c =
     rw (t, ← c .stands-in .ensures) refl
 
 pub leaves-spec : {M : Type 1} → statement M
-leaves-spec = tie.close (tie.spec same-digits-requires returns stands-in-requires returns-2)
+leaves-spec = tie.close (tie.spec (λ c κs. search needs) returns (λ c κs. search needs) returns-2)

@@ -33,30 +33,6 @@ returns c =
       l .inv .1,
     )
 
-mul-digits : tie.Need-mul-digits Inv-loop μ-loop
-mul-digits c = search needs
-
-array-copy-out-digits : tie.Need-array-copy-out-digits Inv-loop μ-loop
-array-copy-out-digits c = search needs
-
-array-read-digits : tie.Need-array-read-digits Inv-loop μ-loop
-array-read-digits c = search needs
-
-cast-digits : tie.Need-cast-digits Inv-loop μ-loop
-cast-digits c = search needs
-
-digits-requires : tie.Need-digits-requires Inv-loop μ-loop
-digits-requires c κs = search needs
-
-larger-requires : tie.Need-larger-requires Inv-loop μ-loop
-larger-requires c κs = search needs
-
-add-i : tie.Need-add-i Inv-loop μ-loop
-add-i c = search needs
-
-loop-less : tie.Need-loop-less Inv-loop μ-loop
-loop-less c = search needs
-
 loop-again : tie.Need-loop-again Inv-loop μ-loop
 loop-again c =
     let a = c .before .before .before .before .before .before .args in
@@ -87,13 +63,13 @@ longest-length-spec =
     μ-loop
     loop-holds
     returns
-    mul-digits
-    array-copy-out-digits
-    array-read-digits
-    cast-digits
-    digits-requires
-    larger-requires
-    add-i
-    loop-less
+    (λ c. search needs)
+    (λ c. search needs)
+    (λ c. search needs)
+    (λ c. search needs)
+    (λ c κs. search needs)
+    (λ c κs. search needs)
+    (λ c. search needs)
+    (λ c. search needs)
     loop-again
     returns-2)

@@ -17,9 +17,6 @@ Inv-loop a b p q k₀ k = same (take a p) (take b q) ≡ same (drop k (take a p)
 abbrev μ-loop : tie.MeasureT-loop
 μ-loop a b p q k₀ k = 8 - k
 
-loop-holds : tie.Need-loop-holds Inv-loop μ-loop
-loop-holds c = search needs
-
 returns : tie.Need-returns Inv-loop μ-loop
 returns c =
     let a = c .before .before .before .args in
@@ -32,23 +29,11 @@ returns-2 c =
     let l = c .before .before .before .loop in
     sym (l .inv ∙ same-longer (a .t1) (a .t3) (a .a) (a .b) (l .k) (search needs) (search needs) (omega arith) (omega arith))
 
-array-read-if3 : tie.Need-array-read-if3 Inv-loop μ-loop
-array-read-if3 c = search needs
-
-array-read-if3-2 : tie.Need-array-read-if3-2 Inv-loop μ-loop
-array-read-if3-2 c = search needs
-
 returns-3 : tie.Need-returns-3 Inv-loop μ-loop
 returns-3 c =
     let a = c .before .before .before .before .before .args in
     let l = c .before .before .before .before .loop in
     sym (l .inv ∙ same-apart (a .t1) (a .t3) (a .a) (a .b) (l .k) (search needs) (search needs) (omega arith) (omega arith) (c .if3 .taken))
-
-add-k : tie.Need-add-k Inv-loop μ-loop
-add-k c = search needs
-
-loop-less : tie.Need-loop-less Inv-loop μ-loop
-loop-less c = search needs
 
 loop-again : tie.Need-loop-again Inv-loop μ-loop
 loop-again c =
@@ -70,13 +55,13 @@ same-digits-spec =
     (tie.spec
     Inv-loop
     μ-loop
-    loop-holds
+    (λ c. search needs)
     returns
     returns-2
-    array-read-if3
-    array-read-if3-2
+    (λ c. search needs)
+    (λ c. search needs)
     returns-3
-    add-k
-    loop-less
+    (λ c. search needs)
+    (λ c. search needs)
     loop-again
     returns-4)

@@ -11,28 +11,16 @@ use borrow.Author.Needs.{needs}
 use Rattle.candidate.proofs.basis.stands_in.Statement.{statement}
 use Rattle.candidate.proofs.basis.stands_in.Tie as tie
 
-array-share-prefix-q : tie.Need-array-share-prefix-q
-array-share-prefix-q c = search needs
-
 slice-aggregate-first-copy : tie.Need-slice-aggregate-first-copy
 slice-aggregate-first-copy c =
     let a = c .before .before .args in
     let q : length (a .t3) ≡ 8 = search needs in
     omega (arith, length-take (a .b) (a .t3))
 
-first-copy-requires : tie.Need-first-copy-requires
-first-copy-requires c κs = search needs
-
 returns : tie.Need-returns
 returns c =
     let a = c .before .before .before .args in
     found-contains (take (a .a) (a .p)) (take (a .b) (a .t3)) (c .first-copy .result) (c .first-copy .ensures)
-
-slice-aggregate-first-copy-2 : tie.Need-slice-aggregate-first-copy-2
-slice-aggregate-first-copy-2 c = search needs
-
-first-copy-requires-2 : tie.Need-first-copy-requires-2
-first-copy-requires-2 c κs = search needs
 
 returns-2 : tie.Need-returns-2
 returns-2 c =
@@ -45,10 +33,10 @@ pub stands-in-spec : {M : Type 1} → statement M
 stands-in-spec =
     tie.close
     (tie.spec
-    array-share-prefix-q
+    (λ c. search needs)
     slice-aggregate-first-copy
-    first-copy-requires
+    (λ c κs. search needs)
     returns
-    slice-aggregate-first-copy-2
-    first-copy-requires-2
+    (λ c. search needs)
+    (λ c κs. search needs)
     returns-2)

@@ -8,11 +8,8 @@ use borrow.Author.Needs.{needs}
 use Rattle.candidate.proofs.placing.is_flagged.Statement.{statement}
 use Rattle.candidate.proofs.placing.is_flagged.Tie as tie
 
-told-requires : tie.Need-told-requires
-told-requires c κs = search needs
-
 returns : tie.Need-returns
 returns c = ap (λ (x : ℕ). not (eqb x 0)) (c .told .ensures)
 
 pub is-flagged-spec : {M : Type 1} → statement M
-is-flagged-spec = tie.close (tie.spec told-requires returns)
+is-flagged-spec = tie.close (tie.spec (λ c κs. search needs) returns)

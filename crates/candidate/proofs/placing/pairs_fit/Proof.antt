@@ -16,27 +16,12 @@ Inv-loop head s x a chosen j₀ j = (j ≤ s) × (fits (take s head) x (take s c
 abbrev μ-loop : tie.MeasureT-loop
 μ-loop head s x a chosen j₀ j = s - j
 
-loop-holds : tie.Need-loop-holds Inv-loop μ-loop
-loop-holds c = search needs
-
-shared-slice-read-below : tie.Need-shared-slice-read-below Inv-loop μ-loop
-shared-slice-read-below c = search needs
-
-array-read-found-below : tie.Need-array-read-found-below Inv-loop μ-loop
-array-read-found-below c = search needs
-
 returns : tie.Need-returns Inv-loop μ-loop
 returns c =
     let a = c .before .before .before .before .args in
     let l = c .before .before .before .loop in
     let eight : length (a .t1) ≡ 8 = search needs in
     sym (l .inv .1 ∙ pair-failed (a .head .now) (a .t1) (a .x) (a .a) (a .s) (l .j) (omega arith) (omega arith) (omega arith) (c .if1 .taken))
-
-add-j : tie.Need-add-j Inv-loop μ-loop
-add-j c = search needs
-
-loop-less : tie.Need-loop-less Inv-loop μ-loop
-loop-less c = search needs
 
 loop-again : tie.Need-loop-again Inv-loop μ-loop
 loop-again c =
@@ -58,11 +43,11 @@ pairs-fit-spec =
     (tie.spec
     Inv-loop
     μ-loop
-    loop-holds
-    shared-slice-read-below
-    array-read-found-below
+    (λ c. search needs)
+    (λ c. search needs)
+    (λ c. search needs)
     returns
-    add-j
-    loop-less
+    (λ c. search needs)
+    (λ c. search needs)
     loop-again
     returns-2)

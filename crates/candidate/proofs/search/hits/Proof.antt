@@ -17,20 +17,11 @@ returns c =
     let a = c .before .args in
     λ R g r e. sym (hit-short (take (a .k) (a .t4)) R g (take (a .len) (a .t1)) (a .t) e (omega (arith, length-take (a .len) (a .t1))))
 
-sub-head : tie.Need-sub-head
-sub-head c = search needs
-
-array-share-prefix-row : tie.Need-array-share-prefix-row
-array-share-prefix-row c = search needs
-
 slice-aggregate-placed : tie.Need-slice-aggregate-placed
 slice-aggregate-placed c =
     let a = c .before .before .args in
     let eight : length (a .t1) ≡ 8 = search needs in
     sym (length-take-le (a .len - a .t) (a .t1) (omega arith))
-
-array-share-prefix-prefix : tie.Need-array-share-prefix-prefix
-array-share-prefix-prefix c = search needs
 
 slice-aggregate-placed-2 : tie.Need-slice-aggregate-placed-2
 slice-aggregate-placed-2 c =
@@ -55,10 +46,10 @@ hits-spec =
     tie.close
     (tie.spec
     returns
-    sub-head
-    array-share-prefix-row
+    (λ c. search needs)
+    (λ c. search needs)
     slice-aggregate-placed
-    array-share-prefix-prefix
+    (λ c. search needs)
     slice-aggregate-placed-2
     placed-requires
     returns-2)

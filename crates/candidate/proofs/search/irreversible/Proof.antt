@@ -42,9 +42,6 @@ loop-holds c =
     let a = c .before .before .before .before .args in
     (c .before .before .before .before .pre .3, omega arith, λ R F. totals-start (lost (gapsOf (now (a .gaps)) (a .deletion .length + 1) (a .deletion .«gap_count»)) (patternsOf (a .set) (a .lengths) (a .count)) (take (a .deletion .length) (a .deletion .prefix)) R) (a .deletion .length) (a .deletion .longest))
 
-add-loop : tie.Need-add-loop Inv-loop μ-loop
-add-loop c = search needs
-
 total-violated-requires : tie.Need-total-violated-requires Inv-loop μ-loop
 total-violated-requires c κs = (c .before .before .before .before .before .before .pre .5 .few, c .before .before .before .before .before .before .pre .0, omega (arith, c .before .loop .inv .0), c .before .before .before .before .before .before .pre .4)
 
@@ -64,12 +61,6 @@ returns c =
     totals-here (lost A P (take (a .deletion .length) (a .deletion .prefix)) R) (a .deletion .length) (a .deletion .longest) (l .t) (omega arith) (sym here ∙ c .if1 .taken) in
     entry-answer (a .set) (a .lengths) (a .count) (take (a .deletion .length) (a .deletion .prefix)) A R true G
     (sym (entry-defined P (take (a .deletion .length) (a .deletion .prefix)) A R (a .deletion .length) (a .deletion .longest) (sym wide) (c .before .before .before .before .before .before .before .before .pre .2) ∙ l .inv .2 R F ∙ found))
-
-add-t : tie.Need-add-t Inv-loop μ-loop
-add-t c = search needs
-
-loop-less : tie.Need-loop-less Inv-loop μ-loop
-loop-less c = search needs
 
 loop-again : tie.Need-loop-again Inv-loop μ-loop
 loop-again c =
@@ -108,10 +99,10 @@ irreversible-spec =
     μ-loop
     deleted-values-requires
     loop-holds
-    add-loop
+    (λ c. search needs)
     total-violated-requires
     returns
-    add-t
-    loop-less
+    (λ c. search needs)
+    (λ c. search needs)
     loop-again
     returns-2)

@@ -21,42 +21,6 @@ abbrev μ-loop : tie.MeasureT-loop
 loop-holds : tie.Need-loop-holds Inv-loop μ-loop
 loop-holds c = (refl, omega arith, λ i h. absurd (omega arith))
 
-mul-digits : tie.Need-mul-digits Inv-loop μ-loop
-mul-digits c = search needs
-
-array-copy-out-digits : tie.Need-array-copy-out-digits Inv-loop μ-loop
-array-copy-out-digits c = search needs
-
-array-read-digits : tie.Need-array-read-digits Inv-loop μ-loop
-array-read-digits c = search needs
-
-cast-digits : tie.Need-cast-digits Inv-loop μ-loop
-cast-digits c = search needs
-
-digits-requires : tie.Need-digits-requires Inv-loop μ-loop
-digits-requires c κs = search needs
-
-mul-need-of : tie.Need-mul-need-of Inv-loop μ-loop
-mul-need-of c = search needs
-
-array-copy-out-need-of : tie.Need-array-copy-out-need-of Inv-loop μ-loop
-array-copy-out-need-of c = search needs
-
-need-of-requires : tie.Need-need-of-requires Inv-loop μ-loop
-need-of-requires c κs = search needs
-
-mul-needs : tie.Need-mul-needs Inv-loop μ-loop
-mul-needs c = search needs
-
-array-set-from-needs : tie.Need-array-set-from-needs Inv-loop μ-loop
-array-set-from-needs c = search needs
-
-add-i : tie.Need-add-i Inv-loop μ-loop
-add-i c = search needs
-
-loop-less : tie.Need-loop-less Inv-loop μ-loop
-loop-less c = search needs
-
 loop-again : tie.Need-loop-again Inv-loop μ-loop
 loop-again c =
     let a = c .before .before .before .before .before .before .args in
@@ -81,17 +45,17 @@ needs-of-spec =
     Inv-loop
     μ-loop
     loop-holds
-    mul-digits
-    array-copy-out-digits
-    array-read-digits
-    cast-digits
-    digits-requires
-    mul-need-of
-    array-copy-out-need-of
-    need-of-requires
-    mul-needs
-    array-set-from-needs
-    add-i
-    loop-less
+    (λ c. search needs)
+    (λ c. search needs)
+    (λ c. search needs)
+    (λ c. search needs)
+    (λ c κs. search needs)
+    (λ c. search needs)
+    (λ c. search needs)
+    (λ c κs. search needs)
+    (λ c. search needs)
+    (λ c. search needs)
+    (λ c. search needs)
+    (λ c. search needs)
     loop-again
     returns)

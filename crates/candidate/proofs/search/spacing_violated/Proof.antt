@@ -22,40 +22,10 @@ Inv-loop count set lengths needs prefix k gone t levels i₀ i = Passed set leng
 abbrev μ-loop : tie.MeasureT-loop
 μ-loop count set lengths needs prefix k gone t levels i₀ i = count - i
 
-levels-of-requires : tie.Need-levels-of-requires Inv-loop μ-loop
-levels-of-requires c κs = search needs
-
 loop-holds : tie.Need-loop-holds Inv-loop μ-loop
 loop-holds c =
     let a = c .before .before .before .before .before .args in
     passed-start (a .t1) (a .t2) (a .count) (a .t4) (take (a .at .deleted .length) (a .at .deleted .prefix)) (a .at .deleted .gone) (c .levels-of .result) (a .at .total)
-
-mul-row : tie.Need-mul-row Inv-loop μ-loop
-mul-row c = search needs
-
-array-copy-out-row : tie.Need-array-copy-out-row Inv-loop μ-loop
-array-copy-out-row c = search needs
-
-array-read-digits : tie.Need-array-read-digits Inv-loop μ-loop
-array-read-digits c = search needs
-
-cast-digits : tie.Need-cast-digits Inv-loop μ-loop
-cast-digits c = search needs
-
-digits-requires : tie.Need-digits-requires Inv-loop μ-loop
-digits-requires c κs = search needs
-
-mul-need : tie.Need-mul-need Inv-loop μ-loop
-mul-need c = search needs
-
-array-copy-out-need : tie.Need-array-copy-out-need Inv-loop μ-loop
-array-copy-out-need c = search needs
-
-add-i : tie.Need-add-i Inv-loop μ-loop
-add-i c = search needs
-
-loop-less : tie.Need-loop-less Inv-loop μ-loop
-loop-less c = search needs
 
 loop-again : tie.Need-loop-again Inv-loop μ-loop
 loop-again c =
@@ -70,9 +40,6 @@ loop-again c =
 
 hits-requires : tie.Need-hits-requires Inv-loop μ-loop
 hits-requires c κs = (c .before .before .digits .ensures .1, c .before .before .before .before .before .before .before .before .before .before .before .pre .1)
-
-loop-less-2 : tie.Need-loop-less-2 Inv-loop μ-loop
-loop-less-2 c = search needs
 
 loop-again-2 : tie.Need-loop-again-2 Inv-loop μ-loop
 loop-again-2 c =
@@ -93,9 +60,6 @@ candidate-word-requires c κs = (c .before .before .before .before .before .befo
 
 contained-by-requires : tie.Need-contained-by-requires Inv-loop μ-loop
 contained-by-requires c κs = (omega (arith, c .before .candidate-word .ensures .0), omega arith, c .before .before .before .before .before .before .before .before .before .before .before .before .before .before .before .pre .0)
-
-loop-less-3 : tie.Need-loop-less-3 Inv-loop μ-loop
-loop-less-3 c = search needs
 
 loop-again-3 : tie.Need-loop-again-3 Inv-loop μ-loop
 loop-again-3 c =
@@ -151,24 +115,24 @@ spacing-violated-spec =
     (tie.spec
     Inv-loop
     μ-loop
-    levels-of-requires
+    (λ c κs. search needs)
     loop-holds
-    mul-row
-    array-copy-out-row
-    array-read-digits
-    cast-digits
-    digits-requires
-    mul-need
-    array-copy-out-need
-    add-i
-    loop-less
+    (λ c. search needs)
+    (λ c. search needs)
+    (λ c. search needs)
+    (λ c. search needs)
+    (λ c κs. search needs)
+    (λ c. search needs)
+    (λ c. search needs)
+    (λ c. search needs)
+    (λ c. search needs)
     loop-again
     hits-requires
-    loop-less-2
+    (λ c. search needs)
     loop-again-2
     candidate-word-requires
     contained-by-requires
-    loop-less-3
+    (λ c. search needs)
     loop-again-3
     returns
     returns-2)

@@ -25,31 +25,16 @@ Inv-loop set lengths count gaps deleted t k needs g₀ g =
 abbrev μ-loop : tie.MeasureT-loop
 μ-loop set lengths count gaps deleted t k needs g₀ g = length (later (take (k + 1) g))
 
-needs-of-requires : tie.Need-needs-of-requires Inv-loop μ-loop
-needs-of-requires c κs = search needs
-
-cast-first-spacing : tie.Need-cast-first-spacing Inv-loop μ-loop
-cast-first-spacing c = search needs
-
-first-spacing-requires : tie.Need-first-spacing-requires Inv-loop μ-loop
-first-spacing-requires c κs = search needs
-
 loop-holds : tie.Need-loop-holds Inv-loop μ-loop
 loop-holds c =
     let a = c .before .before .before .args in
     walked-start (a .set) (a .lengths) (a .count) (c .before .needs-of .result) (take (a .deleted .length) (a .deleted .prefix)) (a .deleted .gone) (gapsOf (now (a .gaps)) (a .deleted .length + 1) (a .deleted .«gap_count»)) (a .deleted .length) (a .t) (take (a .deleted .length + 1) (c .first-spacing .result)) (c .first-spacing .ensures)
-
-free-and-violated-requires : tie.Need-free-and-violated-requires Inv-loop μ-loop
-free-and-violated-requires c κs = search needs
 
 returns : tie.Need-returns Inv-loop μ-loop
 returns c =
     let a = c .before .before .before .before .before .before .args in
     let f = c .before .free-and-violated in
     walked-found (a .set) (a .lengths) (a .count) (c .before .before .before .before .needs-of .result) (take (a .deleted .length) (a .deleted .prefix)) (a .deleted .gone) (gapsOf (now (a .gaps)) (a .deleted .length + 1) (a .deleted .«gap_count»)) (a .deleted .length) (a .t) (take (a .deleted .length + 1) (c .before .before .loop .g)) (c .before .before .loop .inv) (c .before .before .before .before .needs-of .ensures) (f .result) (f .ensures) (c .if1 .taken)
-
-next-spacing-requires : tie.Need-next-spacing-requires Inv-loop μ-loop
-next-spacing-requires c κs = search needs
 
 returns-2 : tie.Need-returns-2 Inv-loop μ-loop
 returns-2 c =
@@ -83,13 +68,13 @@ total-violated-spec =
     (tie.spec
     Inv-loop
     μ-loop
-    needs-of-requires
-    cast-first-spacing
-    first-spacing-requires
+    (λ c κs. search needs)
+    (λ c. search needs)
+    (λ c κs. search needs)
     loop-holds
-    free-and-violated-requires
+    (λ c κs. search needs)
     returns
-    next-spacing-requires
+    (λ c κs. search needs)
     returns-2
     loop-less
     loop-again)

@@ -14,15 +14,6 @@ use borrow.Author.Needs.{needs}
 use Rattle.candidate.proofs.tables.candidate_word.Statement.{statement}
 use Rattle.candidate.proofs.tables.candidate_word.Tie as tie
 
-kept-requires : tie.Need-kept-requires
-kept-requires c κs = search needs
-
-sub-with-rest : tie.Need-sub-with-rest
-sub-with-rest c = search needs
-
-with-rest-requires : tie.Need-with-rest-requires
-with-rest-requires c κs = search needs
-
 returns : tie.Need-returns
 returns c =
     let a = c .before .before .before .before .args in
@@ -40,4 +31,4 @@ returns c =
     )
 
 pub candidate-word-spec : {M : Type 1} → statement M
-candidate-word-spec = tie.close (tie.spec kept-requires sub-with-rest with-rest-requires returns)
+candidate-word-spec = tie.close (tie.spec (λ c κs. search needs) (λ c. search needs) (λ c κs. search needs) returns)

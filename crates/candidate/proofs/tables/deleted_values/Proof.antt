@@ -40,29 +40,14 @@ at-position c =
 loop-holds : tie.Need-loop-holds Inv-loop μ-loop
 loop-holds c = (search needs, search needs, λ v h. flag-none 9 v _)
 
-array-read-at : tie.Need-array-read-at Inv-loop μ-loop
-array-read-at c = search needs
-
-cast-at : tie.Need-cast-at Inv-loop μ-loop
-cast-at c = search needs
-
 sub-v : tie.Need-sub-v Inv-loop μ-loop
 sub-v c = omega (arith, at-position c)
 
 array-read-v : tie.Need-array-read-v Inv-loop μ-loop
 array-read-v c = omega (arith, at-position c)
 
-cast-v : tie.Need-cast-v Inv-loop μ-loop
-cast-v c = search needs
-
 array-write-gone : tie.Need-array-write-gone Inv-loop μ-loop
 array-write-gone c = omega (arith, at-position c)
-
-add-j : tie.Need-add-j Inv-loop μ-loop
-add-j c = search needs
-
-loop-less : tie.Need-loop-less Inv-loop μ-loop
-loop-less c = search needs
 
 loop-again : tie.Need-loop-again Inv-loop μ-loop
 loop-again c =
@@ -91,13 +76,13 @@ deleted-values-spec =
     Inv-loop
     μ-loop
     loop-holds
-    array-read-at
-    cast-at
+    (λ c. search needs)
+    (λ c. search needs)
     sub-v
     array-read-v
-    cast-v
+    (λ c. search needs)
     array-write-gone
-    add-j
-    loop-less
+    (λ c. search needs)
+    (λ c. search needs)
     loop-again
     returns)

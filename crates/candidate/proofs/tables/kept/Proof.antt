@@ -19,33 +19,6 @@ Inv-loop k levels gone prefix entries₀ n₀ i₀ entries n i =
 abbrev μ-loop : tie.MeasureT-loop
 μ-loop k levels gone prefix entries₀ n₀ i₀ entries n i = k - i
 
-loop-holds : tie.Need-loop-holds Inv-loop μ-loop
-loop-holds c = search needs
-
-array-read-a : tie.Need-array-read-a Inv-loop μ-loop
-array-read-a c = search needs
-
-told-requires : tie.Need-told-requires Inv-loop μ-loop
-told-requires c κs = search needs
-
-told-requires-2 : tie.Need-told-requires-2 Inv-loop μ-loop
-told-requires-2 c κs = search needs
-
-added-requires : tie.Need-added-requires Inv-loop μ-loop
-added-requires c κs = search needs
-
-array-write-entries : tie.Need-array-write-entries Inv-loop μ-loop
-array-write-entries c = search needs
-
-add-n : tie.Need-add-n Inv-loop μ-loop
-add-n c = search needs
-
-add-i : tie.Need-add-i Inv-loop μ-loop
-add-i c = search needs
-
-loop-less : tie.Need-loop-less Inv-loop μ-loop
-loop-less c = search needs
-
 loop-again : tie.Need-loop-again Inv-loop μ-loop
 loop-again c =
     let a = c .before .before .before .before .before .before .args in
@@ -61,12 +34,6 @@ loop-again c =
           (keptValues (a .levels) (a .gone) (drop (l .i) (take (a .k) (a .t1)))) (keptValues (a .levels) (a .gone) (take (a .k) (a .t1))) (omega arith)
           (rw value (kept-here (a .levels) (a .gone) (a .t1) (a .k) (l .i) (omega arith) (omega arith) stays)) (l .inv .3),
     )
-
-add-i-2 : tie.Need-add-i-2 Inv-loop μ-loop
-add-i-2 c = search needs
-
-loop-less-2 : tie.Need-loop-less-2 Inv-loop μ-loop
-loop-less-2 c = search needs
 
 loop-again-2 : tie.Need-loop-again-2 Inv-loop μ-loop
 loop-again-2 c =
@@ -97,17 +64,17 @@ kept-spec =
     (tie.spec
     Inv-loop
     μ-loop
-    loop-holds
-    array-read-a
-    told-requires
-    told-requires-2
-    added-requires
-    array-write-entries
-    add-n
-    add-i
-    loop-less
+    (λ c. search needs)
+    (λ c. search needs)
+    (λ c κs. search needs)
+    (λ c κs. search needs)
+    (λ c κs. search needs)
+    (λ c. search needs)
+    (λ c. search needs)
+    (λ c. search needs)
+    (λ c. search needs)
     loop-again
-    add-i-2
-    loop-less-2
+    (λ c. search needs)
+    (λ c. search needs)
     loop-again-2
     returns)

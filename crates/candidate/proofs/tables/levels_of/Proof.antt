@@ -24,24 +24,12 @@ loop-holds c =
     let g = take (c .args .k + 1) (c .args .t1) in
     (search needs, sym (level-zero g), search needs, says-first (replicate 9 0) (level g) (sym (level-zero g)))
 
-array-read-sum : tie.Need-array-read-sum Inv-loop μ-loop
-array-read-sum c = search needs
-
 add-sum : tie.Need-add-sum Inv-loop μ-loop
 add-sum c =
     let a = c .before .before .args in
     let l = c .before .loop in
     let seven : length (a .t1) ≡ 7 = search needs in
     omega (arith, level-more (a .t1) (a .k + 1) (l .v) (omega arith) (omega arith), level-at-most (take (a .k + 1) (a .t1)) (l .v + 1))
-
-add-v : tie.Need-add-v Inv-loop μ-loop
-add-v c = search needs
-
-array-write-levels : tie.Need-array-write-levels Inv-loop μ-loop
-array-write-levels c = search needs
-
-loop-less : tie.Need-loop-less Inv-loop μ-loop
-loop-less c = search needs
 
 loop-again : tie.Need-loop-again Inv-loop μ-loop
 loop-again c =
@@ -64,10 +52,10 @@ levels-of-spec =
     Inv-loop
     μ-loop
     loop-holds
-    array-read-sum
+    (λ c. search needs)
     add-sum
-    add-v
-    array-write-levels
-    loop-less
+    (λ c. search needs)
+    (λ c. search needs)
+    (λ c. search needs)
     loop-again
     returns)

@@ -17,21 +17,6 @@ Inv-loop k s levels r₀ v₀ r v = (1 ≤ v) × (v ≤ k + 1) × (r ≤ s + v) 
 abbrev μ-loop : tie.MeasureT-loop
 μ-loop k s levels r₀ v₀ r v = suc k - v
 
-loop-holds : tie.Need-loop-holds Inv-loop μ-loop
-loop-holds c = search needs
-
-array-read-if1 : tie.Need-array-read-if1 Inv-loop μ-loop
-array-read-if1 c = search needs
-
-add-r : tie.Need-add-r Inv-loop μ-loop
-add-r c = search needs
-
-add-v : tie.Need-add-v Inv-loop μ-loop
-add-v c = search needs
-
-loop-less : tie.Need-loop-less Inv-loop μ-loop
-loop-less c = search needs
-
 loop-again : tie.Need-loop-again Inv-loop μ-loop
 loop-again c =
     let a = c .before .before .before .args in
@@ -48,4 +33,4 @@ returns c =
 pub lifted-spec : {M : Type 1} → statement M
 lifted-spec =
     tie.close
-    (tie.spec Inv-loop μ-loop loop-holds array-read-if1 add-r add-v loop-less loop-again returns)
+    (tie.spec Inv-loop μ-loop (λ c. search needs) (λ c. search needs) (λ c. search needs) (λ c. search needs) (λ c. search needs) loop-again returns)

@@ -21,24 +21,6 @@ abbrev μ-loop : tie.MeasureT-loop
 loop-holds : tie.Need-loop-holds Inv-loop μ-loop
 loop-holds c = (search needs, search needs, λ v h. absurd (omega arith))
 
-sub-at-most : tie.Need-sub-at-most Inv-loop μ-loop
-sub-at-most c = search needs
-
-cast-at-most : tie.Need-cast-at-most Inv-loop μ-loop
-cast-at-most c = search needs
-
-at-most-requires : tie.Need-at-most-requires Inv-loop μ-loop
-at-most-requires c κs = search needs
-
-array-write-need : tie.Need-array-write-need Inv-loop μ-loop
-array-write-need c = search needs
-
-add-x : tie.Need-add-x Inv-loop μ-loop
-add-x c = search needs
-
-loop-less : tie.Need-loop-less Inv-loop μ-loop
-loop-less c = search needs
-
 loop-again : tie.Need-loop-again Inv-loop μ-loop
 loop-again c =
     let a = c .before .before .before .args in
@@ -56,11 +38,11 @@ needed-spec =
     Inv-loop
     μ-loop
     loop-holds
-    sub-at-most
-    cast-at-most
-    at-most-requires
-    array-write-need
-    add-x
-    loop-less
+    (λ c. search needs)
+    (λ c. search needs)
+    (λ c κs. search needs)
+    (λ c. search needs)
+    (λ c. search needs)
+    (λ c. search needs)
     loop-again
     returns)

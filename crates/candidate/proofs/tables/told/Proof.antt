@@ -8,12 +8,6 @@ use borrow.Author.Needs.{needs}
 use Rattle.candidate.proofs.tables.told.Statement.{statement}
 use Rattle.candidate.proofs.tables.told.Tie as tie
 
-array-read-result : tie.Need-array-read-result
-array-read-result c = search needs
-
-returns : tie.Need-returns
-returns c = search needs
-
 returns-2 : tie.Need-returns-2
 returns-2 c =
     let a = c .before .args in
@@ -22,4 +16,4 @@ returns-2 c =
     sym (List·getD-eq-default (a .t1) 0 past)
 
 pub told-spec : {M : Type 1} → statement M
-told-spec = tie.close (tie.spec array-read-result returns returns-2)
+told-spec = tie.close (tie.spec (λ c. search needs) (λ c. search needs) returns-2)

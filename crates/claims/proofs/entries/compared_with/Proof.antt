@@ -13,12 +13,6 @@ use Rattle.claims.proofs.entries.compared_with.Tie as tie
 enum-told : tie.Need-enum-told
 enum-told c = search needs
 
-enum-told-2 : tie.Need-enum-told-2
-enum-told-2 c = search needs
-
-slice-aggregate-compared-count : tie.Need-slice-aggregate-compared-count
-slice-aggregate-compared-count c = search needs
-
 compared-count-requires : tie.Need-compared-count-requires
 compared-count-requires c κs =
     let start = c .before .before .before .before in
@@ -42,4 +36,4 @@ returns-2 c =
 pub compared-with-spec : {M : Type 1} → statement M
 compared-with-spec =
     tie.close
-    (tie.spec enum-told enum-told-2 slice-aggregate-compared-count compared-count-requires returns returns-2)
+    (tie.spec enum-told (λ c. search needs) (λ c. search needs) compared-count-requires returns returns-2)

@@ -1,5 +1,5 @@
--- `claims::entries::has_live_gap` meets its contract: some vector is live if one from the index on is.
--- Assumes nothing.
+-- `claims::entries::has_live_gap` meets its contract: some vector is live if one from the index on
+-- is. Assumes nothing.
 use borrow.Author.Needs.{needs}
 use Prim.Native.Nat.{ℕ, _-_, _≤_}
 use mathlib.Core.Path.{_≡_, sym, ap, _∙_}
@@ -28,9 +28,6 @@ loop-holds c =
     let a = c .before .args in
     (entry-few (a .e) (c .before .pre), omega arith, live-start (patternsOf (a .set) (a .lengths) (a .count)) (a .e))
 
-entry-gap-requires : tie.Need-entry-gap-requires Inv-loop μ-loop
-entry-gap-requires c κs = search needs
-
 is-live-requires : tie.Need-is-live-requires Inv-loop μ-loop
 is-live-requires c κs =
     let a = c .before .before .before .before .args in
@@ -50,12 +47,6 @@ returns c =
     let six : length (a .e .prefix) ≡ PREFIX = (let g = c .before .before .before .before .before .before .good in search needs) in
     let live = ap (λ (u : List ℕ). liveAt P u (gapAt (a .e) (l .j))) (prefix-is (a .e) q six) ∙ sym (rw (c .before .before .entry-gap .ensures) at (c .before .is-live .ensures)) ∙ c .if1 .taken in
     sym (l .inv .2 ∙ any-here (liveAt P p) (gapAt (a .e)) (a .e .«gap_count») (l .j) (omega arith) live)
-
-add-j : tie.Need-add-j Inv-loop μ-loop
-add-j c = search needs
-
-loop-less : tie.Need-loop-less Inv-loop μ-loop
-loop-less c = search needs
 
 loop-again : tie.Need-loop-again Inv-loop μ-loop
 loop-again c =
@@ -83,10 +74,10 @@ has-live-gap-spec =
     Inv-loop
     μ-loop
     loop-holds
-    entry-gap-requires
+    (λ c κs. search needs)
     is-live-requires
     returns
-    add-j
-    loop-less
+    (λ c. search needs)
+    (λ c. search needs)
     loop-again
     returns-2)

@@ -10,20 +10,11 @@ use Rattle.claims.proofs.entries.is_irreversible.Tie as tie
 enum-told : tie.Need-enum-told
 enum-told c = search needs
 
-enum-known-rule : tie.Need-enum-known-rule
-enum-known-rule c = search needs
-
-loses-requires : tie.Need-loses-requires
-loses-requires c κs = search needs
-
 returns : tie.Need-returns
 returns c =
     let a = c .before .before .args in
     sym (expands-differs (patternsOf (a .set) (a .lengths) (a .count)) (a .e) (c .enum-told .given .1))
 
-returns-2 : tie.Need-returns-2
-returns-2 c = search needs
-
 pub is-irreversible-spec : {M : Type 1} → statement M
 is-irreversible-spec =
-    tie.close (tie.spec enum-told enum-known-rule loses-requires returns returns-2)
+    tie.close (tie.spec enum-told (λ c. search needs) (λ c κs. search needs) returns (λ c. search needs))

@@ -26,12 +26,6 @@ cast-positions c =
     let start = c .before .before in
     let low = position-bound (start .args .e) (start .pre .3) (six-digits start) (start .args .r) (start .pre .4) in search needs
 
-array-write-positions : tie.Need-array-write-positions
-array-write-positions c = search needs
-
-slice-aggregate-irreversible : tie.Need-slice-aggregate-irreversible
-slice-aggregate-irreversible c = search needs
-
 irreversible-requires : tie.Need-irreversible-requires
 irreversible-requires c κs =
     let start = c .before .before .before in
@@ -51,4 +45,4 @@ returns c =
 pub loses-spec : {M : Type 1} → statement M
 loses-spec =
     tie.close
-    (tie.spec cast-positions array-write-positions slice-aggregate-irreversible irreversible-requires returns)
+    (tie.spec cast-positions (λ c. search needs) (λ c. search needs) irreversible-requires returns)

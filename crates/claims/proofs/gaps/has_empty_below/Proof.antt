@@ -54,12 +54,6 @@ returns-2 c =
     (leb-false m (l .t) (sym (c .before .before .before .is-at-most .ensures) ∙ c .before .before .if1 .left))
     (sym (c .before .has-empty .ensures) ∙ c .if2 .taken))
 
-add-t : tie.Need-add-t Inv-loop μ-loop
-add-t c = search needs
-
-loop-less : tie.Need-loop-less Inv-loop μ-loop
-loop-less c = search needs
-
 loop-again : tie.Need-loop-again Inv-loop μ-loop
 loop-again c =
     let a = c .before .before .before .before .before .before .args in
@@ -92,7 +86,7 @@ has-empty-below-spec =
     returns
     has-empty-requires
     returns-2
-    add-t
-    loop-less
+    (λ c. search needs)
+    (λ c. search needs)
     loop-again
     returns-3)

@@ -1,5 +1,5 @@
--- `claims::gaps::is_live` meets its contract: a smaller vector shows that the cell is empty, or its own first entries decide.
--- Assumes nothing.
+-- `claims::gaps::is_live` meets its contract: a smaller vector shows that the cell is empty, or its
+-- own first entries decide. Assumes nothing.
 use Prim.Native.Nat.{ℕ, _+_}
 use mathlib.Core.Path.{sym, ap, _∙_}
 use mathlib.Core.Bool.{not}
@@ -14,9 +14,6 @@ use Rattle.claims.proofs.GapClaimLaws.{gap-is, below-empty}
 use borrow.Author.Needs.{needs}
 use Rattle.claims.proofs.gaps.is_live.Statement.{statement}
 use Rattle.claims.proofs.gaps.is_live.Tie as tie
-
-parts-of-requires : tie.Need-parts-of-requires
-parts-of-requires c κs = search needs
 
 has-empty-below-requires : tie.Need-has-empty-below-requires
 has-empty-below-requires c κs =
@@ -56,4 +53,4 @@ returns-2 c =
 pub is-live-spec : {M : Type 1} → statement M
 is-live-spec =
     tie.close
-    (tie.spec parts-of-requires has-empty-below-requires returns is-live-at-requires returns-2)
+    (tie.spec (λ c κs. search needs) has-empty-below-requires returns is-live-at-requires returns-2)

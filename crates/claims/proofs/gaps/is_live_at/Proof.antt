@@ -1,5 +1,5 @@
--- `claims::gaps::is_live_at` meets its contract: the first entries are those of the cell, and completing them decides.
--- Assumes nothing.
+-- `claims::gaps::is_live_at` meets its contract: the first entries are those of the cell, and
+-- completing them decides. Assumes nothing.
 use Prim.Native.Nat.{ℕ, _+_}
 use mathlib.Core.Path.{_≡_, sym, ap, ap₂, _∙_}
 use native.Mathlib.Omega.{arith}
@@ -14,23 +14,8 @@ use Rattle.claims.proofs.gaps.is_live_at.Tie as tie
 levels-of-requires : tie.Need-levels-of-requires
 levels-of-requires c κs = let q = c .pre in (q .0, q .2)
 
-kept-requires : tie.Need-kept-requires
-kept-requires c κs = search needs
-
-array-read-wide : tie.Need-array-read-wide
-array-read-wide c = search needs
-
-wide-requires : tie.Need-wide-requires
-wide-requires c κs = search needs
-
 add-n : tie.Need-add-n
 add-n c = let q = c .before .before .before .before .pre in let w = c .wide .ensures in search needs
-
-array-read-wide-2 : tie.Need-array-read-wide-2
-array-read-wide-2 c = search needs
-
-wide-requires-2 : tie.Need-wide-requires-2
-wide-requires-2 c κs = search needs
 
 add-n-2 : tie.Need-add-n-2
 add-n-2 c = let q = c .before .before .before .before .before .pre in let w = c .wide2 .ensures in let v = c .before .wide .ensures in search needs
@@ -63,12 +48,12 @@ is-live-at-spec =
     tie.close
     (tie.spec
     levels-of-requires
-    kept-requires
-    array-read-wide
-    wide-requires
+    (λ c κs. search needs)
+    (λ c. search needs)
+    (λ c κs. search needs)
     add-n
-    array-read-wide-2
-    wide-requires-2
+    (λ c. search needs)
+    (λ c κs. search needs)
     add-n-2
     completable-requires
     returns)

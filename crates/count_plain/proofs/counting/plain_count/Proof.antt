@@ -9,22 +9,10 @@ use borrow.Author.Needs.{needs}
 use Rattle.count_plain.proofs.counting.plain_count.Statement.{statement}
 use Rattle.count_plain.proofs.counting.plain_count.Tie as tie
 
-slice-aggregate-fill-sheet : tie.Need-slice-aggregate-fill-sheet
-slice-aggregate-fill-sheet c = search needs
-
 fill-sheet-requires : tie.Need-fill-sheet-requires
 fill-sheet-requires c κs =
     let start = c .before in
     let q = proper (schemeIn (start .args .s)) (start .pre .1 .scheme) in search needs
-
-cast-g : tie.Need-cast-g
-cast-g c = search needs
-
-array-write-g : tie.Need-array-write-g
-array-write-g c = search needs
-
-slice-aggregate-cell : tie.Need-slice-aggregate-cell
-slice-aggregate-cell c = search needs
 
 cell-requires : tie.Need-cell-requires
 cell-requires c κs =
@@ -51,10 +39,10 @@ pub plain-count-spec : {M : Type 1} → statement M
 plain-count-spec =
     tie.close
     (tie.spec
-    slice-aggregate-fill-sheet
+    (λ c. search needs)
     fill-sheet-requires
-    cast-g
-    array-write-g
-    slice-aggregate-cell
+    (λ c. search needs)
+    (λ c. search needs)
+    (λ c. search needs)
     cell-requires
     returns)

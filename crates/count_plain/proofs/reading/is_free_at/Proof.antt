@@ -14,12 +14,6 @@ use borrow.Author.Needs.{needs}
 use Rattle.count_plain.proofs.reading.is_free_at.Statement.{statement}
 use Rattle.count_plain.proofs.reading.is_free_at.Tie as tie
 
-field-requires : tie.Need-field-requires
-field-requires c κs = search needs
-
-gaps-of-requires : tie.Need-gaps-of-requires
-gaps-of-requires c κs = search needs
-
 is-free-requires : tie.Need-is-free-requires
 is-free-requires c κs =
     let o = c .before .before .before in
@@ -36,4 +30,4 @@ returns c =
     (c .before .before .field .ensures)
 
 pub is-free-at-spec : {M : Type 1} → statement M
-is-free-at-spec = tie.close (tie.spec field-requires gaps-of-requires is-free-requires returns)
+is-free-at-spec = tie.close (tie.spec (λ c κs. search needs) (λ c κs. search needs) is-free-requires returns)

@@ -23,12 +23,6 @@ loop-holds c =
     let a = c .args in
     walk-start (take (a .k + 1) (a .t1)) (a .k) (a .s) (c .pre .1) (c .pre .2)
 
-array-read-wide : tie.Need-array-read-wide Inv-loop μ-loop
-array-read-wide c = search needs
-
-wide-requires : tie.Need-wide-requires Inv-loop μ-loop
-wide-requires c κs = search needs
-
 returns : tie.Need-returns Inv-loop μ-loop
 returns c =
     let a = c .before .before .before .before .args in
@@ -37,15 +31,6 @@ returns c =
     let size : length (take (a .k + 1) (a .t1)) ≡ suc (a .k) = length-take-le (a .k + 1) (a .t1) (omega arith) ∙ add-one (a .k) in
     walk-end (take (a .k + 1) (a .t1)) (a .k) (a .s) (l .i) (l .left) size (l .inv) (c .before .wide .result)
     (c .before .wide .ensures ∙ sym (getD-take (a .k + 1) (a .t1) (l .i) 0 (omega arith))) (c .if1 .taken)
-
-sub-left : tie.Need-sub-left Inv-loop μ-loop
-sub-left c = search needs
-
-add-i : tie.Need-add-i Inv-loop μ-loop
-add-i c = search needs
-
-loop-less : tie.Need-loop-less Inv-loop μ-loop
-loop-less c = search needs
 
 loop-again : tie.Need-loop-again Inv-loop μ-loop
 loop-again c =
@@ -74,11 +59,11 @@ held-spec =
     Inv-loop
     μ-loop
     loop-holds
-    array-read-wide
-    wide-requires
+    (λ c. search needs)
+    (λ c κs. search needs)
     returns
-    sub-left
-    add-i
-    loop-less
+    (λ c. search needs)
+    (λ c. search needs)
+    (λ c. search needs)
     loop-again
     returns-2)

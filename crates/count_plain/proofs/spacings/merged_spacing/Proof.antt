@@ -18,24 +18,12 @@ Inv-loop g k v r₀ j₀ r j = (j ≤ k) × (length r ≡ COMPONENTS) × (take j
 abbrev μ-loop : tie.MeasureT-loop
 μ-loop g k v r₀ j₀ r j = k - j
 
-loop-holds : tie.Need-loop-holds Inv-loop μ-loop
-loop-holds c = search needs
-
 merged-piece-requires : tie.Need-merged-piece-requires Inv-loop μ-loop
 merged-piece-requires c κs =
     let a = c .before .before .args in
     let l = c .before .loop in
     let seven : length (a .g) ≡ COMPONENTS = (let o = c .before .before in search needs) in
     (omega arith, omega arith, c .before .before .pre .1, omega (arith, two-small (a .g) (a .k) (omega arith) (l .j) (omega arith), c .before .before .pre .3))
-
-array-write-r : tie.Need-array-write-r Inv-loop μ-loop
-array-write-r c = search needs
-
-add-j : tie.Need-add-j Inv-loop μ-loop
-add-j c = search needs
-
-loop-less : tie.Need-loop-less Inv-loop μ-loop
-loop-less c = search needs
 
 loop-again : tie.Need-loop-again Inv-loop μ-loop
 loop-again c =
@@ -67,10 +55,10 @@ merged-spacing-spec =
     (tie.spec
     Inv-loop
     μ-loop
-    loop-holds
+    (λ c. search needs)
     merged-piece-requires
-    array-write-r
-    add-j
-    loop-less
+    (λ c. search needs)
+    (λ c. search needs)
+    (λ c. search needs)
     loop-again
     returns)

@@ -11,17 +11,11 @@ use borrow.Author.Needs.{needs}
 use Rattle.count_plain.proofs.spacings.split_piece.Statement.{statement}
 use Rattle.count_plain.proofs.spacings.split_piece.Tie as tie
 
-array-read-result : tie.Need-array-read-result
-array-read-result c = search needs
-
 returns : tie.Need-returns
 returns c =
     let a = c .before .args in
     let seven : length (a .t1) ≡ COMPONENTS = (let o = c .before in search needs) in
     sym (split-before (a .t1) (a .i) (a .left) (omega arith) (a .j) (c .if1 .taken))
-
-sub-narrow : tie.Need-sub-narrow
-sub-narrow c = search needs
 
 narrow-requires : tie.Need-narrow-requires
 narrow-requires c κs = omega (arith, c .before .before .pre .3, c .before .before .pre .4)
@@ -32,29 +26,14 @@ returns-2 c =
     let seven : length (a .t1) ≡ COMPONENTS = (let o = c .before .before .before in search needs) in
     c .narrow .ensures ∙ sym (split-low (a .t1) (a .i) (a .left) (omega arith) (a .j) (c .before .if2 .taken))
 
-add-if3 : tie.Need-add-if3
-add-if3 c = search needs
-
-array-read-result-2 : tie.Need-array-read-result-2
-array-read-result-2 c = search needs
-
 narrow-requires-2 : tie.Need-narrow-requires-2
 narrow-requires-2 c κs = omega (arith, c .before .before .before .pre .3, c .before .before .before .pre .4)
-
-sub-result : tie.Need-sub-result
-sub-result c = search needs
 
 returns-3 : tie.Need-returns-3
 returns-3 c =
     let a = c .before .before .before .before .args in
     let seven : length (a .t1) ≡ COMPONENTS = (let o = c .before .before .before .before in search needs) in
     ap (λ n. getD (a .t1) (a .i) 0 - n) (c .narrow2 .ensures) ∙ sym (split-high (a .t1) (a .i) (a .left) (omega arith) (a .j) (c .before .if3 .taken ∙ add-one (a .i)))
-
-sub-result-2 : tie.Need-sub-result-2
-sub-result-2 c = search needs
-
-array-read-result-3 : tie.Need-array-read-result-3
-array-read-result-3 c = search needs
 
 returns-4 : tie.Need-returns-4
 returns-4 c =
@@ -66,16 +45,16 @@ pub split-piece-spec : {M : Type 1} → statement M
 split-piece-spec =
     tie.close
     (tie.spec
-    array-read-result
+    (λ c. search needs)
     returns
-    sub-narrow
+    (λ c. search needs)
     narrow-requires
     returns-2
-    add-if3
-    array-read-result-2
+    (λ c. search needs)
+    (λ c. search needs)
     narrow-requires-2
-    sub-result
+    (λ c. search needs)
     returns-3
-    sub-result-2
-    array-read-result-3
+    (λ c. search needs)
+    (λ c. search needs)
     returns-4)

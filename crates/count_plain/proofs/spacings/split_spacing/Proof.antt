@@ -19,27 +19,12 @@ Inv-loop g k i left r₀ j₀ r j = (j ≤ k + 2) × (length r ≡ COMPONENTS) �
 abbrev μ-loop : tie.MeasureT-loop
 μ-loop g k i left r₀ j₀ r j = k + 2 - j
 
-loop-holds : tie.Need-loop-holds Inv-loop μ-loop
-loop-holds c = search needs
-
-add-loop : tie.Need-add-loop Inv-loop μ-loop
-add-loop c = search needs
-
 split-piece-requires : tie.Need-split-piece-requires Inv-loop μ-loop
 split-piece-requires c κs =
     let a = c .before .before .args in
     let l = c .before .loop in
     let q = getD-take (a .k + 1) (a .g) (a .i) 0 (omega arith) in
     (omega arith, omega arith, c .before .before .pre .2, omega (arith, c .before .before .pre .3), omega (arith, part-small (take (a .k + 1) (a .g)) (a .i), c .before .before .pre .4))
-
-array-write-r : tie.Need-array-write-r Inv-loop μ-loop
-array-write-r c = search needs
-
-add-j : tie.Need-add-j Inv-loop μ-loop
-add-j c = search needs
-
-loop-less : tie.Need-loop-less Inv-loop μ-loop
-loop-less c = search needs
 
 loop-again : tie.Need-loop-again Inv-loop μ-loop
 loop-again c =
@@ -70,11 +55,11 @@ split-spacing-spec =
     (tie.spec
     Inv-loop
     μ-loop
-    loop-holds
-    add-loop
+    (λ c. search needs)
+    (λ c. search needs)
     split-piece-requires
-    array-write-r
-    add-j
-    loop-less
+    (λ c. search needs)
+    (λ c. search needs)
+    (λ c. search needs)
     loop-again
     returns)

@@ -13,17 +13,11 @@ use borrow.Author.Needs.{needs}
 use Rattle.count_plan.proofs.cards.alone_value.Statement.{statement}
 use Rattle.count_plan.proofs.cards.alone_value.Tie as tie
 
-array-share-prefix-prefix : tie.Need-array-share-prefix-prefix
-array-share-prefix-prefix c = search needs
-
 slice-aggregate-any-in : tie.Need-slice-aggregate-any-in
 slice-aggregate-any-in c =
     let a = c .before .args in
     let six : length (a .t4) ≡ PREFIX = search needs in
     sym (length-take-le (a .k) (a .t4) (omega arith))
-
-any-in-requires : tie.Need-any-in-requires
-any-in-requires c κs = search needs
 
 returns : tie.Need-returns
 returns c =
@@ -44,4 +38,4 @@ returns-2 c =
 pub alone-value-spec : {M : Type 1} → statement M
 alone-value-spec =
     tie.close
-    (tie.spec array-share-prefix-prefix slice-aggregate-any-in any-in-requires returns returns-2)
+    (tie.spec (λ c. search needs) slice-aggregate-any-in (λ c κs. search needs) returns returns-2)

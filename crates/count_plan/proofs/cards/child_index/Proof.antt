@@ -6,17 +6,8 @@ use borrow.Author.Needs.{needs}
 use Rattle.count_plan.proofs.cards.child_index.Statement.{statement}
 use Rattle.count_plan.proofs.cards.child_index.Tie as tie
 
-child-requires : tie.Need-child-requires
-child-requires c κs = search needs
-
-add-index-in : tie.Need-add-index-in
-add-index-in c = search needs
-
-index-in-requires : tie.Need-index-in-requires
-index-in-requires c κs = search needs
-
 returns : tie.Need-returns
 returns c ps w = c .index-in .ensures ps w ∙ ap (indexIn ps) (c .before .child .ensures)
 
 pub child-index-spec : {M : Type 1} → statement M
-child-index-spec = tie.close (tie.spec child-requires add-index-in index-in-requires returns)
+child-index-spec = tie.close (tie.spec (λ c κs. search needs) (λ c. search needs) (λ c κs. search needs) returns)

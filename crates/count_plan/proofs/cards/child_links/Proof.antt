@@ -19,27 +19,6 @@ abbrev μ-loop : tie.MeasureT-loop
 loop-holds : tie.Need-loop-holds Inv-loop μ-loop
 loop-holds c = (omega arith, λ ps w. links-start ps (take (c .before .args .k) (c .before .args .prefix)) _ refl)
 
-cast-child-index : tie.Need-cast-child-index Inv-loop μ-loop
-cast-child-index c = search needs
-
-add-child-index : tie.Need-add-child-index Inv-loop μ-loop
-add-child-index c = search needs
-
-child-index-requires : tie.Need-child-index-requires Inv-loop μ-loop
-child-index-requires c κs = search needs
-
-mul-links : tie.Need-mul-links Inv-loop μ-loop
-mul-links c = search needs
-
-array-write-links : tie.Need-array-write-links Inv-loop μ-loop
-array-write-links c = search needs
-
-add-a : tie.Need-add-a Inv-loop μ-loop
-add-a c = search needs
-
-loop-less : tie.Need-loop-less Inv-loop μ-loop
-loop-less c = search needs
-
 loop-again : tie.Need-loop-again Inv-loop μ-loop
 loop-again c =
     let start = c .before .before .before .before in
@@ -65,12 +44,12 @@ child-links-spec =
     Inv-loop
     μ-loop
     loop-holds
-    cast-child-index
-    add-child-index
-    child-index-requires
-    mul-links
-    array-write-links
-    add-a
-    loop-less
+    (λ c. search needs)
+    (λ c. search needs)
+    (λ c κs. search needs)
+    (λ c. search needs)
+    (λ c. search needs)
+    (λ c. search needs)
+    (λ c. search needs)
     loop-again
     returns)

@@ -11,27 +11,6 @@ use borrow.Author.Needs.{needs}
 use Rattle.count_plan.proofs.cards.deleting.Statement.{statement}
 use Rattle.count_plan.proofs.cards.deleting.Tie as tie
 
-sub-wide : tie.Need-sub-wide
-sub-wide c = search needs
-
-array-read-wide : tie.Need-array-read-wide
-array-read-wide c = search needs
-
-wide-requires : tie.Need-wide-requires
-wide-requires c κs = search needs
-
-shorter-requires : tie.Need-shorter-requires
-shorter-requires c κs = search needs
-
-sub-index-in : tie.Need-sub-index-in
-sub-index-in c = search needs
-
-index-in-requires : tie.Need-index-in-requires
-index-in-requires c κs = search needs
-
-array-write-links : tie.Need-array-write-links
-array-write-links c = search needs
-
 returns : tie.Need-returns
 returns c ps w =
     let start = c .before .before .before .before in
@@ -47,11 +26,11 @@ pub deleting-spec : {M : Type 1} → statement M
 deleting-spec =
     tie.close
     (tie.spec
-    sub-wide
-    array-read-wide
-    wide-requires
-    shorter-requires
-    sub-index-in
-    index-in-requires
-    array-write-links
+    (λ c. search needs)
+    (λ c. search needs)
+    (λ c κs. search needs)
+    (λ c κs. search needs)
+    (λ c. search needs)
+    (λ c κs. search needs)
+    (λ c. search needs)
     returns)

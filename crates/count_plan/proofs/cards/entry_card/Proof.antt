@@ -22,9 +22,6 @@ expanding-requires c κs =
     let six : length (a .e .prefix) ≡ PREFIX = search needs in
     (o .pre .1 (ap doesOf (c .enum-told .given .1)), perm-memory (a .e .length) (a .e .prefix) (omega (arith, o .pre .0 .short)) (o .pre .0 .perm))
 
-enum-known-rule : tie.Need-enum-known-rule
-enum-known-rule c = search needs
-
 deleting-requires : tie.Need-deleting-requires
 deleting-requires c κs =
     let o = c .before .before .before .before .before in
@@ -52,4 +49,4 @@ returns-2 c ps w =
 pub entry-card-spec : {M : Type 1} → statement M
 entry-card-spec =
     tie.close
-    (tie.spec enum-told expanding-requires enum-known-rule deleting-requires returns returns-2)
+    (tie.spec enum-told expanding-requires (λ c. search needs) deleting-requires returns returns-2)

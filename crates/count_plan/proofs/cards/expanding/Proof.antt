@@ -10,12 +10,6 @@ use borrow.Author.Needs.{needs}
 use Rattle.count_plan.proofs.cards.expanding.Statement.{statement}
 use Rattle.count_plan.proofs.cards.expanding.Tie as tie
 
-alone-value-requires : tie.Need-alone-value-requires
-alone-value-requires c κs = search needs
-
-child-links-requires : tie.Need-child-links-requires
-child-links-requires c κs = search needs
-
 returns : tie.Need-returns
 returns c ps w =
     let start = c .before .before .before in
@@ -30,4 +24,4 @@ returns c ps w =
     }
 
 pub expanding-spec : {M : Type 1} → statement M
-expanding-spec = tie.close (tie.spec alone-value-requires child-links-requires returns)
+expanding-spec = tie.close (tie.spec (λ c κs. search needs) (λ c κs. search needs) returns)

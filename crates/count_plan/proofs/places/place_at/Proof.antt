@@ -10,14 +10,5 @@ use Rattle.count_plan.proofs.places.place_at.Tie as tie
 returns : tie.Need-returns
 returns c = let a = c .before .args in sym (List·getD-eq-default (now (a .places)) 0 (c .if1 .taken))
 
-mul-result : tie.Need-mul-result
-mul-result c = search needs
-
-shared-slice-read-result : tie.Need-shared-slice-read-result
-shared-slice-read-result c = search needs
-
-returns-2 : tie.Need-returns-2
-returns-2 c = search needs
-
 pub place-at-spec : {M : Type 1} → statement M
-place-at-spec = tie.close (tie.spec returns mul-result shared-slice-read-result returns-2)
+place-at-spec = tie.close (tie.spec returns (λ c. search needs) (λ c. search needs) (λ c. search needs))

@@ -48,9 +48,6 @@ add-at c =
       binomial-small (o .args .n) (lengthAt (o .args .t1) (l .i)) (o .pre .1),
     )
 
-add-i : tie.Need-add-i Inv-loop μ-loop
-add-i c = search needs
-
 mul-places : tie.Need-mul-places Inv-loop μ-loop
 mul-places c =
     let start = c .before .before .before .before .before in
@@ -60,9 +57,6 @@ array-write-places : tie.Need-array-write-places Inv-loop μ-loop
 array-write-places c =
     let start = c .before .before .before .before .before in
     omega (arith, count-few (start .args .t1) (start .pre .0))
-
-loop-less : tie.Need-loop-less Inv-loop μ-loop
-loop-less c = search needs
 
 loop-again : tie.Need-loop-again Inv-loop μ-loop
 loop-again c =
@@ -92,9 +86,9 @@ places-of-spec =
     element-copy-out-e
     choose-requires
     add-at
-    add-i
+    (λ c. search needs)
     mul-places
     array-write-places
-    loop-less
+    (λ c. search needs)
     loop-again
     returns)

@@ -11,24 +11,6 @@ use borrow.Author.Needs.{needs}
 use Rattle.count_plan.proofs.reading.gaps_of.Statement.{statement}
 use Rattle.count_plan.proofs.reading.gaps_of.Tie as tie
 
-mul-at : tie.Need-mul-at
-mul-at c = search needs
-
-add-at : tie.Need-add-at
-add-at c = search needs
-
-add-result : tie.Need-add-result
-add-result c = search needs
-
-sub-result : tie.Need-sub-result
-sub-result c = search needs
-
-part-result-start : tie.Need-part-result-start
-part-result-start c = search needs
-
-part-result-end : tie.Need-part-result-end
-part-result-end c = search needs
-
 returns : tie.Need-returns
 returns c =
     let a = c .before .args in
@@ -38,4 +20,4 @@ returns c =
 pub gaps-of-spec : {M : Type 1} → statement M
 gaps-of-spec =
     tie.close
-    (tie.spec mul-at add-at add-result sub-result part-result-start part-result-end returns)
+    (tie.spec (λ c. search needs) (λ c. search needs) (λ c. search needs) (λ c. search needs) (λ c. search needs) (λ c. search needs) returns)

@@ -72,12 +72,6 @@ put-card-requires c κs =
     let long = at-loop .loop .inv .1 .long in
     (omega (arith, count-few (start .args .t5) (start .pre .0), long), omega (arith, long))
 
-add-i : tie.Need-add-i Inv-loop μ-loop
-add-i c = search needs
-
-loop-less : tie.Need-loop-less Inv-loop μ-loop
-loop-less c = search needs
-
 loop-again : tie.Need-loop-again Inv-loop μ-loop
 loop-again c =
     let at-entry-card = c .before .before .before .before in
@@ -103,12 +97,6 @@ slice-aggregate-index-in c =
     let start = at-codes-of .before .before in
     let codes = at-codes-of .codes-of in
     sym (length-take-le (start .args .t5 .count) (codes .result) (omega (arith, count-few (start .args .t5) (start .pre .0), codes .ensures .0)))
-
-index-in-requires : tie.Need-index-in-requires Inv-loop μ-loop
-index-in-requires c κs = search needs
-
-same-length : tie.Need-same-length Inv-loop μ-loop
-same-length c = search needs
 
 returns : tie.Need-returns Inv-loop μ-loop
 returns c =
@@ -138,11 +126,11 @@ fill-sheet-spec =
     entry-card-requires
     mul-put-card
     put-card-requires
-    add-i
-    loop-less
+    (λ c. search needs)
+    (λ c. search needs)
     loop-again
     array-share-prefix-codes-2
     slice-aggregate-index-in
-    index-in-requires
-    same-length
+    (λ c κs. search needs)
+    (λ c. search needs)
     returns)

@@ -16,22 +16,10 @@ use borrow.Author.Needs.{needs}
 use Rattle.count_rows.proofs.entry.fill_entry.Statement.{statement}
 use Rattle.count_rows.proofs.entry.fill_entry.Tie as tie
 
-task-of-requires : tie.Need-task-of-requires
-task-of-requires c κs = search needs
-
-place-at-requires : tie.Need-place-at-requires
-place-at-requires c κs = search needs
-
-add-at : tie.Need-add-at
-add-at c = search needs
-
 choose-requires : tie.Need-choose-requires
 choose-requires c κs =
     let o = c .before .before .before .before .before .before .before in
     (o .pre .0 .fits .high, omega (arith, ap (λ (t : Task). t .length) (c .before .before .task-of .ensures), o .pre .0 .fits .short), o .pre .1)
-
-gaps-of-requires : tie.Need-gaps-of-requires
-gaps-of-requires c κs = search needs
 
 fill-cells-requires : tie.Need-fill-cells-requires
 fill-cells-requires c κs =
@@ -53,9 +41,6 @@ fill-cells-requires c κs =
       o .pre .1,
     )
 
-same-length : tie.Need-same-length
-same-length c = search needs
-
 returns : tie.Need-returns
 returns c =
     let at-gaps-of = c .before .before .before .before in
@@ -72,11 +57,11 @@ pub fill-entry-spec : {M : Type 1} → statement M
 fill-entry-spec =
     tie.close
     (tie.spec
-    task-of-requires
-    place-at-requires
-    add-at
+    (λ c κs. search needs)
+    (λ c κs. search needs)
+    (λ c. search needs)
     choose-requires
-    gaps-of-requires
+    (λ c κs. search needs)
     fill-cells-requires
-    same-length
+    (λ c. search needs)
     returns)

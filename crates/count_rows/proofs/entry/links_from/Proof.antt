@@ -23,15 +23,6 @@ abbrev μ-loop : tie.MeasureT-loop
 loop-holds : tie.Need-loop-holds Inv-loop μ-loop
 loop-holds c = (omega arith, refl, λ (d : ℕ) (h : d < 0). absurd (omega arith))
 
-add-field : tie.Need-add-field Inv-loop μ-loop
-add-field c = search needs
-
-field-requires : tie.Need-field-requires Inv-loop μ-loop
-field-requires c κs = search needs
-
-place-at-requires : tie.Need-place-at-requires Inv-loop μ-loop
-place-at-requires c κs = search needs
-
 add-from : tie.Need-add-from Inv-loop μ-loop
 add-from c =
     let at-loop = c .before .before .before in
@@ -45,18 +36,6 @@ add-from c =
       o .pre .3 (l .a),
       o .pre .2,
     )
-
-mul-from : tie.Need-mul-from Inv-loop μ-loop
-mul-from c = search needs
-
-array-write-from : tie.Need-array-write-from Inv-loop μ-loop
-array-write-from c = search needs
-
-add-a : tie.Need-add-a Inv-loop μ-loop
-add-a c = search needs
-
-loop-less : tie.Need-loop-less Inv-loop μ-loop
-loop-less c = search needs
 
 loop-again : tie.Need-loop-again Inv-loop μ-loop
 loop-again c =
@@ -85,13 +64,13 @@ links-from-spec =
     Inv-loop
     μ-loop
     loop-holds
-    add-field
-    field-requires
-    place-at-requires
+    (λ c. search needs)
+    (λ c κs. search needs)
+    (λ c κs. search needs)
     add-from
-    mul-from
-    array-write-from
-    add-a
-    loop-less
+    (λ c. search needs)
+    (λ c. search needs)
+    (λ c. search needs)
+    (λ c. search needs)
     loop-again
     returns)

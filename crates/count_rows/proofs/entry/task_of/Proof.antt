@@ -14,24 +14,6 @@ use borrow.Author.Needs.{needs}
 use Rattle.count_rows.proofs.entry.task_of.Statement.{statement}
 use Rattle.count_rows.proofs.entry.task_of.Tie as tie
 
-field-requires : tie.Need-field-requires
-field-requires c κs = search needs
-
-field-requires-2 : tie.Need-field-requires-2
-field-requires-2 c κs = search needs
-
-field-requires-3 : tie.Need-field-requires-3
-field-requires-3 c κs = search needs
-
-long-requires : tie.Need-long-requires
-long-requires c κs = search needs
-
-field-requires-4 : tie.Need-field-requires-4
-field-requires-4 c κs = search needs
-
-offset-of-requires : tie.Need-offset-of-requires
-offset-of-requires c κs = search needs
-
 links-from-requires : tie.Need-links-from-requires
 links-from-requires c κs =
     let at-field2 = c .before .before .before .before in
@@ -48,9 +30,6 @@ links-from-requires c κs =
       ),
       g .fits .near,
     )
-
-sub-t10 : tie.Need-sub-t10
-sub-t10 c = search needs
 
 returns : tie.Need-returns
 returns c =
@@ -77,12 +56,12 @@ pub task-of-spec : {M : Type 1} → statement M
 task-of-spec =
     tie.close
     (tie.spec
-    field-requires
-    field-requires-2
-    field-requires-3
-    long-requires
-    field-requires-4
-    offset-of-requires
+    (λ c κs. search needs)
+    (λ c κs. search needs)
+    (λ c κs. search needs)
+    (λ c κs. search needs)
+    (λ c κs. search needs)
+    (λ c κs. search needs)
     links-from-requires
-    sub-t10
+    (λ c. search needs)
     returns)

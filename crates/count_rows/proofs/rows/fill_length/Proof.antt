@@ -42,12 +42,6 @@ fill-entry-requires c κs =
       p .2,
     )
 
-add-e : tie.Need-add-e Inv-loop μ-loop
-add-e c = search needs
-
-loop-less : tie.Need-loop-less Inv-loop μ-loop
-loop-less c = search needs
-
 loop-again : tie.Need-loop-again Inv-loop μ-loop
 loop-again c =
     let at-if2 = c .before .before .before .before in
@@ -63,12 +57,6 @@ loop-again c =
           (l .table) _
           (omega (arith, o .counted)) (start .pre .1) (sym (at-field .field .ensures) ∙ at-if2 .if2 .taken) (l .inv .2 o) filled,
     )
-
-add-e-2 : tie.Need-add-e-2 Inv-loop μ-loop
-add-e-2 c = search needs
-
-loop-less-2 : tie.Need-loop-less-2 Inv-loop μ-loop
-loop-less-2 c = search needs
 
 loop-again-2 : tie.Need-loop-again-2 Inv-loop μ-loop
 loop-again-2 c =
@@ -103,11 +91,11 @@ fill-length-spec =
     loop-holds
     field-requires
     fill-entry-requires
-    add-e
-    loop-less
+    (λ c. search needs)
+    (λ c. search needs)
     loop-again
-    add-e-2
-    loop-less-2
+    (λ c. search needs)
+    (λ c. search needs)
     loop-again-2
     same-length
     returns)

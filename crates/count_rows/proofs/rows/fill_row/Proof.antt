@@ -35,15 +35,6 @@ loop-holds c =
           (now (a .table)) (c .longest .result) top,
     )
 
-sub-k : tie.Need-sub-k Inv-loop μ-loop
-sub-k c = search needs
-
-fill-length-requires : tie.Need-fill-length-requires Inv-loop μ-loop
-fill-length-requires c κs = search needs
-
-loop-less : tie.Need-loop-less Inv-loop μ-loop
-loop-less c = search needs
-
 loop-again : tie.Need-loop-again Inv-loop μ-loop
 loop-again c =
     let at-loop = c .before .before .before .before .before in
@@ -63,9 +54,6 @@ loop-again c =
           (c .before .before .fill-length .ensures o)),
     )
 
-same-length : tie.Need-same-length Inv-loop μ-loop
-same-length c = search needs
-
 returns : tie.Need-returns Inv-loop μ-loop
 returns c =
     let start = c .before .before .before .before .before .before .before in
@@ -82,9 +70,9 @@ fill-row-spec =
     μ-loop
     longest-requires
     loop-holds
-    sub-k
-    fill-length-requires
-    loop-less
+    (λ c. search needs)
+    (λ c κs. search needs)
+    (λ c. search needs)
     loop-again
-    same-length
+    (λ c. search needs)
     returns)

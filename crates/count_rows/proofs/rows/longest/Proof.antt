@@ -6,9 +6,6 @@ use borrow.Author.Needs.{needs}
 use Rattle.count_rows.proofs.rows.longest.Statement.{statement}
 use Rattle.count_rows.proofs.rows.longest.Tie as tie
 
-add-result : tie.Need-add-result
-add-result c = search needs
-
 returns : tie.Need-returns
 returns c = record { reach = omega arith; all = inr (omega arith) }
 
@@ -16,4 +13,4 @@ returns-2 : tie.Need-returns-2
 returns-2 c = record { reach = omega arith; all = inl (omega arith) }
 
 pub longest-spec : {M : Type 1} → statement M
-longest-spec = tie.close (tie.spec add-result returns returns-2)
+longest-spec = tie.close (tie.spec (λ c. search needs) returns returns-2)

@@ -18,45 +18,15 @@ use borrow.Author.Needs.{needs}
 use Rattle.count_rows.proofs.run.counts.Statement.{statement}
 use Rattle.count_rows.proofs.run.counts.Tie as tie
 
-binomials-requires : tie.Need-binomials-requires
-binomials-requires c κs = search needs
-
-slice-aggregate-fill-sheet : tie.Need-slice-aggregate-fill-sheet
-slice-aggregate-fill-sheet c = search needs
-
 fill-sheet-requires : tie.Need-fill-sheet-requires
 fill-sheet-requires c κs =
     let start = c .before .before .before in
     let q = proper (schemeIn (start .args .s)) (start .pre .1 .scheme) in search needs
 
-slice-aggregate-places-of : tie.Need-slice-aggregate-places-of
-slice-aggregate-places-of c = search needs
-
 places-of-requires : tie.Need-places-of-requires
 places-of-requires c κs =
     let start = c .before .before .before .before .before .before in
     let q = proper (schemeIn (start .args .s)) (start .pre .1 .scheme) in search needs
-
-slice-aggregate-place-at : tie.Need-slice-aggregate-place-at
-slice-aggregate-place-at c = search needs
-
-place-at-requires : tie.Need-place-at-requires
-place-at-requires c κs = search needs
-
-slice-aggregate-place-at-2 : tie.Need-slice-aggregate-place-at-2
-slice-aggregate-place-at-2 c = search needs
-
-place-at-requires-2 : tie.Need-place-at-requires-2
-place-at-requires-2 c κs = search needs
-
-slice-aggregate-run : tie.Need-slice-aggregate-run
-slice-aggregate-run c = search needs
-
-slice-aggregate-run-2 : tie.Need-slice-aggregate-run-2
-slice-aggregate-run-2 c = search needs
-
-slice-aggregate-run-3 : tie.Need-slice-aggregate-run-3
-slice-aggregate-run-3 c = search needs
 
 run-requires : tie.Need-run-requires
 run-requires c κs =
@@ -99,9 +69,6 @@ clear-requires c κs =
     let len : length (at-run .run .last .0) ≡ length (now (a .table)) = search needs in
     omega (arith, width, width-sum (a .n) (a .s), p .3, len)
 
-same-length : tie.Need-same-length
-same-length c = search needs
-
 returns : tie.Need-returns
 returns c =
     let at-run = c .before .before .before .before .before .before in
@@ -131,20 +98,20 @@ pub counts-spec : {M : Type 1} → statement M
 counts-spec =
     tie.close
     (tie.spec
-    binomials-requires
-    slice-aggregate-fill-sheet
+    (λ c κs. search needs)
+    (λ c. search needs)
     fill-sheet-requires
-    slice-aggregate-places-of
+    (λ c. search needs)
     places-of-requires
-    slice-aggregate-place-at
-    place-at-requires
-    slice-aggregate-place-at-2
-    place-at-requires-2
-    slice-aggregate-run
-    slice-aggregate-run-2
-    slice-aggregate-run-3
+    (λ c. search needs)
+    (λ c κs. search needs)
+    (λ c. search needs)
+    (λ c κs. search needs)
+    (λ c. search needs)
+    (λ c. search needs)
+    (λ c. search needs)
     run-requires
     mul-clear
     clear-requires
-    same-length
+    (λ c. search needs)
     returns)

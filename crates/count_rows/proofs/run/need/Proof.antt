@@ -8,21 +8,6 @@ use borrow.Author.Needs.{needs}
 use Rattle.count_rows.proofs.run.need.Statement.{statement}
 use Rattle.count_rows.proofs.run.need.Tie as tie
 
-binomials-requires : tie.Need-binomials-requires
-binomials-requires c κs = search needs
-
-slice-aggregate-places-of : tie.Need-slice-aggregate-places-of
-slice-aggregate-places-of c = search needs
-
-places-of-requires : tie.Need-places-of-requires
-places-of-requires c κs = search needs
-
-slice-aggregate-place-at : tie.Need-slice-aggregate-place-at
-slice-aggregate-place-at c = search needs
-
-place-at-requires : tie.Need-place-at-requires
-place-at-requires c κs = search needs
-
 mul-result : tie.Need-mul-result
 mul-result c =
     let o = c .before .before .before .before .before in
@@ -46,10 +31,10 @@ pub need-spec : {M : Type 1} → statement M
 need-spec =
     tie.close
     (tie.spec
-    binomials-requires
-    slice-aggregate-places-of
-    places-of-requires
-    slice-aggregate-place-at
-    place-at-requires
+    (λ c κs. search needs)
+    (λ c. search needs)
+    (λ c κs. search needs)
+    (λ c. search needs)
+    (λ c κs. search needs)
     mul-result
     returns)

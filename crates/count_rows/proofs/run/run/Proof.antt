@@ -60,9 +60,6 @@ add-read c =
       o .outlook .root-near,
     )
 
-read-requires : tie.Need-read-requires Inv-loop μ-loop
-read-requires c κs = search needs
-
 mul-counts : tie.Need-mul-counts Inv-loop μ-loop
 mul-counts c =
     let start = c .before .before .before .before .before .before .before .before .before .before .before .before .before .before in
@@ -72,12 +69,6 @@ array-write-counts : tie.Need-array-write-counts Inv-loop μ-loop
 array-write-counts c =
     let start = c .before .before .before .before .before .before .before .before .before .before .before .before .before .before in
     omega (arith, start .pre .0 .outlook .small)
-
-add-j : tie.Need-add-j Inv-loop μ-loop
-add-j c = search needs
-
-loop-less : tie.Need-loop-less Inv-loop μ-loop
-loop-less c = search needs
 
 loop-again : tie.Need-loop-again Inv-loop μ-loop
 loop-again c =
@@ -103,9 +94,6 @@ loop-again c =
           (filled .ensures (run-row (now (a .sheet)) (now (a .places)) (a .f) o (l .j) (l .here) (l .before) low h b)) (c .read .ensures),
     )
 
-same-length : tie.Need-same-length Inv-loop μ-loop
-same-length c = search needs
-
 returns : tie.Need-returns Inv-loop μ-loop
 returns c =
     let start = c .before .before .before .before .before .before .before in
@@ -123,11 +111,11 @@ run-spec =
     loop-holds
     fill-row-requires
     add-read
-    read-requires
+    (λ c κs. search needs)
     mul-counts
     array-write-counts
-    add-j
-    loop-less
+    (λ c. search needs)
+    (λ c. search needs)
     loop-again
-    same-length
+    (λ c. search needs)
     returns)

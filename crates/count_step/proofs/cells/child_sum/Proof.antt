@@ -20,27 +20,12 @@ Inv-loop table k b links g above₀ below₀ z₀ sum₀ i₀ above below z sum 
 abbrev μ-loop : tie.MeasureT-loop
 μ-loop table k b links g above₀ below₀ z₀ sum₀ i₀ above below z sum i = k - i
 
-rank-without-requires : tie.Need-rank-without-requires Inv-loop μ-loop
-rank-without-requires c κs = search needs
-
 loop-holds : tie.Need-loop-holds Inv-loop μ-loop
 loop-holds c =
     let a = c .before .before .before .args in
     let seven : length (a .t3) ≡ COMPONENTS = (let o = c .before .before .before in search needs) in
     let s = length-take-le (a .k + 1) (a .t3) (omega arith) in
     sums-start LARGEST (now (a .table)) (a .t2) (take (a .k + 1) (a .t3)) (a .k) s (c .rank-without .result) (c .rank-without .ensures .0) (c .before .before .before .pre .1)
-
-array-read-wide : tie.Need-array-read-wide Inv-loop μ-loop
-array-read-wide c = search needs
-
-wide-requires : tie.Need-wide-requires Inv-loop μ-loop
-wide-requires c κs = search needs
-
-mul-part-sum : tie.Need-mul-part-sum Inv-loop μ-loop
-mul-part-sum c = search needs
-
-array-read-part-sum : tie.Need-array-read-part-sum Inv-loop μ-loop
-array-read-part-sum c = search needs
 
 add-part-sum : tie.Need-add-part-sum Inv-loop μ-loop
 add-part-sum c =
@@ -60,9 +45,6 @@ add-part-sum-2 c =
     let G = take (a .k + 1) (a .t3) in
     omega (arith, above-small LARGEST (now (a .table)) (a .t2) G (a .k) s (l .above) (l .below) (l .z) (l .sum) (l .i) (l .inv), l .inv .low, l .inv .reach, c .before .before .before .before .before .before .pre .2 (l .i))
 
-add-part-sum-3 : tie.Need-add-part-sum-3 Inv-loop μ-loop
-add-part-sum-3 c = search needs
-
 part-sum-requires : tie.Need-part-sum-requires Inv-loop μ-loop
 part-sum-requires c κs =
     let a = c .before .before .before .before .before .before .args in
@@ -76,9 +58,6 @@ part-sum-requires c κs =
       c .before .before .before .before .before .before .pre .3,
     )
 
-capped-sum-requires : tie.Need-capped-sum-requires Inv-loop μ-loop
-capped-sum-requires c κs = search needs
-
 add-z : tie.Need-add-z Inv-loop μ-loop
 add-z c =
     let a = c .before .before .before .before .before .before .before .before .args in
@@ -87,9 +66,6 @@ add-z c =
     let s = length-take-le (a .k + 1) (a .t3) (omega arith) in
     let G = take (a .k + 1) (a .t3) in
     omega (arith, component-small LARGEST (now (a .table)) (a .t2) G (a .k) s (l .above) (l .below) (l .z) (l .sum) (l .i) (l .inv) (c .before .before .wide .result) (c .before .before .wide .ensures ∙ sym (getD-take (a .k + 1) (a .t3) (l .i) 0 (omega (arith, l .inv .reach)))))
-
-add-choose : tie.Need-add-choose Inv-loop μ-loop
-add-choose c = search needs
 
 choose-requires : tie.Need-choose-requires Inv-loop μ-loop
 choose-requires c κs =
@@ -109,9 +85,6 @@ add-below c =
     let G = take (a .k + 1) (a .t3) in
     let cs = component-small LARGEST (now (a .table)) (a .t2) G (a .k) s (l .above) (l .below) (l .z) (l .sum) (l .i) (l .inv) (c .before .before .before .wide .result) (c .before .before .before .wide .ensures ∙ sym (getD-take (a .k + 1) (a .t3) (l .i) 0 (omega (arith, l .inv .reach)))) in
     omega (arith, l .inv .low, c .choose .ensures, binomial-small (l .z + c .before .before .before .wide .result) (l .i + 1) cs)
-
-add-choose-2 : tie.Need-add-choose-2 Inv-loop μ-loop
-add-choose-2 c = search needs
 
 choose-requires-2 : tie.Need-choose-requires-2 Inv-loop μ-loop
 choose-requires-2 c κs =
@@ -140,12 +113,6 @@ add-z-2 c =
     let G = take (a .k + 1) (a .t3) in
     omega (arith, component-small LARGEST (now (a .table)) (a .t2) G (a .k) s (l .above) (l .below) (l .z) (l .sum) (l .i) (l .inv) (c .before .before .before .before .wide .result) (c .before .before .before .before .wide .ensures ∙ sym (getD-take (a .k + 1) (a .t3) (l .i) 0 (omega (arith, l .inv .reach)))))
 
-add-i : tie.Need-add-i Inv-loop μ-loop
-add-i c = search needs
-
-loop-less : tie.Need-loop-less Inv-loop μ-loop
-loop-less c = search needs
-
 loop-again : tie.Need-loop-again Inv-loop μ-loop
 loop-again c =
     let a = c .before .before .before .before .before .before .before .before .before .before .args in
@@ -157,18 +124,6 @@ loop-again c =
     (c .before .before .before .part-sum .result) (c .before .before .capped-sum .result) (c .before .choose .result) (c .choose2 .result)
     (c .before .before .before .part-sum .ensures) (c .before .before .capped-sum .ensures) (c .before .choose .ensures) (c .choose2 .ensures)
 
-array-read-wide-2 : tie.Need-array-read-wide-2 Inv-loop μ-loop
-array-read-wide-2 c = search needs
-
-wide-requires-2 : tie.Need-wide-requires-2 Inv-loop μ-loop
-wide-requires-2 c κs = search needs
-
-mul-part-sum-2 : tie.Need-mul-part-sum-2 Inv-loop μ-loop
-mul-part-sum-2 c = search needs
-
-array-read-part-sum-2 : tie.Need-array-read-part-sum-2 Inv-loop μ-loop
-array-read-part-sum-2 c = search needs
-
 add-part-sum-4 : tie.Need-add-part-sum-4 Inv-loop μ-loop
 add-part-sum-4 c =
     let a = c .before .before .before .before .before .before .args in
@@ -177,9 +132,6 @@ add-part-sum-4 c =
     let s = length-take-le (a .k + 1) (a .t3) (omega arith) in
     let G = take (a .k + 1) (a .t3) in
     omega (arith, l .inv .low, l .inv .reach, c .before .before .before .before .before .before .pre .2 (a .k))
-
-add-part-sum-5 : tie.Need-add-part-sum-5 Inv-loop μ-loop
-add-part-sum-5 c = search needs
 
 part-sum-requires-2 : tie.Need-part-sum-requires-2 Inv-loop μ-loop
 part-sum-requires-2 c κs =
@@ -194,9 +146,6 @@ part-sum-requires-2 c κs =
       omega (arith, component-small LARGEST (now (a .table)) (a .t2) G (a .k) s (l .above) (l .below) (l .z) (l .sum) (l .i) (l .inv) (c .wide2 .result) (c .wide2 .ensures ∙ sym (getD-take (a .k + 1) (a .t3) (a .k) 0 (omega arith)) ∙ ap (λ j. getD G j 0) q)),
       c .before .before .before .before .before .before .pre .3,
     )
-
-capped-sum-requires-2 : tie.Need-capped-sum-requires-2 Inv-loop μ-loop
-capped-sum-requires-2 c κs = search needs
 
 returns : tie.Need-returns Inv-loop μ-loop
 returns c =
@@ -215,34 +164,34 @@ child-sum-spec =
     (tie.spec
     Inv-loop
     μ-loop
-    rank-without-requires
+    (λ c κs. search needs)
     loop-holds
-    array-read-wide
-    wide-requires
-    mul-part-sum
-    array-read-part-sum
+    (λ c. search needs)
+    (λ c κs. search needs)
+    (λ c. search needs)
+    (λ c. search needs)
     add-part-sum
     add-part-sum-2
-    add-part-sum-3
+    (λ c. search needs)
     part-sum-requires
-    capped-sum-requires
+    (λ c κs. search needs)
     add-z
-    add-choose
+    (λ c. search needs)
     choose-requires
     add-below
-    add-choose-2
+    (λ c. search needs)
     choose-requires-2
     sub-above
     add-z-2
-    add-i
-    loop-less
+    (λ c. search needs)
+    (λ c. search needs)
     loop-again
-    array-read-wide-2
-    wide-requires-2
-    mul-part-sum-2
-    array-read-part-sum-2
+    (λ c. search needs)
+    (λ c κs. search needs)
+    (λ c. search needs)
+    (λ c. search needs)
     add-part-sum-4
-    add-part-sum-5
+    (λ c. search needs)
     part-sum-requires-2
-    capped-sum-requires-2
+    (λ c κs. search needs)
     returns)

@@ -19,33 +19,15 @@ Inv-loop table at col first n b end sum₀ z₀ sum z = (end ≤ COUNTS) × Part
 abbrev μ-loop : tie.MeasureT-loop
 μ-loop table at col first n b end sum₀ z₀ sum z = end - z
 
-add-end : tie.Need-add-end Inv-loop μ-loop
-add-end c = search needs
-
 loop-holds : tie.Need-loop-holds Inv-loop μ-loop
 loop-holds c =
     let a = c .before .before .args in
     (omega arith, part-start LARGEST (now (a .table)) (a .at) (a .col) (a .first) (a .n))
 
-choose-requires : tie.Need-choose-requires Inv-loop μ-loop
-choose-requires c κs = search needs
-
 add-read : tie.Need-add-read Inv-loop μ-loop
 add-read c =
     let l = c .before .before .loop in
     omega (arith, c .choose .ensures, binomial-small (l .z) (c .before .before .before .before .before .args .col) (omega arith))
-
-read-requires : tie.Need-read-requires Inv-loop μ-loop
-read-requires c κs = search needs
-
-capped-sum-requires : tie.Need-capped-sum-requires Inv-loop μ-loop
-capped-sum-requires c κs = search needs
-
-add-z : tie.Need-add-z Inv-loop μ-loop
-add-z c = search needs
-
-loop-less : tie.Need-loop-less Inv-loop μ-loop
-loop-less c = search needs
 
 loop-again : tie.Need-loop-again Inv-loop μ-loop
 loop-again c =
@@ -69,13 +51,13 @@ part-sum-spec =
     (tie.spec
     Inv-loop
     μ-loop
-    add-end
+    (λ c. search needs)
     loop-holds
-    choose-requires
+    (λ c κs. search needs)
     add-read
-    read-requires
-    capped-sum-requires
-    add-z
-    loop-less
+    (λ c κs. search needs)
+    (λ c κs. search needs)
+    (λ c. search needs)
+    (λ c. search needs)
     loop-again
     returns)

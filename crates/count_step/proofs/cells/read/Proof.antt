@@ -14,14 +14,5 @@ returns c =
     let h : length (now (c .before .args .table)) ≤ c .before .args .i = omega arith in
     sym (List·getD-eq-default (now (c .before .args .table)) 0 h)
 
-mul-result : tie.Need-mul-result
-mul-result c = search needs
-
-shared-slice-read-result : tie.Need-shared-slice-read-result
-shared-slice-read-result c = search needs
-
-returns-2 : tie.Need-returns-2
-returns-2 c = search needs
-
 pub read-spec : {M : Type 1} → statement M
-read-spec = tie.close (tie.spec returns mul-result shared-slice-read-result returns-2)
+read-spec = tie.close (tie.spec returns (λ c. search needs) (λ c. search needs) (λ c. search needs))

@@ -14,9 +14,6 @@ use borrow.Author.Needs.{needs}
 use Rattle.count_step.proofs.cells.value_at.Statement.{statement}
 use Rattle.count_step.proofs.cells.value_at.Tie as tie
 
-is-free-requires : tie.Need-is-free-requires
-is-free-requires c κs = search needs
-
 returns : tie.Need-returns
 returns c =
     let a = c .before .before .before .before .before .args in
@@ -25,18 +22,9 @@ returns c =
     let B = gapsOf (now (a .gaps)) (t .length + 1) (t .«gap_count») in
     sym (step-covered (now (a .table)) B (t .deleted) (t .alone) (t .links) G (sym (c .before .is-free .ensures) ∙ not-true (c .before .is-free .result) (c .if1 .taken)))
 
-rank-without-requires : tie.Need-rank-without-requires
-rank-without-requires c κs = search needs
-
-array-read-read : tie.Need-array-read-read
-array-read-read c = search needs
-
 add-read : tie.Need-add-read
 add-read c =
     omega (arith, c .rank-without .ensures .1, c .before .before .before .before .before .before .before .before .before .pre .0 .near 0)
-
-read-requires : tie.Need-read-requires
-read-requires c κs = search needs
 
 returns-2 : tie.Need-returns-2
 returns-2 c =
@@ -56,9 +44,6 @@ returns-3 c =
     let fr : free B G ≡ true = sym (c .before .before .before .before .before .before .is-free .ensures) ∙ not-false (c .before .before .before .before .before .before .is-free .result) (c .before .before .before .before .before .if1 .left) in
     step-alone (now (a .table)) B (t .deleted) (t .alone) (t .links) G fr (c .before .before .if2 .left) (c .before .before .before .before .before .before .before .before .before .before .pre .2 ∙ c .if3 .taken)
 
-child-sum-requires : tie.Need-child-sum-requires
-child-sum-requires c κs = search needs
-
 returns-4 : tie.Need-returns-4
 returns-4 c =
     let a = c .before .before .before .before .before .before .before .before .before .before .before .args in
@@ -72,13 +57,13 @@ pub value-at-spec : {M : Type 1} → statement M
 value-at-spec =
     tie.close
     (tie.spec
-    is-free-requires
+    (λ c κs. search needs)
     returns
-    rank-without-requires
-    array-read-read
+    (λ c κs. search needs)
+    (λ c. search needs)
     add-read
-    read-requires
+    (λ c κs. search needs)
     returns-2
     returns-3
-    child-sum-requires
+    (λ c κs. search needs)
     returns-4)

@@ -20,12 +20,6 @@ Inv-loop table₀ at size task gaps b k g₀ p₀ table g p =
 abbrev μ-loop : tie.MeasureT-loop
 μ-loop table₀ at size task gaps b k g₀ p₀ table g p = size - p
 
-narrow-requires : tie.Need-narrow-requires Inv-loop μ-loop
-narrow-requires c κs = search needs
-
-first-spacing-requires : tie.Need-first-spacing-requires Inv-loop μ-loop
-first-spacing-requires c κs = search needs
-
 loop-holds : tie.Need-loop-holds Inv-loop μ-loop
 loop-holds c =
     let a = c .before .before .before .before .before .args in
@@ -39,18 +33,6 @@ add-fill-one c =
     let t = a .task in
     omega (arith, c .before .before .before .before .before .before .before .before .pre .2, c .before .before .before .before .before .before .before .before .pre .3, binomial-small (t .length + t .total) (t .length) (c .before .before .before .before .before .before .before .before .pre .0 .sum), c .before .before .loop .inv .reach)
 
-fill-one-requires : tie.Need-fill-one-requires Inv-loop μ-loop
-fill-one-requires c κs = search needs
-
-next-cell-requires : tie.Need-next-cell-requires Inv-loop μ-loop
-next-cell-requires c κs = search needs
-
-add-p : tie.Need-add-p Inv-loop μ-loop
-add-p c = search needs
-
-loop-less : tie.Need-loop-less Inv-loop μ-loop
-loop-less c = search needs
-
 loop-again : tie.Need-loop-again Inv-loop μ-loop
 loop-again c =
     let a = c .before .before .before .before .before .before .before .before .before .before .before .before .args in
@@ -59,9 +41,6 @@ loop-again c =
     filling-more (taskStep t (now (a .gaps))) (t .length) (t .total) (a .at) (a .size) (c .before .before .before .before .before .before .before .before .before .before .before .before .pre .2) (now (a .table)) (l .p) (l .table)
     (spacingIn (t .length) (l .g)) (l .inv) (omega arith) (c .before .before .before .fill-one .last .0) (spacingIn (t .length) (c .next-cell .result))
     (c .before .before .before .fill-one .ensures) (c .next-cell .ensures)
-
-same-length : tie.Need-same-length Inv-loop μ-loop
-same-length c = search needs
 
 returns : tie.Need-returns Inv-loop μ-loop
 returns c =
@@ -77,14 +56,14 @@ fill-cells-spec =
     (tie.spec
     Inv-loop
     μ-loop
-    narrow-requires
-    first-spacing-requires
+    (λ c κs. search needs)
+    (λ c κs. search needs)
     loop-holds
     add-fill-one
-    fill-one-requires
-    next-cell-requires
-    add-p
-    loop-less
+    (λ c κs. search needs)
+    (λ c κs. search needs)
+    (λ c. search needs)
+    (λ c. search needs)
     loop-again
-    same-length
+    (λ c. search needs)
     returns)

@@ -10,9 +10,6 @@ use Rattle.counting.proofs.answer.count_or.Tie as tie
 enum-told : tie.Need-enum-told
 enum-told c = search needs
 
-enum-known-fault : tie.Need-enum-known-fault
-enum-known-fault c = search needs
-
 returns : tie.Need-returns
 returns c = let a = c .before .before .args in sym (ap (λ (f : Fault). countedOr f (a .count)) (c .enum-told .given .1))
 
@@ -20,4 +17,4 @@ returns-2 : tie.Need-returns-2
 returns-2 c = let a = c .before .before .before .args in sym (ap (λ (f : Fault). countedOr f (a .count)) (c .before .fault .given .1))
 
 pub count-or-spec : {M : Type 1} → statement M
-count-or-spec = tie.close (tie.spec enum-told enum-known-fault returns returns-2)
+count-or-spec = tie.close (tie.spec enum-told (λ c. search needs) returns returns-2)

@@ -6,17 +6,8 @@ use borrow.Author.Needs.{needs}
 use Rattle.counting.proofs.answer.fault_of.Statement.{statement}
 use Rattle.counting.proofs.answer.fault_of.Tie as tie
 
-enum-told : tie.Need-enum-told
-enum-told c = search needs
-
-enum-known-verdict : tie.Need-enum-known-verdict
-enum-known-verdict c = search needs
-
-returns : tie.Need-returns
-returns c = search needs
-
 returns-2 : tie.Need-returns-2
 returns-2 c = sym (ap faultIn (c .before .verdict .given .1))
 
 pub fault-of-spec : {M : Type 1} → statement M
-fault-of-spec = tie.close (tie.spec enum-told enum-known-verdict returns returns-2)
+fault-of-spec = tie.close (tie.spec (λ c. search needs) (λ c. search needs) (λ c. search needs) returns-2)

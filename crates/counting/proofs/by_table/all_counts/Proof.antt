@@ -8,12 +8,6 @@ use borrow.Author.Needs.{needs}
 use Rattle.counting.proofs.by_table.all_counts.Statement.{statement}
 use Rattle.counting.proofs.by_table.all_counts.Tie as tie
 
-rows-of-requires : tie.Need-rows-of-requires
-rows-of-requires c κs = search needs
-
-lengths-of-requires : tie.Need-lengths-of-requires
-lengths-of-requires c κs = search needs
-
 counts-requires : tie.Need-counts-requires
 counts-requires c κs =
     let a = c .before .before .before .before .args in
@@ -24,9 +18,6 @@ counts-requires c κs =
     let hk : length (k .result) ≡ PATTERNS = search needs in
     let holds = set-holds (a .patterns) (q .1 .patterns) (r .result) (k .result) hr hk (r .ensures) (k .ensures) in
     (q .0, rw holds (q .1), rw holds (q .2), q .3)
-
-same-length : tie.Need-same-length
-same-length c = search needs
 
 returns : tie.Need-returns
 returns c =
@@ -42,4 +33,4 @@ returns c =
 
 pub all-counts-spec : {M : Type 1} → statement M
 all-counts-spec =
-    tie.close (tie.spec rows-of-requires lengths-of-requires counts-requires same-length returns)
+    tie.close (tie.spec (λ c κs. search needs) (λ c κs. search needs) counts-requires (λ c. search needs) returns)

@@ -12,18 +12,6 @@ use borrow.Author.Needs.{needs}
 use Rattle.counting.proofs.by_table.count.Statement.{statement}
 use Rattle.counting.proofs.by_table.count.Tie as tie
 
-judge-requires : tie.Need-judge-requires
-judge-requires c κs = search needs
-
-fault-of-requires : tie.Need-fault-of-requires
-fault-of-requires c κs = search needs
-
-is-fault-requires : tie.Need-is-fault-requires
-is-fault-requires c κs = search needs
-
-count-or-requires : tie.Need-count-or-requires
-count-or-requires c κs = search needs
-
 returns : tie.Need-returns
 returns c =
     let a = c .before .before .before .before .before .before .args in
@@ -41,12 +29,6 @@ table-fault-requires c κs =
     let none = not-faulty (f .result) (sym (c .before .is-fault .ensures) ∙ c .if1 .left) in
     proper (schemeIn (c .before .before .before .before .args .scheme))
     (j .ensures .exactly .0 (clean-accepts (j .result) (sym (f .ensures) ∙ none)) .0 .scheme)
-
-is-fault-requires-2 : tie.Need-is-fault-requires-2
-is-fault-requires-2 c κs = search needs
-
-count-or-requires-2 : tie.Need-count-or-requires-2
-count-or-requires-2 c κs = search needs
 
 returns-2 : tie.Need-returns-2
 returns-2 c =
@@ -100,12 +82,6 @@ array-read-count-or c =
     (sym (c .before .before .before .before .before .is-fault2 .ensures) ∙ c .before .before .before .before .if2 .left) in
     omega (arith, good .0)
 
-count-or-requires-3 : tie.Need-count-or-requires-3
-count-or-requires-3 c κs = search needs
-
-same-length : tie.Need-same-length
-same-length c = search needs
-
 returns-3 : tie.Need-returns-3
 returns-3 c =
     let a = c .before .before .before .before .before .before .before .before .before .before .before .before .before .args in
@@ -125,18 +101,18 @@ pub count-spec : {M : Type 1} → statement M
 count-spec =
     tie.close
     (tie.spec
-    judge-requires
-    fault-of-requires
-    is-fault-requires
-    count-or-requires
+    (λ c κs. search needs)
+    (λ c κs. search needs)
+    (λ c κs. search needs)
+    (λ c κs. search needs)
     returns
     table-fault-requires
-    is-fault-requires-2
-    count-or-requires-2
+    (λ c κs. search needs)
+    (λ c κs. search needs)
     returns-2
     all-counts-requires
     mul-count-or
     array-read-count-or
-    count-or-requires-3
-    same-length
+    (λ c κs. search needs)
+    (λ c. search needs)
     returns-3)

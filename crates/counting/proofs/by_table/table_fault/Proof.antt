@@ -13,9 +13,6 @@ returns c =
     let a = c .before .args in
     sym (length-refused (schemeIn (a .scheme)) (a .n) (a .cells) (omega arith))
 
-need-requires : tie.Need-need-requires
-need-requires c κs = search needs
-
 returns-2 : tie.Need-returns-2
 returns-2 c =
     let a = c .before .before .before .args in
@@ -27,4 +24,4 @@ returns-3 c =
     sym (table-serves (schemeIn (a .scheme)) (a .n) (a .cells) (omega arith) (omega (arith, c .before .need .ensures)))
 
 pub table-fault-spec : {M : Type 1} → statement M
-table-fault-spec = tie.close (tie.spec returns need-requires returns-2 returns-3)
+table-fault-spec = tie.close (tie.spec returns (λ c κs. search needs) returns-2 returns-3)

@@ -8,18 +8,6 @@ use borrow.Author.Needs.{needs}
 use Rattle.counting.proofs.plainly.count_plainly.Statement.{statement}
 use Rattle.counting.proofs.plainly.count_plainly.Tie as tie
 
-judge-requires : tie.Need-judge-requires
-judge-requires c κs = search needs
-
-fault-of-requires : tie.Need-fault-of-requires
-fault-of-requires c κs = search needs
-
-is-fault-requires : tie.Need-is-fault-requires
-is-fault-requires c κs = search needs
-
-count-or-requires : tie.Need-count-or-requires
-count-or-requires c κs = search needs
-
 returns : tie.Need-returns
 returns c =
     let a = c .before .before .before .before .before .args in
@@ -29,15 +17,6 @@ returns c =
     let f = c .before .before .before .fault-of in
     let is = f .ensures ∙ verdict-fault P E (j .result) (j .ensures .verdict) in
     plain-refused P E (a .n) (f .result) is (sym (c .before .before .is-fault .ensures) ∙ c .before .if1 .taken) (c .count-or .result) (c .count-or .ensures)
-
-length-fault-requires : tie.Need-length-fault-requires
-length-fault-requires c κs = search needs
-
-is-fault-requires-2 : tie.Need-is-fault-requires-2
-is-fault-requires-2 c κs = search needs
-
-count-or-requires-2 : tie.Need-count-or-requires-2
-count-or-requires-2 c κs = search needs
 
 returns-2 : tie.Need-returns-2
 returns-2 c =
@@ -61,9 +40,6 @@ evaluated-requires c κs =
     let so = j .ensures .exactly .0 (clean-accepts (j .result) (sym (f .ensures) ∙ not-faulty (f .result) clean)) in
     (length-good (a .n) (sym (g .ensures) ∙ not-faulty (g .result) (sym (c .before .is-fault2 .ensures) ∙ c .if2 .left)), so .0, so .1)
 
-count-or-requires-3 : tie.Need-count-or-requires-3
-count-or-requires-3 c κs = search needs
-
 returns-3 : tie.Need-returns-3
 returns-3 c =
     let a = c .before .before .before .before .before .before .before .before .before .args in
@@ -80,15 +56,15 @@ pub count-plainly-spec : {M : Type 1} → statement M
 count-plainly-spec =
     tie.close
     (tie.spec
-    judge-requires
-    fault-of-requires
-    is-fault-requires
-    count-or-requires
+    (λ c κs. search needs)
+    (λ c κs. search needs)
+    (λ c κs. search needs)
+    (λ c κs. search needs)
     returns
-    length-fault-requires
-    is-fault-requires-2
-    count-or-requires-2
+    (λ c κs. search needs)
+    (λ c κs. search needs)
+    (λ c κs. search needs)
     returns-2
     evaluated-requires
-    count-or-requires-3
+    (λ c κs. search needs)
     returns-3)

@@ -12,12 +12,6 @@ use borrow.Author.Needs.{needs}
 use Rattle.counting.proofs.plainly.evaluated.Statement.{statement}
 use Rattle.counting.proofs.plainly.evaluated.Tie as tie
 
-rows-of-requires : tie.Need-rows-of-requires
-rows-of-requires c κs = search needs
-
-lengths-of-requires : tie.Need-lengths-of-requires
-lengths-of-requires c κs = search needs
-
 plain-count-requires : tie.Need-plain-count-requires
 plain-count-requires c κs =
     let a = c .before .before .args in
@@ -42,4 +36,4 @@ returns c =
 
 pub evaluated-spec : {M : Type 1} → statement M
 evaluated-spec =
-    tie.close (tie.spec rows-of-requires lengths-of-requires plain-count-requires returns)
+    tie.close (tie.spec (λ c κs. search needs) (λ c κs. search needs) plain-count-requires returns)

@@ -23,9 +23,6 @@ loop-holds c =
     let few : a .length ≤ PREFIX = search needs in
     (few, coding-start (a .length) (a .t1) (omega arith))
 
-sub-j : tie.Need-sub-j Inv-loop μ-loop
-sub-j c = search needs
-
 mul-code : tie.Need-mul-code Inv-loop μ-loop
 mul-code c =
     let at = c .before in
@@ -34,16 +31,10 @@ mul-code c =
 array-read-long : tie.Need-array-read-long Inv-loop μ-loop
 array-read-long c = omega (arith, c .before .loop .inv .0, c .before .loop .inv .1 .inside)
 
-long-requires : tie.Need-long-requires Inv-loop μ-loop
-long-requires c κs = search needs
-
 add-code : tie.Need-add-code Inv-loop μ-loop
 add-code c =
     let at = c .before .before in
     omega (arith, c .long .ensures, coding-fits (at .before .args .length) (at .before .args .t1) (at .loop .j) (at .loop .code) (at .loop .inv .1) (at .loop .inv .0) (search needs))
-
-loop-less : tie.Need-loop-less Inv-loop μ-loop
-loop-less c = search needs
 
 loop-again : tie.Need-loop-again Inv-loop μ-loop
 loop-again c =
@@ -69,11 +60,11 @@ code-of-spec =
     Inv-loop
     μ-loop
     loop-holds
-    sub-j
+    (λ c. search needs)
     mul-code
     array-read-long
-    long-requires
+    (λ c κs. search needs)
     add-code
-    loop-less
+    (λ c. search needs)
     loop-again
     returns)

@@ -1,5 +1,5 @@
--- `forms::gaps::gap_at` meets its contract: the components so far are the first of those at the index.
--- Assumes nothing.
+-- `forms::gaps::gap_at` meets its contract: the components so far are the first of those at the
+-- index. Assumes nothing.
 use Prim.Native.Nat.{ℕ, _+_, _*_, _-_, _≤_, _<_}
 use mathlib.Core.Path.{_≡_, refl, ap₂, _∙_}
 use mathlib.Core.List.{List}
@@ -18,32 +18,8 @@ Inv-loop j gaps width from parts₀ i₀ parts i =
 abbrev μ-loop : tie.MeasureT-loop
 μ-loop j gaps width from parts₀ i₀ parts i = COMPONENTS - i
 
-array-read-wide : tie.Need-array-read-wide Inv-loop μ-loop
-array-read-wide c = search needs
-
-wide-requires : tie.Need-wide-requires Inv-loop μ-loop
-wide-requires c κs = search needs
-
-mul-from : tie.Need-mul-from Inv-loop μ-loop
-mul-from c = search needs
-
 loop-holds : tie.Need-loop-holds Inv-loop μ-loop
 loop-holds c = (omega arith, refl, refl)
-
-add-parts : tie.Need-add-parts Inv-loop μ-loop
-add-parts c = search needs
-
-array-read-parts : tie.Need-array-read-parts Inv-loop μ-loop
-array-read-parts c = search needs
-
-array-write-parts : tie.Need-array-write-parts Inv-loop μ-loop
-array-write-parts c = search needs
-
-add-i : tie.Need-add-i Inv-loop μ-loop
-add-i c = search needs
-
-loop-less : tie.Need-loop-less Inv-loop μ-loop
-loop-less c = search needs
 
 loop-again : tie.Need-loop-again Inv-loop μ-loop
 loop-again c =
@@ -70,14 +46,14 @@ gap-at-spec =
     (tie.spec
     Inv-loop
     μ-loop
-    array-read-wide
-    wide-requires
-    mul-from
+    (λ c. search needs)
+    (λ c κs. search needs)
+    (λ c. search needs)
     loop-holds
-    add-parts
-    array-read-parts
-    array-write-parts
-    add-i
-    loop-less
+    (λ c. search needs)
+    (λ c. search needs)
+    (λ c. search needs)
+    (λ c. search needs)
+    (λ c. search needs)
     loop-again
     returns)

@@ -17,26 +17,8 @@ Inv-loop j parts start stored₀ i₀ stored i = (i ≤ COMPONENTS) × (stored �
 abbrev μ-loop : tie.MeasureT-loop
 μ-loop j parts start stored₀ i₀ stored i = COMPONENTS - i
 
-mul-start : tie.Need-mul-start Inv-loop μ-loop
-mul-start c = search needs
-
 loop-holds : tie.Need-loop-holds Inv-loop μ-loop
 loop-holds c = (omega arith, refl)
-
-array-read-stored : tie.Need-array-read-stored Inv-loop μ-loop
-array-read-stored c = search needs
-
-add-stored : tie.Need-add-stored Inv-loop μ-loop
-add-stored c = search needs
-
-array-write-stored : tie.Need-array-write-stored Inv-loop μ-loop
-array-write-stored c = search needs
-
-add-i : tie.Need-add-i Inv-loop μ-loop
-add-i c = search needs
-
-loop-less : tie.Need-loop-less Inv-loop μ-loop
-loop-less c = search needs
 
 loop-again : tie.Need-loop-again Inv-loop μ-loop
 loop-again c =
@@ -60,12 +42,12 @@ with-gap-spec =
     (tie.spec
     Inv-loop
     μ-loop
-    mul-start
+    (λ c. search needs)
     loop-holds
-    array-read-stored
-    add-stored
-    array-write-stored
-    add-i
-    loop-less
+    (λ c. search needs)
+    (λ c. search needs)
+    (λ c. search needs)
+    (λ c. search needs)
+    (λ c. search needs)
     loop-again
     returns)

@@ -8,8 +8,5 @@ use Rattle.forms.proofs.order.fault_if.Tie as tie
 returns : tie.Need-returns
 returns c = rw (c .if1 .taken) refl
 
-returns-2 : tie.Need-returns-2
-returns-2 c = search needs
-
 pub fault-if-spec : {M : Type 1} → statement M
-fault-if-spec = tie.close (tie.spec returns returns-2)
+fault-if-spec = tie.close (tie.spec returns (λ c. search needs))

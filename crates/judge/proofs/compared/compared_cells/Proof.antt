@@ -1,5 +1,5 @@
--- `judge::compared::compared_cells` meets its contract: what is added up, and the entries from the index on, are the whole.
--- Assumes nothing.
+-- `judge::compared::compared_cells` meets its contract: what is added up, and the entries from the
+-- index on, are the whole. Assumes nothing.
 use borrow.Author.Needs.{needs}
 use Prim.Native.Nat.{ℕ, _+_, _-_, _*_, _≤_}
 use mathlib.Core.Path.{_≡_, sym, ap, _∙_}
@@ -26,12 +26,6 @@ loop-holds c =
     let a = c .args in
     (proper-count (a .t2) (c .pre .1), omega arith, omega arith, λ P h. cells-start P (a .t2))
 
-mul-e : tie.Need-mul-e Inv-loop μ-loop
-mul-e c = search needs
-
-element-copy-out-e : tie.Need-element-copy-out-e Inv-loop μ-loop
-element-copy-out-e c = search needs
-
 compared-with-requires : tie.Need-compared-with-requires Inv-loop μ-loop
 compared-with-requires c κs =
     let l = c .before .before .loop in
@@ -45,12 +39,6 @@ add-sum c =
     let low = l .inv .2 in
     let few = l .inv .0 in
     let under = l .inv .1 in search needs
-
-add-i : tie.Need-add-i Inv-loop μ-loop
-add-i c = search needs
-
-loop-less : tie.Need-loop-less Inv-loop μ-loop
-loop-less c = search needs
 
 loop-again : tie.Need-loop-again Inv-loop μ-loop
 loop-again c =
@@ -76,11 +64,11 @@ compared-cells-spec =
     Inv-loop
     μ-loop
     loop-holds
-    mul-e
-    element-copy-out-e
+    (λ c. search needs)
+    (λ c. search needs)
     compared-with-requires
     add-sum
-    add-i
-    loop-less
+    (λ c. search needs)
+    (λ c. search needs)
     loop-again
     returns)

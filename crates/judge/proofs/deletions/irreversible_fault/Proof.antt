@@ -1,5 +1,5 @@
--- `judge::deletions::irreversible_fault` meets its contract: the first entry at fault is the first one from the index on.
--- Assumes nothing.
+-- `judge::deletions::irreversible_fault` meets its contract: the first entry at fault is the first
+-- one from the index on. Assumes nothing.
 use borrow.Author.Needs.{needs}
 use Prim.Native.Nat.{_-_, _≤_}
 use mathlib.Core.Path.{_≡_, sym, ap, _∙_}
@@ -22,20 +22,11 @@ Inv-loop set lengths count s m n i₀ i = (n ≤ ENTRIES) × (i ≤ n) × (first
 abbrev μ-loop : tie.MeasureT-loop
 μ-loop set lengths count s m n i₀ i = n - i
 
-longest-length-requires : tie.Need-longest-length-requires Inv-loop μ-loop
-longest-length-requires c κs = search needs
-
 loop-holds : tie.Need-loop-holds Inv-loop μ-loop
 loop-holds c =
     let a = c .before .args in
     let P = patternsOf (a .set) (a .lengths) (a .count) in
     (proper-count (a .t4) (c .before .pre .1), omega arith, first-start Irreversible (differingEntry P) (entryAt (a .t4)) (a .t4 .count))
-
-mul-e : tie.Need-mul-e Inv-loop μ-loop
-mul-e c = search needs
-
-element-copy-out-e : tie.Need-element-copy-out-e Inv-loop μ-loop
-element-copy-out-e c = search needs
 
 is-irreversible-requires : tie.Need-is-irreversible-requires Inv-loop μ-loop
 is-irreversible-requires c κs =
@@ -50,12 +41,6 @@ returns c =
     let l = c .before .before .before .before .loop in
     let P = patternsOf (a .set) (a .lengths) (a .count) in
     sym (ap faultOf (l .inv .2 ∙ first-here Irreversible (differingEntry P) (entryAt (a .t4)) (a .t4 .count) (l .i) (omega arith) (sym (c .before .is-irreversible .ensures) ∙ c .if1 .taken)))
-
-add-i : tie.Need-add-i Inv-loop μ-loop
-add-i c = search needs
-
-loop-less : tie.Need-loop-less Inv-loop μ-loop
-loop-less c = search needs
 
 loop-again : tie.Need-loop-again Inv-loop μ-loop
 loop-again c =
@@ -77,13 +62,13 @@ irreversible-fault-spec =
     (tie.spec
     Inv-loop
     μ-loop
-    longest-length-requires
+    (λ c κs. search needs)
     loop-holds
-    mul-e
-    element-copy-out-e
+    (λ c. search needs)
+    (λ c. search needs)
     is-irreversible-requires
     returns
-    add-i
-    loop-less
+    (λ c. search needs)
+    (λ c. search needs)
     loop-again
     returns-2)

@@ -6,15 +6,6 @@ use borrow.Author.Needs.{needs}
 use Rattle.judge.proofs.judging.formed_fault.Statement.{statement}
 use Rattle.judge.proofs.judging.formed_fault.Tie as tie
 
-patterns-fault-requires : tie.Need-patterns-fault-requires
-patterns-fault-requires c κs = search needs
-
-scheme-fault-requires : tie.Need-scheme-fault-requires
-scheme-fault-requires c κs = search needs
-
-earlier-requires : tie.Need-earlier-requires
-earlier-requires c κs = search needs
-
 returns : tie.Need-returns
 returns c =
     let f = c .before .before .patterns-fault in
@@ -23,4 +14,4 @@ returns c =
 
 pub formed-fault-spec : {M : Type 1} → statement M
 formed-fault-spec =
-    tie.close (tie.spec patterns-fault-requires scheme-fault-requires earlier-requires returns)
+    tie.close (tie.spec (λ c κs. search needs) (λ c κs. search needs) (λ c κs. search needs) returns)

@@ -8,15 +8,6 @@ use borrow.Author.Needs.{needs}
 use Rattle.judge.proofs.judging.judge.Statement.{statement}
 use Rattle.judge.proofs.judging.judge.Tie as tie
 
-formed-fault-requires : tie.Need-formed-fault-requires
-formed-fault-requires c κs = search needs
-
-is-fault-requires : tie.Need-is-fault-requires
-is-fault-requires c κs = search needs
-
-answer-requires : tie.Need-answer-requires
-answer-requires c κs = search needs
-
 returns : tie.Need-returns
 returns c =
     let a = c .before .before .before .before .args in
@@ -45,9 +36,9 @@ pub judge-spec : {M : Type 1} → statement M
 judge-spec =
     tie.close
     (tie.spec
-    formed-fault-requires
-    is-fault-requires
-    answer-requires
+    (λ c κs. search needs)
+    (λ c κs. search needs)
+    (λ c κs. search needs)
     returns
     judge-claims-requires
     returns-2)

@@ -92,29 +92,11 @@ refused c f r h first e =
     e ∙ refused-answer f 0 (comparedCells P E) h ∙
     ap (λ (x : Fault). answered x (comparedCells P E)) (first ∙ ap (λ (Q : List (List ℕ)). faultOf (firstFault (claimTests Q E))) (holds c))
 
-rows-of-requires : tie.Need-rows-of-requires
-rows-of-requires c κs = search needs
-
-lengths-of-requires : tie.Need-lengths-of-requires
-lengths-of-requires c κs = search needs
-
 basis-of-requires : tie.Need-basis-of-requires
 basis-of-requires c κs = (proper-set (c .before .before .args .patterns) (c .before .before .pre .patterns) (c .before .rows-of .result) (c .lengths-of .result) (search needs) (search needs) (c .before .rows-of .ensures) (c .lengths-of .ensures)) .few
 
-rows-of-requires-2 : tie.Need-rows-of-requires-2
-rows-of-requires-2 c κs = search needs
-
-lengths-of-requires-2 : tie.Need-lengths-of-requires-2
-lengths-of-requires-2 c κs = search needs
-
 live-fault-requires : tie.Need-live-fault-requires
 live-fault-requires c κs = proper-scheme (schemeIn (c .before .before .before .before .before .args .scheme)) (c .before .before .before .before .before .pre .scheme)
-
-is-fault-requires : tie.Need-is-fault-requires
-is-fault-requires c κs = search needs
-
-answer-requires : tie.Need-answer-requires
-answer-requires c κs = search needs
 
 returns : tie.Need-returns
 returns c =
@@ -128,12 +110,6 @@ irreversible-fault-requires c κs =
     let at-sets = c .before .before .before in
     (small-proper at-sets, proper-scheme (schemeIn (at-sets .before .before .before .before .before .args .scheme)) (at-sets .before .before .before .before .before .pre .scheme))
 
-is-fault-requires-2 : tie.Need-is-fault-requires-2
-is-fault-requires-2 c κs = search needs
-
-answer-requires-2 : tie.Need-answer-requires-2
-answer-requires-2 c κs = search needs
-
 returns-2 : tie.Need-returns-2
 returns-2 c =
     let at-lost = c .before .before .before in
@@ -143,16 +119,10 @@ returns-2 c =
     let h = sym (c .before .before .is-fault2 .ensures) ∙ c .before .if2 .taken in
     refused (at-live .before) (f .result) (c .answer2 .result) h (lost-first at-live (f .result) (f .ensures) clean) (c .answer2 .ensures)
 
-longest-length-requires : tie.Need-longest-length-requires
-longest-length-requires c κs = search needs
-
 compared-cells-requires : tie.Need-compared-cells-requires
 compared-cells-requires c κs =
     let start = c .before .before .before .before .before .before .before .before .before .before .before .before in
     (c .longest-length .ensures .1, proper-scheme (schemeIn (start .args .scheme)) (start .pre .scheme))
-
-answer-requires-3 : tie.Need-answer-requires-3
-answer-requires-3 c κs = search needs
 
 returns-3 : tie.Need-returns-3
 returns-3 c =
@@ -171,20 +141,20 @@ pub judge-claims-spec : {M : Type 1} → statement M
 judge-claims-spec =
     tie.close
     (tie.spec
-    rows-of-requires
-    lengths-of-requires
+    (λ c κs. search needs)
+    (λ c κs. search needs)
     basis-of-requires
-    rows-of-requires-2
-    lengths-of-requires-2
+    (λ c κs. search needs)
+    (λ c κs. search needs)
     live-fault-requires
-    is-fault-requires
-    answer-requires
+    (λ c κs. search needs)
+    (λ c κs. search needs)
     returns
     irreversible-fault-requires
-    is-fault-requires-2
-    answer-requires-2
+    (λ c κs. search needs)
+    (λ c κs. search needs)
     returns-2
-    longest-length-requires
+    (λ c κs. search needs)
     compared-cells-requires
-    answer-requires-3
+    (λ c κs. search needs)
     returns-3)

@@ -1,5 +1,5 @@
--- `judge::live_gaps::live_fault` meets its contract: the first entry at fault is the first one from the index on.
--- Assumes nothing.
+-- `judge::live_gaps::live_fault` meets its contract: the first entry at fault is the first one from
+-- the index on. Assumes nothing.
 use borrow.Author.Needs.{needs}
 use Prim.Native.Nat.{_-_, _≤_}
 use mathlib.Core.Path.{_≡_, sym, ap, _∙_}
@@ -28,12 +28,6 @@ loop-holds c =
     let P = patternsOf (a .set) (a .lengths) (a .count) in
     (proper-count (a .t4) (c .pre), omega arith, first-start LiveGap (liveEntry P) (entryAt (a .t4)) (a .t4 .count))
 
-mul-e : tie.Need-mul-e Inv-loop μ-loop
-mul-e c = search needs
-
-element-copy-out-e : tie.Need-element-copy-out-e Inv-loop μ-loop
-element-copy-out-e c = search needs
-
 has-live-gap-requires : tie.Need-has-live-gap-requires Inv-loop μ-loop
 has-live-gap-requires c κs =
     let l = c .before .before .loop in
@@ -46,12 +40,6 @@ returns c =
     let l = c .before .before .before .before .loop in
     let P = patternsOf (a .set) (a .lengths) (a .count) in
     sym (ap faultOf (l .inv .2 ∙ first-here LiveGap (liveEntry P) (entryAt (a .t4)) (a .t4 .count) (l .i) (omega arith) (sym (c .before .has-live-gap .ensures) ∙ c .if1 .taken)))
-
-add-i : tie.Need-add-i Inv-loop μ-loop
-add-i c = search needs
-
-loop-less : tie.Need-loop-less Inv-loop μ-loop
-loop-less c = search needs
 
 loop-again : tie.Need-loop-again Inv-loop μ-loop
 loop-again c =
@@ -74,11 +62,11 @@ live-fault-spec =
     Inv-loop
     μ-loop
     loop-holds
-    mul-e
-    element-copy-out-e
+    (λ c. search needs)
+    (λ c. search needs)
     has-live-gap-requires
     returns
-    add-i
-    loop-less
+    (λ c. search needs)
+    (λ c. search needs)
     loop-again
     returns-2)

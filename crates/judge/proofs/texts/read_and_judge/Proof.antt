@@ -1,25 +1,10 @@
--- `judge::texts::read_and_judge` meets its contract: what reading found decides, and then the claims.
--- Assumes nothing.
+-- `judge::texts::read_and_judge` meets its contract: what reading found decides, and then the
+-- claims. Assumes nothing.
 use mathlib.Core.Path.{sym, _∙_}
 use Rattle.judge.specs.TextVerdictLaws.{refused-texts, texts-formed, judged-texts}
 use borrow.Author.Needs.{needs}
 use Rattle.judge.proofs.texts.read_and_judge.Statement.{statement}
 use Rattle.judge.proofs.texts.read_and_judge.Tie as tie
-
-read-patterns-requires : tie.Need-read-patterns-requires
-read-patterns-requires c κs = search needs
-
-read-scheme-requires : tie.Need-read-scheme-requires
-read-scheme-requires c κs = search needs
-
-earlier-requires : tie.Need-earlier-requires
-earlier-requires c κs = search needs
-
-is-fault-requires : tie.Need-is-fault-requires
-is-fault-requires c κs = search needs
-
-answer-requires : tie.Need-answer-requires
-answer-requires c κs = search needs
 
 returns : tie.Need-returns
 returns c =
@@ -49,11 +34,11 @@ pub read-and-judge-spec : {M : Type 1} → statement M
 read-and-judge-spec =
     tie.close
     (tie.spec
-    read-patterns-requires
-    read-scheme-requires
-    earlier-requires
-    is-fault-requires
-    answer-requires
+    (λ c κs. search needs)
+    (λ c κs. search needs)
+    (λ c κs. search needs)
+    (λ c κs. search needs)
+    (λ c κs. search needs)
     returns
     judge-claims-requires
     returns-2)

@@ -7,13 +7,10 @@ use borrow.Author.Needs.{needs}
 use Rattle.notation.proofs.patterns.refused_patterns.Statement.{statement}
 use Rattle.notation.proofs.patterns.refused_patterns.Tie as tie
 
-no-patterns-requires : tie.Need-no-patterns-requires
-no-patterns-requires c κs = search needs
-
 returns : tie.Need-returns
 returns c =
     ap {B = PatternsRead} (λ (m : Patterns). record { fault = c .before .args .fault; patterns = m })
     (c .no-patterns .ensures)
 
 pub refused-patterns-spec : {M : Type 1} → statement M
-refused-patterns-spec = tie.close (tie.spec no-patterns-requires returns)
+refused-patterns-spec = tie.close (tie.spec (λ c κs. search needs) returns)

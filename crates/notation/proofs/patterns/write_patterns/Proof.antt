@@ -1,5 +1,5 @@
--- `notation::patterns::write_patterns` meets its contract: by the tests of the patterns, then by the length of the page.
--- Assumes nothing.
+-- `notation::patterns::write_patterns` meets its contract: by the tests of the patterns, then by
+-- the length of the page. Assumes nothing.
 use mathlib.Core.Path.{sym, _∙_}
 use native.Mathlib.Omega.{arith}
 use Rattle.word.specs.Finding.{firstFault}
@@ -12,35 +12,17 @@ use borrow.Author.Needs.{needs}
 use Rattle.notation.proofs.patterns.write_patterns.Statement.{statement}
 use Rattle.notation.proofs.patterns.write_patterns.Tie as tie
 
-patterns-fault-requires : tie.Need-patterns-fault-requires
-patterns-fault-requires c κs = search needs
-
-is-fault-requires : tie.Need-is-fault-requires
-is-fault-requires c κs = search needs
-
-written-or-requires : tie.Need-written-or-requires
-written-or-requires c κs = search needs
-
 returns : tie.Need-returns
 returns c = let a = c .before .before .before .before .before .args in
     let f = c .before .before .before .patterns-fault in
     patterns-refused (patternsIn (a .s)) (a .page .now) (c .written-or .result) (f .result) (f .ensures)
     (sym (c .before .before .is-fault .ensures) ∙ c .before .if1 .taken) (c .written-or .ensures)
 
-slice-relend-prefix-put-patterns : tie.Need-slice-relend-prefix-put-patterns
-slice-relend-prefix-put-patterns c = search needs
-
-slice-aggregate-put-patterns : tie.Need-slice-aggregate-put-patterns
-slice-aggregate-put-patterns c = search needs
-
 put-patterns-requires : tie.Need-put-patterns-requires
 put-patterns-requires c κs = let s = c .before .before .before .before .before .args .s in
     let f = c .before .before .before .patterns-fault in
     let none = sym (c .before .before .is-fault .ensures) ∙ c .before .if1 .left in
     (patterns-fit s (clean-finding (firstFault (patternTests (patternsIn s))) (f .result) (f .ensures) none), omega arith)
-
-same-length : tie.Need-same-length
-same-length c = search needs
 
 returns-2 : tie.Need-returns-2
 returns-2 c = let a = c .before .before .before .before .before .before .before .before .before .args in
@@ -56,9 +38,6 @@ put-patterns-requires-2 c κs = let s = c .before .before .before .before .befor
     let none = sym (c .before .before .before .before .before .before .before .is-fault .ensures) ∙ c .before .before .before .before .before .before .if1 .left in
     (patterns-fit s (clean-finding (firstFault (patternTests (patternsIn s))) (f .result) (f .ensures) none), omega arith)
 
-same-length-2 : tie.Need-same-length-2
-same-length-2 c = search needs
-
 returns-3 : tie.Need-returns-3
 returns-3 c = let a = c .before .before .before .before .before .before .before .before .before .before .before .before .before .args in
     let P = patternsIn (a .s) in
@@ -71,15 +50,15 @@ pub write-patterns-spec : {M : Type 1} → statement M
 write-patterns-spec =
     tie.close
     (tie.spec
-    patterns-fault-requires
-    is-fault-requires
-    written-or-requires
+    (λ c κs. search needs)
+    (λ c κs. search needs)
+    (λ c κs. search needs)
     returns
-    slice-relend-prefix-put-patterns
-    slice-aggregate-put-patterns
+    (λ c. search needs)
+    (λ c. search needs)
     put-patterns-requires
-    same-length
+    (λ c. search needs)
     returns-2
     put-patterns-requires-2
-    same-length-2
+    (λ c. search needs)
     returns-3)

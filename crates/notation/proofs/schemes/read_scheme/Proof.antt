@@ -1,5 +1,5 @@
--- `notation::schemes::read_scheme` meets its contract: by the length of the text, by its spelling, by the tests of what it spells.
--- Assumes nothing.
+-- `notation::schemes::read_scheme` meets its contract: by the length of the text, by its spelling,
+-- by the tests of what it spells. Assumes nothing.
 use mathlib.Core.Path.{sym, ap, _∙_}
 use borrow.Author.Tests.{not-true, not-false}
 use native.Mathlib.Omega.{arith}
@@ -10,32 +10,14 @@ use borrow.Author.Needs.{needs}
 use Rattle.notation.proofs.schemes.read_scheme.Statement.{statement}
 use Rattle.notation.proofs.schemes.read_scheme.Tie as tie
 
-refused-scheme-requires : tie.Need-refused-scheme-requires
-refused-scheme-requires c κs = search needs
-
 returns : tie.Need-returns
 returns c = let s = c .before .before .before .args .text .now in
     answered s (c .refused-scheme .result) (c .refused-scheme .ensures ∙ answer-long s (omega arith))
-
-load-scheme-requires : tie.Need-load-scheme-requires
-load-scheme-requires c κs = search needs
-
-refused-scheme-requires-2 : tie.Need-refused-scheme-requires-2
-refused-scheme-requires-2 c κs = search needs
 
 returns-2 : tie.Need-returns-2
 returns-2 c = let f = c .before .before .before .load-scheme in
     let s = c .before .before .before .before .before .before .args .text .now in
     answered s (c .refused-scheme2 .result) (c .refused-scheme2 .ensures ∙ answer-misspelt s (f .result) (omega arith) (f .ensures) (not-true (f .result .spelt) (c .before .if2 .taken)))
-
-scheme-fault-requires : tie.Need-scheme-fault-requires
-scheme-fault-requires c κs = search needs
-
-is-fault-requires : tie.Need-is-fault-requires
-is-fault-requires c κs = search needs
-
-refused-scheme-requires-3 : tie.Need-refused-scheme-requires-3
-refused-scheme-requires-3 c κs = search needs
 
 returns-3 : tie.Need-returns-3
 returns-3 c =
@@ -55,13 +37,13 @@ pub read-scheme-spec : {M : Type 1} → statement M
 read-scheme-spec =
     tie.close
     (tie.spec
-    refused-scheme-requires
+    (λ c κs. search needs)
     returns
-    load-scheme-requires
-    refused-scheme-requires-2
+    (λ c κs. search needs)
+    (λ c κs. search needs)
     returns-2
-    scheme-fault-requires
-    is-fault-requires
-    refused-scheme-requires-3
+    (λ c κs. search needs)
+    (λ c κs. search needs)
+    (λ c κs. search needs)
     returns-3
     returns-4)

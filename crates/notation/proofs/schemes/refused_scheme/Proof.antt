@@ -7,13 +7,10 @@ use borrow.Author.Needs.{needs}
 use Rattle.notation.proofs.schemes.refused_scheme.Statement.{statement}
 use Rattle.notation.proofs.schemes.refused_scheme.Tie as tie
 
-no-entries-requires : tie.Need-no-entries-requires
-no-entries-requires c κs = search needs
-
 returns : tie.Need-returns
 returns c =
     ap {B = SchemeRead} (λ (m : Scheme). record { fault = c .before .args .fault; scheme = m })
     (c .no-entries .ensures)
 
 pub refused-scheme-spec : {M : Type 1} → statement M
-refused-scheme-spec = tie.close (tie.spec no-entries-requires returns)
+refused-scheme-spec = tie.close (tie.spec (λ c κs. search needs) returns)

@@ -1,5 +1,5 @@
--- `notation::schemes::write_scheme` meets its contract: by the tests of the scheme, then by the length of the page.
--- Assumes nothing.
+-- `notation::schemes::write_scheme` meets its contract: by the tests of the scheme, then by the
+-- length of the page. Assumes nothing.
 use mathlib.Core.Path.{sym, _∙_}
 use native.Mathlib.Omega.{arith}
 use Rattle.word.specs.Finding.{firstFault}
@@ -12,35 +12,17 @@ use borrow.Author.Needs.{needs}
 use Rattle.notation.proofs.schemes.write_scheme.Statement.{statement}
 use Rattle.notation.proofs.schemes.write_scheme.Tie as tie
 
-scheme-fault-requires : tie.Need-scheme-fault-requires
-scheme-fault-requires c κs = search needs
-
-is-fault-requires : tie.Need-is-fault-requires
-is-fault-requires c κs = search needs
-
-written-or-requires : tie.Need-written-or-requires
-written-or-requires c κs = search needs
-
 returns : tie.Need-returns
 returns c = let a = c .before .before .before .before .before .args in
     let f = c .before .before .before .scheme-fault in
     scheme-refused (schemeIn (a .s)) (a .page .now) (c .written-or .result) (f .result) (f .ensures)
     (sym (c .before .before .is-fault .ensures) ∙ c .before .if1 .taken) (c .written-or .ensures)
 
-slice-relend-prefix-put-scheme : tie.Need-slice-relend-prefix-put-scheme
-slice-relend-prefix-put-scheme c = search needs
-
-slice-aggregate-put-scheme : tie.Need-slice-aggregate-put-scheme
-slice-aggregate-put-scheme c = search needs
-
 put-scheme-requires : tie.Need-put-scheme-requires
 put-scheme-requires c κs = let s = c .before .before .before .before .before .args .s in
     let f = c .before .before .before .scheme-fault in
     let none = sym (c .before .before .is-fault .ensures) ∙ c .before .if1 .left in
     (scheme-fit s (clean-finding (firstFault (schemeTests (schemeIn s))) (f .result) (f .ensures) none), omega arith)
-
-same-length : tie.Need-same-length
-same-length c = search needs
 
 returns-2 : tie.Need-returns-2
 returns-2 c = let a = c .before .before .before .before .before .before .before .before .before .args in
@@ -56,9 +38,6 @@ put-scheme-requires-2 c κs = let s = c .before .before .before .before .before 
     let none = sym (c .before .before .before .before .before .before .before .is-fault .ensures) ∙ c .before .before .before .before .before .before .if1 .left in
     (scheme-fit s (clean-finding (firstFault (schemeTests (schemeIn s))) (f .result) (f .ensures) none), omega arith)
 
-same-length-2 : tie.Need-same-length-2
-same-length-2 c = search needs
-
 returns-3 : tie.Need-returns-3
 returns-3 c = let a = c .before .before .before .before .before .before .before .before .before .before .before .before .before .args in
     let E = schemeIn (a .s) in
@@ -71,15 +50,15 @@ pub write-scheme-spec : {M : Type 1} → statement M
 write-scheme-spec =
     tie.close
     (tie.spec
-    scheme-fault-requires
-    is-fault-requires
-    written-or-requires
+    (λ c κs. search needs)
+    (λ c κs. search needs)
+    (λ c κs. search needs)
     returns
-    slice-relend-prefix-put-scheme
-    slice-aggregate-put-scheme
+    (λ c. search needs)
+    (λ c. search needs)
     put-scheme-requires
-    same-length
+    (λ c. search needs)
     returns-2
     put-scheme-requires-2
-    same-length-2
+    (λ c. search needs)
     returns-3)

@@ -8,9 +8,6 @@ use Rattle.notation.proofs.written.written_or.Tie as tie
 enum-told : tie.Need-enum-told
 enum-told c = search needs
 
-enum-known-fault : tie.Need-enum-known-fault
-enum-known-fault c = search needs
-
 returns : tie.Need-returns
 returns c = let a = c .before .before .args in written-clean (a .fault) (a .length) (c .enum-told .given .1)
 
@@ -18,4 +15,4 @@ returns-2 : tie.Need-returns-2
 returns-2 c = let a = c .before .before .before .args in written-fault (a .fault) (a .length) _ _ (c .before .fault .given .1)
 
 pub written-or-spec : {M : Type 1} → statement M
-written-or-spec = tie.close (tie.spec enum-told enum-known-fault returns returns-2)
+written-or-spec = tie.close (tie.spec enum-told (λ c. search needs) returns returns-2)

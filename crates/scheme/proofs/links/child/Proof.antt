@@ -18,26 +18,11 @@ Inv-loop k a prefix digits₀ j₀ digits j = (take j digits ≡ map (bump a) (t
 abbrev μ-loop : tie.MeasureT-loop
 μ-loop k a prefix digits₀ j₀ digits j = k - j
 
-loop-holds : tie.Need-loop-holds Inv-loop μ-loop
-loop-holds c = search needs
-
-array-read-raised : tie.Need-array-read-raised Inv-loop μ-loop
-array-read-raised c = search needs
-
 raised-requires : tie.Need-raised-requires Inv-loop μ-loop
 raised-requires c κs =
     let a = c .before .before .args in
     let six : length (a .t1) ≡ PREFIX = search needs in
     omega (arith, digit-bounds (a .t1) (a .k) (c .before .loop .j) (c .before .before .pre .1) (omega arith) (omega arith))
-
-array-write-digits : tie.Need-array-write-digits Inv-loop μ-loop
-array-write-digits c = search needs
-
-add-j : tie.Need-add-j Inv-loop μ-loop
-add-j c = search needs
-
-loop-less : tie.Need-loop-less Inv-loop μ-loop
-loop-less c = search needs
 
 loop-again : tie.Need-loop-again Inv-loop μ-loop
 loop-again c =
@@ -48,9 +33,6 @@ loop-again c =
       length-set (l .digits) (l .j) (c .raised .result) ∙ l .inv .1,
       omega arith,
     )
-
-array-write-digits-2 : tie.Need-array-write-digits-2 Inv-loop μ-loop
-array-write-digits-2 c = search needs
 
 returns : tie.Need-returns Inv-loop μ-loop
 returns c =
@@ -66,12 +48,12 @@ child-spec =
     (tie.spec
     Inv-loop
     μ-loop
-    loop-holds
-    array-read-raised
+    (λ c. search needs)
+    (λ c. search needs)
     raised-requires
-    array-write-digits
-    add-j
-    loop-less
+    (λ c. search needs)
+    (λ c. search needs)
+    (λ c. search needs)
     loop-again
-    array-write-digits-2
+    (λ c. search needs)
     returns)

@@ -42,12 +42,6 @@ returns c =
     let size : length (take (a .k) (a .prefix)) ≡ PREFIX = omega (arith, length-take-le (a .k) (a .prefix) (omega arith)) in
     λ ps w. sym (all-childless ps (w .short) (take (a .k) (a .prefix)) (h .1) size)
 
-cast-last : tie.Need-cast-last Inv-loop μ-loop
-cast-last c = search needs
-
-add-last : tie.Need-add-last Inv-loop μ-loop
-add-last c = search needs
-
 loop-holds : tie.Need-loop-holds Inv-loop μ-loop
 loop-holds c =
     let start = c .before .before in
@@ -55,15 +49,6 @@ loop-holds c =
     let h = start .pre in
     let six : length (a .prefix) ≡ PREFIX = search needs in
     (λ ps w. children-start (unlisted ps) (a .prefix) (a .k) (h .1) (omega arith), search needs, omega arith)
-
-child-requires : tie.Need-child-requires Inv-loop μ-loop
-child-requires c κs = search needs
-
-add-has-entry : tie.Need-add-has-entry Inv-loop μ-loop
-add-has-entry c = search needs
-
-has-entry-requires : tie.Need-has-entry-requires Inv-loop μ-loop
-has-entry-requires c κs = search needs
 
 returns-2 : tie.Need-returns-2 Inv-loop μ-loop
 returns-2 c =
@@ -75,12 +60,6 @@ returns-2 c =
     let found : has .has-entry .result ≡ listed ps (childAt (take (a .k) (a .prefix)) (l .a)) =
     has .has-entry .ensures ps w ∙ ap (listed ps) (has .before .child .ensures) in
     sym (l .inv .0 ps w ∙ place-here (missing ps (take (a .k) (a .prefix))) (a .k + 2) (l .a) (omega arith) (sym (ap not found) ∙ c .if2 .taken))
-
-add-a : tie.Need-add-a Inv-loop μ-loop
-add-a c = search needs
-
-loop-less : tie.Need-loop-less Inv-loop μ-loop
-loop-less c = search needs
 
 loop-again : tie.Need-loop-again Inv-loop μ-loop
 loop-again c =
@@ -107,14 +86,14 @@ childless-spec =
     Inv-loop
     μ-loop
     returns
-    cast-last
-    add-last
+    (λ c. search needs)
+    (λ c. search needs)
     loop-holds
-    child-requires
-    add-has-entry
-    has-entry-requires
+    (λ c κs. search needs)
+    (λ c. search needs)
+    (λ c κs. search needs)
     returns-2
-    add-a
-    loop-less
+    (λ c. search needs)
+    (λ c. search needs)
     loop-again
     returns-3)

@@ -10,9 +10,6 @@ use Rattle.forms.specs.MemoryLaws.{padded-within}
 use Rattle.scheme.proofs.links.entry_code.Statement.{statement}
 use Rattle.scheme.proofs.links.entry_code.Tie as tie
 
-code-of-requires : tie.Need-code-of-requires
-code-of-requires c κs = search needs
-
 returns : tie.Need-returns
 returns c =
     let e = c .before .before .args .e in
@@ -21,4 +18,4 @@ returns c =
     rw (padded-within (e .length) (e .prefix) (omega arith)) (c .code-of .ensures)
 
 pub entry-code-spec : {M : Type 1} → statement M
-entry-code-spec = tie.close (tie.spec code-of-requires returns)
+entry-code-spec = tie.close (tie.spec (λ c κs. search needs) returns)

@@ -6,12 +6,6 @@ use Rattle.scheme.proofs.LookupLaws.{find-coded}
 use Rattle.scheme.proofs.links.find_prefix.Statement.{statement}
 use Rattle.scheme.proofs.links.find_prefix.Tie as tie
 
-code-of-requires : tie.Need-code-of-requires
-code-of-requires c κs = search needs
-
-find-requires : tie.Need-find-requires
-find-requires c κs = search needs
-
 returns : tie.Need-returns
 returns c =
     let at = c .before in
@@ -19,4 +13,4 @@ returns c =
     find-coded (a .codes .now) (take (a .length) (a .prefix)) (at .code-of .result) (at .code-of .ensures) (c .find .result) (c .find .ensures)
 
 pub find-prefix-spec : {M : Type 1} → statement M
-find-prefix-spec = tie.close (tie.spec code-of-requires find-requires returns)
+find-prefix-spec = tie.close (tie.spec (λ c κs. search needs) (λ c κs. search needs) returns)

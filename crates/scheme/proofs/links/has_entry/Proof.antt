@@ -7,14 +7,8 @@ use Rattle.scheme.proofs.LookupLaws.{at-listed, nothing-listed}
 use Rattle.scheme.proofs.links.has_entry.Statement.{statement}
 use Rattle.scheme.proofs.links.has_entry.Tie as tie
 
-find-prefix-requires : tie.Need-find-prefix-requires
-find-prefix-requires c κs = search needs
-
 enum-told : tie.Need-enum-told
 enum-told c = search needs
-
-enum-told-2 : tie.Need-enum-told-2
-enum-told-2 c = search needs
 
 returns : tie.Need-returns
 returns c =
@@ -29,4 +23,4 @@ returns-2 c =
     λ ps w. sym (nothing-listed ps (take (a .length) (a .prefix)) (f .result) (f .ensures ps w) (c .enum-told2 .given .1))
 
 pub has-entry-spec : {M : Type 1} → statement M
-has-entry-spec = tie.close (tie.spec find-prefix-requires enum-told enum-told-2 returns returns-2)
+has-entry-spec = tie.close (tie.spec (λ c κs. search needs) enum-told (λ c. search needs) returns returns-2)

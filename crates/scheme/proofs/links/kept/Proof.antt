@@ -10,15 +10,6 @@ use Rattle.word.specs.BumpLaws.{bump-below, bump-above}
 use Rattle.scheme.proofs.links.kept.Statement.{statement}
 use Rattle.scheme.proofs.links.kept.Tie as tie
 
-array-read-result : tie.Need-array-read-result
-array-read-result c = search needs
-
-add-result : tie.Need-add-result
-add-result c = search needs
-
-array-read-result-2 : tie.Need-array-read-result-2
-array-read-result-2 c = search needs
-
 returns : tie.Need-returns
 returns c =
     let a = c .before .args in
@@ -30,4 +21,4 @@ returns-2 c =
     ap (λ (i : ℕ). getD (a .t1) i 0) (add-one (a .j) ∙ sym (bump-above (a .at) (a .j) (omega arith)))
 
 pub kept-spec : {M : Type 1} → statement M
-kept-spec = tie.close (tie.spec array-read-result add-result array-read-result-2 returns returns-2)
+kept-spec = tie.close (tie.spec (λ c. search needs) (λ c. search needs) (λ c. search needs) returns returns-2)

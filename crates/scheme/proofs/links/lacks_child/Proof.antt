@@ -25,9 +25,6 @@ childless-requires c κs =
     let perm : isPerm (take (e .length) (e .prefix)) ≡ true = ap isPerm (sym (padded-within (e .length) (e .prefix) (omega arith))) ∙ start .pre .perm in
     (short, perm)
 
-enum-told-2 : tie.Need-enum-told-2
-enum-told-2 c = search needs
-
 returns : tie.Need-returns
 returns c =
     let start = c .before .before .before .before .before in
@@ -40,4 +37,4 @@ returns-2 : tie.Need-returns-2
 returns-2 c = λ ps w. search needs
 
 pub lacks-child-spec : {M : Type 1} → statement M
-lacks-child-spec = tie.close (tie.spec enum-told childless-requires enum-told-2 returns returns-2)
+lacks-child-spec = tie.close (tie.spec enum-told childless-requires (λ c. search needs) returns returns-2)

@@ -14,12 +14,6 @@ use Rattle.scheme.proofs.LookupLaws.{position-inside, delete-target}
 use Rattle.scheme.proofs.links.lacks_target.Statement.{statement}
 use Rattle.scheme.proofs.links.lacks_target.Tie as tie
 
-enum-told : tie.Need-enum-told
-enum-told c = search needs
-
-enum-known-rule : tie.Need-enum-known-rule
-enum-known-rule c = search needs
-
 shorter-requires : tie.Need-shorter-requires
 shorter-requires c κs =
     let start = c .before .before .before .before .before in
@@ -38,9 +32,6 @@ sub-has-entry c =
     let e = start .args .e in
     omega (arith, position-inside (e .length) (rule .given .0 .0) (e .rule) (start .pre .inside) (rule .given .1))
 
-has-entry-requires : tie.Need-has-entry-requires
-has-entry-requires c κs = search needs
-
 returns : tie.Need-returns
 returns c = λ ps w. search needs
 
@@ -58,10 +49,10 @@ pub lacks-target-spec : {M : Type 1} → statement M
 lacks-target-spec =
     tie.close
     (tie.spec
-    enum-told
-    enum-known-rule
+    (λ c. search needs)
+    (λ c. search needs)
     shorter-requires
     sub-has-entry
-    has-entry-requires
+    (λ c κs. search needs)
     returns
     returns-2)

@@ -1,5 +1,5 @@
--- `scheme::links::link_faults` meets its contract: each finding so far, and what the entries from the
--- index on add.
+-- `scheme::links::link_faults` meets its contract: each finding so far, and what the entries from
+-- the index on add.
 -- Assumes nothing.
 use Prim.Native.Nat.{ℕ, _-_, _<_}
 use mathlib.Core.Path.{_≡_, _∙_}
@@ -45,33 +45,15 @@ loop-holds c =
     let s = c .before .args .t1 in
     (noted-start Childless (noChild s) (entryAt s) (s .count), noted-start NoTarget (noTarget s) (entryAt s) (s .count))
 
-mul-e : tie.Need-mul-e Inv-loop μ-loop
-mul-e c = search needs
-
-element-copy-out-e : tie.Need-element-copy-out-e Inv-loop μ-loop
-element-copy-out-e c = search needs
-
 lacks-child-requires : tie.Need-lacks-child-requires Inv-loop μ-loop
 lacks-child-requires c κs =
     let l = c .before .before in
     l .before .before .pre .0 .linked (l .loop .i) (omega arith)
 
-noted-requires : tie.Need-noted-requires Inv-loop μ-loop
-noted-requires c κs = search needs
-
 lacks-target-requires : tie.Need-lacks-target-requires Inv-loop μ-loop
 lacks-target-requires c κs =
     let l = c .before .before .before .before in
     l .before .before .pre .0 .linked (l .loop .i) (omega arith)
-
-noted-requires-2 : tie.Need-noted-requires-2 Inv-loop μ-loop
-noted-requires-2 c κs = search needs
-
-add-i : tie.Need-add-i Inv-loop μ-loop
-add-i c = search needs
-
-loop-less : tie.Need-loop-less Inv-loop μ-loop
-loop-less c = search needs
 
 loop-again : tie.Need-loop-again Inv-loop μ-loop
 loop-again c =
@@ -108,13 +90,13 @@ link-faults-spec =
     Inv-loop
     μ-loop
     loop-holds
-    mul-e
-    element-copy-out-e
+    (λ c. search needs)
+    (λ c. search needs)
     lacks-child-requires
-    noted-requires
+    (λ c κs. search needs)
     lacks-target-requires
-    noted-requires-2
-    add-i
-    loop-less
+    (λ c κs. search needs)
+    (λ c. search needs)
+    (λ c. search needs)
     loop-again
     returns)

@@ -6,9 +6,6 @@ use Rattle.word.specs.BumpLaws.{unbump-below, unbump-above}
 use Rattle.scheme.proofs.links.lowered.Statement.{statement}
 use Rattle.scheme.proofs.links.lowered.Tie as tie
 
-sub-result : tie.Need-sub-result
-sub-result c = search needs
-
 returns : tie.Need-returns
 returns c = omega (arith, unbump-below (c .before .args .v) (c .before .args .y) (omega arith))
 
@@ -16,4 +13,4 @@ returns-2 : tie.Need-returns-2
 returns-2 c = omega (arith, unbump-above (c .before .args .v) (c .before .args .y) (omega arith))
 
 pub lowered-spec : {M : Type 1} → statement M
-lowered-spec = tie.close (tie.spec sub-result returns returns-2)
+lowered-spec = tie.close (tie.spec (λ c. search needs) returns returns-2)

@@ -6,9 +6,6 @@ use Rattle.word.specs.BumpLaws.{bump-below, bump-above}
 use Rattle.scheme.proofs.links.raised.Statement.{statement}
 use Rattle.scheme.proofs.links.raised.Tie as tie
 
-add-result : tie.Need-add-result
-add-result c = search needs
-
 returns : tie.Need-returns
 returns c = omega (arith, bump-below (c .before .args .a) (c .before .args .y) (omega arith))
 
@@ -16,4 +13,4 @@ returns-2 : tie.Need-returns-2
 returns-2 c = omega (arith, bump-above (c .before .args .a) (c .before .args .y) (omega arith))
 
 pub raised-spec : {M : Type 1} → statement M
-raised-spec = tie.close (tie.spec add-result returns returns-2)
+raised-spec = tie.close (tie.spec (λ c. search needs) returns returns-2)

@@ -1,5 +1,5 @@
--- `scheme::links::shorter` meets its contract: as many digits as were passed are those of the shorter prefix.
--- Assumes nothing.
+-- `scheme::links::shorter` meets its contract: as many digits as were passed are those of the
+-- shorter prefix. Assumes nothing.
 use Prim.Native.Nat.{_-_, _≤_, _<_}
 use mathlib.Core.Path.{_≡_, ap, _∙_}
 use mathlib.Core.List.{[], _∷_}
@@ -21,21 +21,6 @@ Inv-loop k r prefix at v digits₀ j₀ digits j = (take j digits ≡ take j (de
 abbrev μ-loop : tie.MeasureT-loop
 μ-loop k r prefix at v digits₀ j₀ digits j = k - 1 - j
 
-sub-at : tie.Need-sub-at Inv-loop μ-loop
-sub-at c = search needs
-
-array-read-v : tie.Need-array-read-v Inv-loop μ-loop
-array-read-v c = search needs
-
-loop-holds : tie.Need-loop-holds Inv-loop μ-loop
-loop-holds c = search needs
-
-sub-loop : tie.Need-sub-loop Inv-loop μ-loop
-sub-loop c = search needs
-
-kept-requires : tie.Need-kept-requires Inv-loop μ-loop
-kept-requires c κs = search needs
-
 lowered-requires : tie.Need-lowered-requires Inv-loop μ-loop
 lowered-requires c κs =
     let a = c .before .before .before .args in
@@ -43,15 +28,6 @@ lowered-requires c κs =
     let six : length (a .t1) ≡ PREFIX = search needs in
     let inside : bump (a .r - 1) j < a .k = bump-inside (a .r - 1) j (a .k) (omega arith) in
     omega (arith, c .kept .ensures, digit-bounds (a .t1) (a .k) (bump (a .r - 1) j) (c .before .before .before .pre .3) (omega arith) inside)
-
-array-write-digits : tie.Need-array-write-digits Inv-loop μ-loop
-array-write-digits c = search needs
-
-add-j : tie.Need-add-j Inv-loop μ-loop
-add-j c = search needs
-
-loop-less : tie.Need-loop-less Inv-loop μ-loop
-loop-less c = search needs
 
 loop-again : tie.Need-loop-again Inv-loop μ-loop
 loop-again c =
@@ -83,14 +59,14 @@ shorter-spec =
     (tie.spec
     Inv-loop
     μ-loop
-    sub-at
-    array-read-v
-    loop-holds
-    sub-loop
-    kept-requires
+    (λ c. search needs)
+    (λ c. search needs)
+    (λ c. search needs)
+    (λ c. search needs)
+    (λ c κs. search needs)
     lowered-requires
-    array-write-digits
-    add-j
-    loop-less
+    (λ c. search needs)
+    (λ c. search needs)
+    (λ c. search needs)
     loop-again
     returns)

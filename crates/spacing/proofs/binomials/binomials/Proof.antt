@@ -15,25 +15,10 @@ Inv-loop b₀ n₀ b n = (n ≤ COUNTS) × PascalTo n 0 b
 abbrev μ-loop : tie.MeasureT-loop
 μ-loop b₀ n₀ b n = COUNTS - n
 
-loop-holds : tie.Need-loop-holds Inv-loop μ-loop
-loop-holds c = search needs
-
-with-row-requires : tie.Need-with-row-requires Inv-loop μ-loop
-with-row-requires c κs = search needs
-
-add-n : tie.Need-add-n Inv-loop μ-loop
-add-n c = search needs
-
-loop-less : tie.Need-loop-less Inv-loop μ-loop
-loop-less c = search needs
-
-loop-again : tie.Need-loop-again Inv-loop μ-loop
-loop-again c = search needs
-
 returns : tie.Need-returns Inv-loop μ-loop
 returns c = let n : c .before .loop .n ≡ COUNTS = omega arith in rw (← n) (c .before .loop .inv .1)
 
 pub binomials-spec : {M : Type 1} → statement M
 binomials-spec =
     tie.close
-    (tie.spec Inv-loop μ-loop loop-holds with-row-requires add-n loop-less loop-again returns)
+    (tie.spec Inv-loop μ-loop (λ c. search needs) (λ c κs. search needs) (λ c. search needs) (λ c. search needs) (λ c. search needs) returns)

@@ -25,30 +25,6 @@ returns-2 c =
     let n : a .n ≡ 0 = c .if2 .taken in
     sym (binomial-above (a .n) (a .k) (omega arith))
 
-sub-at : tie.Need-sub-at
-sub-at c = search needs
-
-mul-at : tie.Need-mul-at
-mul-at c = search needs
-
-add-at : tie.Need-add-at
-add-at c = search needs
-
-sub-result : tie.Need-sub-result
-sub-result c = search needs
-
-mul-result : tie.Need-mul-result
-mul-result c = search needs
-
-array-read-result : tie.Need-array-read-result
-array-read-result c = search needs
-
-mul-result-2 : tie.Need-mul-result-2
-mul-result-2 c = search needs
-
-array-read-result-2 : tie.Need-array-read-result-2
-array-read-result-2 c = search needs
-
 add-result : tie.Need-add-result
 add-result c =
     let a = c .before .before .args in
@@ -74,13 +50,13 @@ pascal-sum-spec =
     (tie.spec
     returns
     returns-2
-    sub-at
-    mul-at
-    add-at
-    sub-result
-    mul-result
-    array-read-result
-    mul-result-2
-    array-read-result-2
+    (λ c. search needs)
+    (λ c. search needs)
+    (λ c. search needs)
+    (λ c. search needs)
+    (λ c. search needs)
+    (λ c. search needs)
+    (λ c. search needs)
+    (λ c. search needs)
     add-result
     returns-3)

@@ -15,30 +15,6 @@ Inv-loop n b₀ k₀ b k = (k ≤ COLUMNS) × PascalTo n k b
 abbrev μ-loop : tie.MeasureT-loop
 μ-loop n b₀ k₀ b k = COLUMNS - k
 
-loop-holds : tie.Need-loop-holds Inv-loop μ-loop
-loop-holds c = search needs
-
-pascal-sum-requires : tie.Need-pascal-sum-requires Inv-loop μ-loop
-pascal-sum-requires c κs = search needs
-
-mul-b : tie.Need-mul-b Inv-loop μ-loop
-mul-b c = search needs
-
-add-b : tie.Need-add-b Inv-loop μ-loop
-add-b c = search needs
-
-mul-b-2 : tie.Need-mul-b-2 Inv-loop μ-loop
-mul-b-2 c = search needs
-
-array-write-b : tie.Need-array-write-b Inv-loop μ-loop
-array-write-b c = search needs
-
-add-k : tie.Need-add-k Inv-loop μ-loop
-add-k c = search needs
-
-loop-less : tie.Need-loop-less Inv-loop μ-loop
-loop-less c = search needs
-
 loop-again : tie.Need-loop-again Inv-loop μ-loop
 loop-again c =
     let a = c .before .before .before .args in
@@ -55,13 +31,13 @@ with-row-spec =
     (tie.spec
     Inv-loop
     μ-loop
-    loop-holds
-    pascal-sum-requires
-    mul-b
-    add-b
-    mul-b-2
-    array-write-b
-    add-k
-    loop-less
+    (λ c. search needs)
+    (λ c κs. search needs)
+    (λ c. search needs)
+    (λ c. search needs)
+    (λ c. search needs)
+    (λ c. search needs)
+    (λ c. search needs)
+    (λ c. search needs)
     loop-again
     returns)

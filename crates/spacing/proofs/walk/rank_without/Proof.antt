@@ -18,12 +18,6 @@ Inv-loop k v start b g z₀ count₀ rank₀ t₀ z count rank t = Walk (take (k
 abbrev μ-loop : tie.MeasureT-loop
 μ-loop k v start b g z₀ count₀ rank₀ t₀ z count rank t = k + 1 - t
 
-array-read-wide : tie.Need-array-read-wide Inv-loop μ-loop
-array-read-wide c = search needs
-
-wide-requires : tie.Need-wide-requires Inv-loop μ-loop
-wide-requires c κs = search needs
-
 loop-holds : tie.Need-loop-holds Inv-loop μ-loop
 loop-holds c =
     let a = c .before .before .args in
@@ -31,12 +25,6 @@ loop-holds c =
     let s = length-take-le (a .k + 1) (a .t1) (omega arith) in
     let z : c .wide .result ≡ getD (take (a .k + 1) (a .t1)) 0 0 = c .wide .ensures ∙ sym (getD-take (a .k + 1) (a .t1) 0 0 (omega arith)) in
     rw z (walk-start (take (a .k + 1) (a .t1)) (a .k) (a .v) (a .start) s (c .before .before .pre .2))
-
-array-read-wide-2 : tie.Need-array-read-wide-2 Inv-loop μ-loop
-array-read-wide-2 c = search needs
-
-wide-requires-2 : tie.Need-wide-requires-2 Inv-loop μ-loop
-wide-requires-2 c κs = search needs
 
 add-z : tie.Need-add-z Inv-loop μ-loop
 add-z c =
@@ -50,12 +38,6 @@ add-z c =
           (c .before .wide2 .ensures ∙ sym (getD-take (a .k + 1) (a .t1) (l .t) 0 (omega arith))),
     )
 
-add-t : tie.Need-add-t Inv-loop μ-loop
-add-t c = search needs
-
-loop-less : tie.Need-loop-less Inv-loop μ-loop
-loop-less c = search needs
-
 loop-again : tie.Need-loop-again Inv-loop μ-loop
 loop-again c =
     let a = c .before .before .before .before .before .before .args in
@@ -64,9 +46,6 @@ loop-again c =
     let s = length-take-le (a .k + 1) (a .t1) (omega arith) in
     walk-leave (take (a .k + 1) (a .t1)) (a .k) (a .v) (a .start) s (l .z) (l .count) (l .rank) (l .t) (l .inv) (omega arith) (c .before .wide2 .result)
     (c .before .wide2 .ensures ∙ sym (getD-take (a .k + 1) (a .t1) (l .t) 0 (omega arith))) (c .if1 .taken)
-
-add-count : tie.Need-add-count Inv-loop μ-loop
-add-count c = search needs
 
 choose-requires : tie.Need-choose-requires Inv-loop μ-loop
 choose-requires c κs =
@@ -77,9 +56,6 @@ add-rank : tie.Need-add-rank Inv-loop μ-loop
 add-rank c =
     let l = c .before .before .before .before .loop in
     omega (arith, c .choose .ensures, binomial-small (l .z) (l .count + 1) (omega (arith, l .inv .fits)), l .inv .small, l .inv .high, c .before .before .before .before .before .before .before .pre .0)
-
-add-z-2 : tie.Need-add-z-2 Inv-loop μ-loop
-add-z-2 c = search needs
 
 add-z-3 : tie.Need-add-z-3 Inv-loop μ-loop
 add-z-3 c =
@@ -92,12 +68,6 @@ add-z-3 c =
       next-small (take (a .k + 1) (a .t1)) (a .k) (a .v) (a .start) s (l .z) (l .count) (l .rank) (l .t) (l .inv) (omega arith) (c .before .before .wide2 .result)
           (c .before .before .wide2 .ensures ∙ sym (getD-take (a .k + 1) (a .t1) (l .t) 0 (omega arith))),
     )
-
-add-t-2 : tie.Need-add-t-2 Inv-loop μ-loop
-add-t-2 c = search needs
-
-loop-less-2 : tie.Need-loop-less-2 Inv-loop μ-loop
-loop-less-2 c = search needs
 
 loop-again-2 : tie.Need-loop-again-2 Inv-loop μ-loop
 loop-again-2 c =
@@ -124,21 +94,21 @@ rank-without-spec =
     (tie.spec
     Inv-loop
     μ-loop
-    array-read-wide
-    wide-requires
+    (λ c. search needs)
+    (λ c κs. search needs)
     loop-holds
-    array-read-wide-2
-    wide-requires-2
+    (λ c. search needs)
+    (λ c κs. search needs)
     add-z
-    add-t
-    loop-less
+    (λ c. search needs)
+    (λ c. search needs)
     loop-again
-    add-count
+    (λ c. search needs)
     choose-requires
     add-rank
-    add-z-2
+    (λ c. search needs)
     add-z-3
-    add-t-2
-    loop-less-2
+    (λ c. search needs)
+    (λ c. search needs)
     loop-again-2
     returns)

@@ -1,5 +1,5 @@
--- `table_lines::input::keep` meets its contract: what is kept in all is what is kept from the index on.
--- Assumes nothing.
+-- `table_lines::input::keep` meets its contract: what is kept in all is what is kept from the index
+-- on. Assumes nothing.
 use Prim.Native.Nat.{_-_, _≤_}
 use native.Mathlib.Omega.{arith}
 use mathlib.Core.Path.{_≡_, refl}
@@ -19,85 +19,34 @@ abbrev μ-loop : tie.MeasureT-loop
 loop-holds : tie.Need-loop-holds Inv-loop μ-loop
 loop-holds c = (omega arith, refl)
 
-shared-slice-read-b : tie.Need-shared-slice-read-b Inv-loop μ-loop
-shared-slice-read-b c = search needs
-
-add-i : tie.Need-add-i Inv-loop μ-loop
-add-i c = search needs
-
-loop-less : tie.Need-loop-less Inv-loop μ-loop
-loop-less c = search needs
-
 loop-again : tie.Need-loop-again Inv-loop μ-loop
 loop-again c = let l = c .before .before .before .loop in
     (omega arith, turn (l .kept) _ (c .before .before .before .before .args .chunk .now) (l .i) _ (l .inv .1) (c .before .before .loop-test .taken) (turn-fourth (l .kept) (getD (c .before .before .before .before .args .chunk .now) (l .i) 0) (omega arith)))
-
-add-kept : tie.Need-add-kept Inv-loop μ-loop
-add-kept c = search needs
-
-loop-less-2 : tie.Need-loop-less-2 Inv-loop μ-loop
-loop-less-2 c = search needs
 
 loop-again-2 : tie.Need-loop-again-2 Inv-loop μ-loop
 loop-again-2 c = let l = c .before .before .before .before .loop in
     (omega arith, turn (l .kept) _ (c .before .before .before .before .before .args .chunk .now) (l .i) _ (l .inv .1) (c .before .before .before .loop-test .taken) (turn-end (l .kept) _ (omega arith) (c .if2 .taken)))
 
-element-write-kept : tie.Need-element-write-kept Inv-loop μ-loop
-element-write-kept c = search needs
-
-add-kept-2 : tie.Need-add-kept-2 Inv-loop μ-loop
-add-kept-2 c = search needs
-
-loop-less-3 : tie.Need-loop-less-3 Inv-loop μ-loop
-loop-less-3 c = search needs
-
 loop-again-3 : tie.Need-loop-again-3 Inv-loop μ-loop
 loop-again-3 c = let l = c .before .before .before .before .before .before .loop in
     (omega arith, turn (l .kept) _ (c .before .before .before .before .before .before .before .args .chunk .now) (l .i) _ (l .inv .1) (c .before .before .before .before .before .loop-test .taken) (turn-set (l .kept) _ (c .before .if3 .taken) (c .before .before .if2 .left) (c .if4 .taken)))
-
-loop-less-4 : tie.Need-loop-less-4 Inv-loop μ-loop
-loop-less-4 c = search needs
 
 loop-again-4 : tie.Need-loop-again-4 Inv-loop μ-loop
 loop-again-4 c = let l = c .before .before .before .before .before .before .loop in
     (omega arith, turn (l .kept) _ (c .before .before .before .before .before .before .before .args .chunk .now) (l .i) _ (l .inv .1) (c .before .before .before .before .before .loop-test .taken) (drop-set (l .kept) _ (c .before .if3 .taken) (c .before .before .if2 .left) (c .if4 .left)))
 
-element-write-kept-2 : tie.Need-element-write-kept-2 Inv-loop μ-loop
-element-write-kept-2 c = search needs
-
-add-kept-3 : tie.Need-add-kept-3 Inv-loop μ-loop
-add-kept-3 c = search needs
-
-loop-less-5 : tie.Need-loop-less-5 Inv-loop μ-loop
-loop-less-5 c = search needs
-
 loop-again-5 : tie.Need-loop-again-5 Inv-loop μ-loop
 loop-again-5 c = let l = c .before .before .before .before .before .before .before .loop in
     (omega arith, turn (l .kept) _ (c .before .before .before .before .before .before .before .before .args .chunk .now) (l .i) _ (l .inv .1) (c .before .before .before .before .before .before .loop-test .taken) (turn-scheme (l .kept) _ (c .before .if5 .taken) (c .before .before .before .if2 .left) (c .if6 .taken)))
-
-loop-less-6 : tie.Need-loop-less-6 Inv-loop μ-loop
-loop-less-6 c = search needs
 
 loop-again-6 : tie.Need-loop-again-6 Inv-loop μ-loop
 loop-again-6 c = let l = c .before .before .before .before .before .before .before .loop in
     (omega arith, turn (l .kept) _ (c .before .before .before .before .before .before .before .before .args .chunk .now) (l .i) _ (l .inv .1) (c .before .before .before .before .before .before .loop-test .taken) (drop-scheme (l .kept) _ (c .before .if5 .taken) (c .before .before .before .if2 .left) (c .if6 .left)))
 
-element-write-kept-3 : tie.Need-element-write-kept-3 Inv-loop μ-loop
-element-write-kept-3 c = search needs
-
-add-kept-4 : tie.Need-add-kept-4 Inv-loop μ-loop
-add-kept-4 c = search needs
-
-loop-less-7 : tie.Need-loop-less-7 Inv-loop μ-loop
-loop-less-7 c = search needs
-
 loop-again-7 : tie.Need-loop-again-7 Inv-loop μ-loop
 loop-again-7 c = let l = c .before .before .before .before .before .before .before .loop in
     let two : l .kept .ends ≡ 2 = omega (arith, c .before .if5 .left, c .before .before .if3 .left, c .before .before .before .before .if1 .left) in
     (omega arith, turn (l .kept) _ (c .before .before .before .before .before .before .before .before .args .chunk .now) (l .i) _ (l .inv .1) (c .before .before .before .before .before .before .loop-test .taken) (turn-last (l .kept) _ two (c .before .before .before .if2 .left) (c .if7 .taken)))
-
-loop-less-8 : tie.Need-loop-less-8 Inv-loop μ-loop
-loop-less-8 c = search needs
 
 loop-again-8 : tie.Need-loop-again-8 Inv-loop μ-loop
 loop-again-8 c = let l = c .before .before .before .before .before .before .before .loop in
@@ -115,29 +64,29 @@ keep-spec =
     Inv-loop
     μ-loop
     loop-holds
-    shared-slice-read-b
-    add-i
-    loop-less
+    (λ c. search needs)
+    (λ c. search needs)
+    (λ c. search needs)
     loop-again
-    add-kept
-    loop-less-2
+    (λ c. search needs)
+    (λ c. search needs)
     loop-again-2
-    element-write-kept
-    add-kept-2
-    loop-less-3
+    (λ c. search needs)
+    (λ c. search needs)
+    (λ c. search needs)
     loop-again-3
-    loop-less-4
+    (λ c. search needs)
     loop-again-4
-    element-write-kept-2
-    add-kept-3
-    loop-less-5
+    (λ c. search needs)
+    (λ c. search needs)
+    (λ c. search needs)
     loop-again-5
-    loop-less-6
+    (λ c. search needs)
     loop-again-6
-    element-write-kept-3
-    add-kept-4
-    loop-less-7
+    (λ c. search needs)
+    (λ c. search needs)
+    (λ c. search needs)
     loop-again-7
-    loop-less-8
+    (λ c. search needs)
     loop-again-8
     returns)

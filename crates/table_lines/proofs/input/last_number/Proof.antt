@@ -1,5 +1,5 @@
--- `table_lines::input::last_number` meets its contract: one kept byte and two are read, and no or three
--- spell no number.
+-- `table_lines::input::last_number` meets its contract: one kept byte and two are read, and no or
+-- three spell no number.
 -- Assumes nothing.
 use Prim.Native.Nat.{ℕ}
 use mathlib.Core.Path.{_≡_, sym, ap, _∙_}
@@ -11,26 +11,11 @@ use borrow.Author.Needs.{needs}
 use Rattle.table_lines.proofs.input.last_number.Statement.{statement}
 use Rattle.table_lines.proofs.input.last_number.Tie as tie
 
-array-read-one-digit : tie.Need-array-read-one-digit
-array-read-one-digit c = search needs
-
-one-digit-requires : tie.Need-one-digit-requires
-one-digit-requires c κs = search needs
-
 returns : tie.Need-returns
 returns c = let a = c .before .before .before .args in
     let three : length (a .lines .last) ≡ 3 = (let g = c .before .before .before .good in search needs) in
     c .one-digit .ensures ∙ ap asNumber (memory-one (a .lines .last) three)
     ∙ ap (λ (n : ℕ). asNumber (numberIn (take n (a .lines .last)))) (sym (c .before .if1 .taken))
-
-array-read-two-digits : tie.Need-array-read-two-digits
-array-read-two-digits c = search needs
-
-array-read-two-digits-2 : tie.Need-array-read-two-digits-2
-array-read-two-digits-2 c = search needs
-
-two-digits-requires : tie.Need-two-digits-requires
-two-digits-requires c κs = search needs
 
 returns-2 : tie.Need-returns-2
 returns-2 c = let a = c .before .before .before .before .args in
@@ -47,11 +32,11 @@ pub last-number-spec : {M : Type 1} → statement M
 last-number-spec =
     tie.close
     (tie.spec
-    array-read-one-digit
-    one-digit-requires
+    (λ c. search needs)
+    (λ c κs. search needs)
     returns
-    array-read-two-digits
-    array-read-two-digits-2
-    two-digits-requires
+    (λ c. search needs)
+    (λ c. search needs)
+    (λ c κs. search needs)
     returns-2
     returns-3)

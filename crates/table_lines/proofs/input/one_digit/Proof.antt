@@ -15,11 +15,8 @@ returns c = sym (ap asNumber (one-misspelt (c .before .args .a) (below-digits (c
 returns-2 : tie.Need-returns-2
 returns-2 c = sym (ap asNumber (one-misspelt (c .before .before .args .a) (above-digits (c .before .before .args .a) (omega arith))))
 
-wide-requires : tie.Need-wide-requires
-wide-requires c κs = search needs
-
 returns-3 : tie.Need-returns-3
 returns-3 c = ap Is (c .wide .ensures) ∙ sym (ap asNumber (one-spelt (c .before .before .before .args .a) (omega arith) (omega arith)))
 
 pub one-digit-spec : {M : Type 1} → statement M
-one-digit-spec = tie.close (tie.spec returns returns-2 wide-requires returns-3)
+one-digit-spec = tie.close (tie.spec returns returns-2 (λ c κs. search needs) returns-3)

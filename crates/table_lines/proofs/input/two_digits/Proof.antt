@@ -1,5 +1,5 @@
--- `table_lines::input::two_digits` meets its contract: two digits spell a number, where the first is no
--- zero.
+-- `table_lines::input::two_digits` meets its contract: two digits spell a number, where the first
+-- is no zero.
 -- Assumes nothing.
 use Prim.Native.Nat.{ℕ, _+_, _*_}
 use native.Mathlib.Omega.{arith}
@@ -25,21 +25,6 @@ returns-4 : tie.Need-returns-4
 returns-4 c = let a = c .before .before .before .before .args in
     sym (ap asNumber (second-misspelt (a .a) (a .b) (omega arith) (omega arith) (above-digits (a .b) (omega arith))))
 
-sub-wide : tie.Need-sub-wide
-sub-wide c = search needs
-
-wide-requires : tie.Need-wide-requires
-wide-requires c κs = search needs
-
-mul-t6 : tie.Need-mul-t6
-mul-t6 c = search needs
-
-wide-requires-2 : tie.Need-wide-requires-2
-wide-requires-2 c κs = search needs
-
-add-t9 : tie.Need-add-t9
-add-t9 c = search needs
-
 returns-5 : tie.Need-returns-5
 returns-5 c = let a = c .before .before .before .before .before .before .args in
     ap Is (ap₂ (λ (x y : ℕ). x * 10 + y) (c .before .wide .ensures) (c .wide2 .ensures))
@@ -53,9 +38,9 @@ two-digits-spec =
     returns-2
     returns-3
     returns-4
-    sub-wide
-    wide-requires
-    mul-t6
-    wide-requires-2
-    add-t9
+    (λ c. search needs)
+    (λ c κs. search needs)
+    (λ c. search needs)
+    (λ c κs. search needs)
+    (λ c. search needs)
     returns-5)

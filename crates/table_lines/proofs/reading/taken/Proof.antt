@@ -14,18 +14,6 @@ use borrow.Author.Needs.{needs}
 use Rattle.table_lines.proofs.reading.taken.Statement.{statement}
 use Rattle.table_lines.proofs.reading.taken.Tie as tie
 
-count-requires : tie.Need-count-requires
-count-requires c κs = search needs
-
-slice-aggregate-keep : tie.Need-slice-aggregate-keep
-slice-aggregate-keep c = search needs
-
-keep-requires : tie.Need-keep-requires
-keep-requires c κs = search needs
-
-state-after-requires : tie.Need-state-after-requires
-state-after-requires c κs = search needs
-
 returns : tie.Need-returns
 unfolding takenOf
 returns c = let a = c .before .before .before .before .before .args in
@@ -40,4 +28,4 @@ returns c = let a = c .before .before .before .before .before .args in
 pub taken-spec : {M : Type 1} → statement M
 taken-spec =
     tie.close
-    (tie.spec count-requires slice-aggregate-keep keep-requires state-after-requires returns)
+    (tie.spec (λ c κs. search needs) (λ c. search needs) (λ c κs. search needs) (λ c κs. search needs) returns)

@@ -10,17 +10,8 @@ use Rattle.table_print.proofs.printing.put_fault.Tie as tie
 enum-told : tie.Need-enum-told
 enum-told c = search needs
 
-enum-known-fault : tie.Need-enum-known-fault
-enum-known-fault c = search needs
-
-put-refusal-requires : tie.Need-put-refusal-requires
-put-refusal-requires c κs = search needs
-
 returns : tie.Need-returns
 returns c = (rw (c .enum-told .given .1) (record { moved = refl; page = sym (overlay-none 0 _) }), omega arith)
-
-same-length : tie.Need-same-length
-same-length c = search needs
 
 returns-2 : tie.Need-returns-2
 returns-2 c =
@@ -30,4 +21,4 @@ returns-2 c =
 pub put-fault-spec : {M : Type 1} → statement M
 put-fault-spec =
     tie.close
-    (tie.spec enum-told enum-known-fault put-refusal-requires returns same-length returns-2)
+    (tie.spec enum-told (λ c. search needs) (λ c κs. search needs) returns (λ c. search needs) returns-2)

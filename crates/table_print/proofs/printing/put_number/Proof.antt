@@ -7,25 +7,13 @@ use Rattle.table_print.proofs.printing.put_number.Tie as tie
 enum-told : tie.Need-enum-told
 enum-told c = search needs
 
-put-refusal-requires : tie.Need-put-refusal-requires
-put-refusal-requires c κs = search needs
-
-enum-known-number : tie.Need-enum-known-number
-enum-known-number c = search needs
-
 put-table-requires : tie.Need-put-table-requires
 put-table-requires c κs = c .before .before .before .before .before .before .before .pre
-
-same-length : tie.Need-same-length
-same-length c = search needs
 
 returns : tie.Need-returns
 returns c =
     let put = c .before .before .put-refusal .ensures in
     (rw (c .before .before .before .before .enum-told .given .1) (put .0), put .1)
-
-same-length-2 : tie.Need-same-length-2
-same-length-2 c = search needs
 
 returns-2 : tie.Need-returns-2
 returns-2 c =
@@ -37,10 +25,10 @@ put-number-spec =
     tie.close
     (tie.spec
     enum-told
-    put-refusal-requires
-    enum-known-number
+    (λ c κs. search needs)
+    (λ c. search needs)
     put-table-requires
-    same-length
+    (λ c. search needs)
     returns
-    same-length-2
+    (λ c. search needs)
     returns-2)

@@ -25,15 +25,6 @@ table-fault-requires c κs =
     let start = c .before in
     proper (schemeIn (start .args .scheme)) (start .pre .formed .scheme)
 
-is-fault-requires : tie.Need-is-fault-requires
-is-fault-requires c κs = search needs
-
-put-fault-requires : tie.Need-put-fault-requires
-put-fault-requires c κs = search needs
-
-same-length : tie.Need-same-length
-same-length c = search needs
-
 returns : tie.Need-returns
 returns c =
     let a = c .before .before .before .before .before .before .before .before .args in
@@ -44,9 +35,6 @@ returns c =
     let h = sym (c .before .before .before .before .before .is-fault .ensures) ∙ c .before .before .before .before .if1 .taken in
     let text = bfileText (map (countOf P E) (row 0 (suc (a .n)))) in
     (writes-as (put .0) (only-line (f .result) text h ∙ ap (λ (x : Fault). printedOr x text) (f .ensures)), put .1)
-
-slice-aggregate-all-counts : tie.Need-slice-aggregate-all-counts
-slice-aggregate-all-counts c = search needs
 
 all-counts-requires : tie.Need-all-counts-requires
 all-counts-requires c κs =
@@ -61,9 +49,6 @@ put-counts-requires c κs =
     let a = c .before .before .before .before .before .before .before .before .args in
     let f = c .before .before .before .before .before .before .table-fault in
     table-good (schemeIn (a .scheme)) (a .n) CELLS (sym (f .ensures) ∙ not-faulty (f .result) (sym (c .before .before .before .before .before .is-fault .ensures) ∙ c .before .before .before .before .if1 .left)) .0
-
-same-length-2 : tie.Need-same-length-2
-same-length-2 c = search needs
 
 returns-2 : tie.Need-returns-2
 returns-2 c =
@@ -84,12 +69,12 @@ put-table-spec =
     tie.close
     (tie.spec
     table-fault-requires
-    is-fault-requires
-    put-fault-requires
-    same-length
+    (λ c κs. search needs)
+    (λ c κs. search needs)
+    (λ c. search needs)
     returns
-    slice-aggregate-all-counts
+    (λ c. search needs)
     all-counts-requires
     put-counts-requires
-    same-length-2
+    (λ c. search needs)
     returns-2)

@@ -11,17 +11,8 @@ use Rattle.table_text.proofs.printing.put_line.Tie as tie
 put-decimal-requires : tie.Need-put-decimal-requires
 put-decimal-requires c κs = room-decimal _ _ (search needs) (search needs)
 
-put-requires : tie.Need-put-requires
-put-requires c κs = search needs
-
 put-decimal-requires-2 : tie.Need-put-decimal-requires-2
 put-decimal-requires-2 c κs = room-decimal _ _ (search needs) (search needs)
-
-put-requires-2 : tie.Need-put-requires-2
-put-requires-2 c κs = search needs
-
-same-length : tie.Need-same-length
-same-length c = search needs
 
 returns : tie.Need-returns
 returns c =
@@ -37,8 +28,8 @@ put-line-spec =
     tie.close
     (tie.spec
     put-decimal-requires
-    put-requires
+    (λ c κs. search needs)
     put-decimal-requires-2
-    put-requires-2
-    same-length
+    (λ c κs. search needs)
+    (λ c. search needs)
     returns)

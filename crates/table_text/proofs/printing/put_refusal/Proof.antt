@@ -10,35 +10,11 @@ use borrow.Author.Needs.{needs}
 use Rattle.table_text.proofs.printing.put_refusal.Statement.{statement}
 use Rattle.table_text.proofs.printing.put_refusal.Tie as tie
 
-slice-aggregate-put-bytes : tie.Need-slice-aggregate-put-bytes
-slice-aggregate-put-bytes c = search needs
-
-put-bytes-requires : tie.Need-put-bytes-requires
-put-bytes-requires c κs = search needs
-
-put-requires : tie.Need-put-requires
-put-requires c κs = search needs
-
-number-requires : tie.Need-number-requires
-number-requires c κs = search needs
-
-wide-requires : tie.Need-wide-requires
-wide-requires c κs = search needs
-
 put-decimal-requires : tie.Need-put-decimal-requires
 put-decimal-requires c κs = room-decimal _ _ (search needs) (search needs)
 
-put-requires-2 : tie.Need-put-requires-2
-put-requires-2 c κs = search needs
-
 put-decimal-requires-2 : tie.Need-put-decimal-requires-2
 put-decimal-requires-2 c κs = room-decimal _ _ (search needs) (search needs)
-
-put-requires-3 : tie.Need-put-requires-3
-put-requires-3 c κs = search needs
-
-same-length : tie.Need-same-length
-same-length c = search needs
 
 returns : tie.Need-returns
 returns c =
@@ -55,14 +31,14 @@ pub put-refusal-spec : {M : Type 1} → statement M
 put-refusal-spec =
     tie.close
     (tie.spec
-    slice-aggregate-put-bytes
-    put-bytes-requires
-    put-requires
-    number-requires
-    wide-requires
+    (λ c. search needs)
+    (λ c κs. search needs)
+    (λ c κs. search needs)
+    (λ c κs. search needs)
+    (λ c κs. search needs)
     put-decimal-requires
-    put-requires-2
+    (λ c κs. search needs)
     put-decimal-requires-2
-    put-requires-3
-    same-length
+    (λ c κs. search needs)
+    (λ c. search needs)
     returns)

@@ -16,11 +16,8 @@ shared-slice-read-wide c = digits-in (c .before .before .args .s .now) (c .befor
 sub-wide : tie.Need-sub-wide
 sub-wide c = digits-in (c .before .before .args .s .now) (c .before .before .args .from) (c .before .before .args .i) (c .before .before .pre) .1
 
-wide-requires : tie.Need-wide-requires
-wide-requires c κs = search needs
-
 returns : tie.Need-returns
 returns c = digit-is (c .before .before .before .args .s .now) (c .before .before .before .args .from) (c .before .before .before .args .i) (c .wide .result) (c .before .before .before .pre) (c .wide .ensures .0)
 
 pub digit-of-spec : {M : Type 1} → statement M
-digit-of-spec = tie.close (tie.spec add-k shared-slice-read-wide sub-wide wide-requires returns)
+digit-of-spec = tie.close (tie.spec add-k shared-slice-read-wide sub-wide (λ c κs. search needs) returns)

@@ -7,15 +7,6 @@ use borrow.Author.Needs.{needs}
 use Rattle.text_gaps.proofs.gap_reader.gap_at.Statement.{statement}
 use Rattle.text_gaps.proofs.gap_reader.gap_at.Tie as tie
 
-step-requires : tie.Need-step-requires
-step-requires c κs = search needs
-
-is-left-requires : tie.Need-is-left-requires
-is-left-requires c κs = search needs
-
-no-gap-requires : tie.Need-no-gap-requires
-no-gap-requires c κs = search needs
-
 returns : tie.Need-returns
 returns c = vector-none (c .before .before .before .before .before .before .args .s .now) (c .before .before .before .before .before .before .args .c .at) (c .before .before .before .before .step .result) (c .before .before .before .before .step .ensures) (sym (c .before .before .is-left .ensures) ∙ not-true _ (c .before .if1 .taken)) (c .no-gap .result)
 
@@ -28,4 +19,4 @@ returns-2 c = vector-parts (c .before .before .before .before .before .before .a
 pub gap-at-spec : {M : Type 1} → statement M
 gap-at-spec =
     tie.close
-    (tie.spec step-requires is-left-requires no-gap-requires returns parts-at-requires returns-2)
+    (tie.spec (λ c κs. search needs) (λ c κs. search needs) (λ c κs. search needs) returns parts-at-requires returns-2)

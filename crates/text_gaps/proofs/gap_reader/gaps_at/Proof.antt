@@ -7,23 +7,8 @@ use borrow.Author.Needs.{needs}
 use Rattle.text_gaps.proofs.gap_reader.gaps_at.Statement.{statement}
 use Rattle.text_gaps.proofs.gap_reader.gaps_at.Tie as tie
 
-step-requires : tie.Need-step-requires
-step-requires c κs = search needs
-
-is-empty-requires : tie.Need-is-empty-requires
-is-empty-requires c κs = search needs
-
-no-gaps-requires : tie.Need-no-gaps-requires
-no-gaps-requires c κs = search needs
-
 returns : tie.Need-returns
 returns c = list-empty (c .before .before .before .before .before .before .args .s .now) (c .before .before .before .before .before .before .args .c .at) (c .before .before .before .before .step .result) (c .before .before .before .before .step .ensures) (sym (c .before .before .is-empty .ensures) ∙ c .before .if1 .taken) (c .no-gaps .result) (c .no-gaps .ensures)
-
-is-byte-requires : tie.Need-is-byte-requires
-is-byte-requires c κs = search needs
-
-no-gaps-requires-2 : tie.Need-no-gaps-requires-2
-no-gaps-requires-2 c κs = search needs
 
 returns-2 : tie.Need-returns-2
 returns-2 c = list-none (c .before .before .before .before .before .before .before .before .args .s .now) (c .before .before .before .before .before .before .before .before .args .c .at) (c .before .before .before .before .before .before .step .result) (c .before .before .before .before .before .before .step .ensures) (sym (c .before .before .before .before .is-empty .ensures) ∙ c .before .before .before .if1 .left) (sym (c .before .before .is-byte .ensures) ∙ not-true _ (c .before .if2 .taken)) (c .no-gaps2 .result)
@@ -38,12 +23,12 @@ pub gaps-at-spec : {M : Type 1} → statement M
 gaps-at-spec =
     tie.close
     (tie.spec
-    step-requires
-    is-empty-requires
-    no-gaps-requires
+    (λ c κs. search needs)
+    (λ c κs. search needs)
+    (λ c κs. search needs)
     returns
-    is-byte-requires
-    no-gaps-requires-2
+    (λ c κs. search needs)
+    (λ c κs. search needs)
     returns-2
     vectors-at-requires
     returns-3)

@@ -1,5 +1,5 @@
--- `text_gaps::gap_reader::number_at` meets its contract: a run of digits is the number of the run, and nothing else is a number.
--- Assumes nothing.
+-- `text_gaps::gap_reader::number_at` meets its contract: a run of digits is the number of the run,
+-- and nothing else is a number. Assumes nothing.
 use mathlib.Core.Path.{sym, _∙_}
 use borrow.Author.Tests.{not-true, not-false}
 use Rattle.text_gaps.proofs.GapNumberLaws.{number-other, run-length, number-run}
@@ -7,17 +7,8 @@ use borrow.Author.Needs.{needs}
 use Rattle.text_gaps.proofs.gap_reader.number_at.Statement.{statement}
 use Rattle.text_gaps.proofs.gap_reader.number_at.Tie as tie
 
-step-requires : tie.Need-step-requires
-step-requires c κs = search needs
-
-is-digits-requires : tie.Need-is-digits-requires
-is-digits-requires c κs = search needs
-
 returns : tie.Need-returns
 returns c = number-other (c .before .before .before .before .before .args .s .now) (c .before .before .before .before .before .args .c .at) (c .before .before .before .step .result) (c .before .before .before .step .ensures) (sym (c .before .is-digits .ensures) ∙ not-true _ (c .if1 .taken))
-
-sub-len : tie.Need-sub-len
-sub-len c = search needs
 
 number-of-requires : tie.Need-number-of-requires
 number-of-requires c κs = run-length (c .before .before .before .before .before .before .args .s .now) (c .before .before .before .before .before .before .args .c .at) (c .before .before .before .before .step .result) (c .before .before .before .before .step .ensures) (sym (c .before .before .is-digits .ensures) ∙ not-false _ (c .before .if1 .left))
@@ -27,4 +18,4 @@ returns-2 c = number-run (c .before .before .before .before .before .before .bef
 
 pub number-at-spec : {M : Type 1} → statement M
 number-at-spec =
-    tie.close (tie.spec step-requires is-digits-requires returns sub-len number-of-requires returns-2)
+    tie.close (tie.spec (λ c κs. search needs) (λ c κs. search needs) returns (λ c. search needs) number-of-requires returns-2)

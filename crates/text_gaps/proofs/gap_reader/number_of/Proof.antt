@@ -9,57 +9,21 @@ use borrow.Author.Needs.{needs}
 use Rattle.text_gaps.proofs.gap_reader.number_of.Statement.{statement}
 use Rattle.text_gaps.proofs.gap_reader.number_of.Tie as tie
 
-no-number-requires : tie.Need-no-number-requires
-no-number-requires c κs = search needs
-
 returns : tie.Need-returns
 returns c = number-empty (run (drop (c .before .before .before .args .from) (c .before .before .before .args .s .now))) (c .no-number .result) (c .no-number .ensures) (sym (c .before .before .before .pre) ∙ c .before .if1 .taken)
-
-no-number-requires-2 : tie.Need-no-number-requires-2
-no-number-requires-2 c κs = search needs
 
 returns-2 : tie.Need-returns-2
 returns-2 c = number-long (run (drop (c .before .before .before .before .args .from) (c .before .before .before .before .args .s .now))) (c .no-number2 .result) (c .no-number2 .ensures) (omega (arith, c .before .before .before .before .pre))
 
-digit-of-requires : tie.Need-digit-of-requires
-digit-of-requires c κs = search needs
-
 returns-3 : tie.Need-returns-3
 returns-3 c = number-one (run (drop (c .before .before .before .before .before .args .from) (c .before .before .before .before .before .args .s .now))) (c .before .digit-of .result) (sym (c .before .before .before .before .before .pre) ∙ c .if3 .taken) (c .before .digit-of .ensures)
-
-no-number-requires-3 : tie.Need-no-number-requires-3
-no-number-requires-3 c κs = search needs
 
 returns-4 : tie.Need-returns-4
 returns-4 c = number-zero (run (drop (c .before .before .before .before .before .before .before .args .from) (c .before .before .before .before .before .before .before .args .s .now))) (c .no-number3 .result) (c .before .before .before .digit-of .result) (c .no-number3 .ensures) (omega (arith, c .before .before .before .before .before .before .before .pre, c .before .before .if3 .left, c .before .before .before .before .before .if1 .left)) (c .before .before .before .digit-of .ensures)
     (c .before .if4 .taken)
 
-digit-of-requires-2 : tie.Need-digit-of-requires-2
-digit-of-requires-2 c κs = search needs
-
-mul-t8 : tie.Need-mul-t8
-mul-t8 c = search needs
-
-add-t9 : tie.Need-add-t9
-add-t9 c = search needs
-
 returns-5 : tie.Need-returns-5
 returns-5 c = number-two (run (drop (c .before .before .before .before .before .before .before .before .args .from) (c .before .before .before .before .before .before .before .before .args .s .now))) (c .before .before .before .before .digit-of .result) (c .before .digit-of2 .result) (sym (c .before .before .before .before .before .before .before .before .pre) ∙ c .if5 .taken) (c .before .before .before .before .digit-of .ensures) (omega (arith, c .before .before .if4 .left)) (c .before .digit-of2 .ensures)
-
-digit-of-requires-3 : tie.Need-digit-of-requires-3
-digit-of-requires-3 c κs = search needs
-
-mul-t10 : tie.Need-mul-t10
-mul-t10 c = search needs
-
-add-t11 : tie.Need-add-t11
-add-t11 c = search needs
-
-mul-t12 : tie.Need-mul-t12
-mul-t12 c = search needs
-
-add-t13 : tie.Need-add-t13
-add-t13 c = search needs
 
 returns-6 : tie.Need-returns-6
 returns-6 c = number-three (run (drop (c .before .before .before .before .before .before .before .before .before .args .from) (c .before .before .before .before .before .before .before .before .before .args .s .now))) (c .before .before .before .before .before .digit-of .result) (c .before .before .digit-of2 .result) (c .digit-of3 .result)
@@ -69,21 +33,21 @@ pub number-of-spec : {M : Type 1} → statement M
 number-of-spec =
     tie.close
     (tie.spec
-    no-number-requires
+    (λ c κs. search needs)
     returns
-    no-number-requires-2
+    (λ c κs. search needs)
     returns-2
-    digit-of-requires
+    (λ c κs. search needs)
     returns-3
-    no-number-requires-3
+    (λ c κs. search needs)
     returns-4
-    digit-of-requires-2
-    mul-t8
-    add-t9
+    (λ c κs. search needs)
+    (λ c. search needs)
+    (λ c. search needs)
     returns-5
-    digit-of-requires-3
-    mul-t10
-    add-t11
-    mul-t12
-    add-t13
+    (λ c κs. search needs)
+    (λ c. search needs)
+    (λ c. search needs)
+    (λ c. search needs)
+    (λ c. search needs)
     returns-6)

@@ -7,9 +7,6 @@ use borrow.Author.Needs.{needs}
 use Rattle.text_gaps.proofs.gap_reader.part.Statement.{statement}
 use Rattle.text_gaps.proofs.gap_reader.part.Tie as tie
 
-cast-result : tie.Need-cast-result
-cast-result c = search needs
-
 returns : tie.Need-returns
 returns c = sym (part-same (c .before .args .n) (omega arith))
 
@@ -17,4 +14,4 @@ returns-2 : tie.Need-returns-2
 returns-2 c = sym (part-most (c .before .args .n) (omega arith))
 
 pub part-spec : {M : Type 1} → statement M
-part-spec = tie.close (tie.spec cast-result returns returns-2)
+part-spec = tie.close (tie.spec (λ c. search needs) returns returns-2)

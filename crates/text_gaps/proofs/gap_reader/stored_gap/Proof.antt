@@ -1,5 +1,5 @@
--- `text_gaps::gap_reader::stored_gap` meets its contract: within the arrays the vector is stored, behind them only counted.
--- Assumes nothing.
+-- `text_gaps::gap_reader::stored_gap` meets its contract: within the arrays the vector is stored,
+-- behind them only counted. Assumes nothing.
 use Prim.Native.Nat.{_*_, _≤_}
 use mathlib.Core.Path.{_≡_}
 use native.Mathlib.Omega.{arith}
@@ -10,25 +10,10 @@ use borrow.Author.Needs.{needs}
 use Rattle.text_gaps.proofs.gap_reader.stored_gap.Statement.{statement}
 use Rattle.text_gaps.proofs.gap_reader.stored_gap.Tie as tie
 
-with-gap-requires : tie.Need-with-gap-requires
-with-gap-requires c κs = search needs
-
-part-requires : tie.Need-part-requires
-part-requires c κs = search needs
-
-array-write-widths : tie.Need-array-write-widths
-array-write-widths c = search needs
-
-add-t13 : tie.Need-add-t13
-add-t13 c = search needs
-
 returns : tie.Need-returns
 returns c =
     let a = c .before .before .before .before .before .before .args in
     gap-kept (a .gaps) (a .g) (c .before .with-gap .result) (c .part .result) (c .before .with-gap .ensures) (c .part .ensures)
-
-add-t15 : tie.Need-add-t15
-add-t15 c = search needs
 
 returns-2 : tie.Need-returns-2
 returns-2 c =
@@ -41,4 +26,4 @@ returns-2 c =
 pub stored-gap-spec : {M : Type 1} → statement M
 stored-gap-spec =
     tie.close
-    (tie.spec with-gap-requires part-requires array-write-widths add-t13 returns add-t15 returns-2)
+    (tie.spec (λ c κs. search needs) (λ c κs. search needs) (λ c. search needs) (λ c. search needs) returns (λ c. search needs) returns-2)

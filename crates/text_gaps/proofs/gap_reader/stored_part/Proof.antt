@@ -1,5 +1,5 @@
--- `text_gaps::gap_reader::stored_part` meets its contract: within the array the component is stored, behind it only counted.
--- Assumes nothing.
+-- `text_gaps::gap_reader::stored_part` meets its contract: within the array the component is
+-- stored, behind it only counted. Assumes nothing.
 use mathlib.Core.Path.{_≡_}
 use native.Mathlib.Omega.{arith}
 use lib.ListN.{length}
@@ -8,20 +8,8 @@ use borrow.Author.Needs.{needs}
 use Rattle.text_gaps.proofs.gap_reader.stored_part.Statement.{statement}
 use Rattle.text_gaps.proofs.gap_reader.stored_part.Tie as tie
 
-part-requires : tie.Need-part-requires
-part-requires c κs = search needs
-
-array-write-parts : tie.Need-array-write-parts
-array-write-parts c = search needs
-
-add-t10 : tie.Need-add-t10
-add-t10 c = search needs
-
 returns : tie.Need-returns
 returns c = part-kept (c .before .before .before .args .gap) (c .before .before .before .args .n) (c .part .result) (c .part .ensures)
-
-add-t12 : tie.Need-add-t12
-add-t12 c = search needs
 
 returns-2 : tie.Need-returns-2
 returns-2 c = let e : length (c .before .before .args .gap .parts) ≡ 7 = search needs in
@@ -29,4 +17,4 @@ returns-2 c = let e : length (c .before .before .args .gap .parts) ≡ 7 = searc
 
 pub stored-part-spec : {M : Type 1} → statement M
 stored-part-spec =
-    tie.close (tie.spec part-requires array-write-parts add-t10 returns add-t12 returns-2)
+    tie.close (tie.spec (λ c κs. search needs) (λ c. search needs) (λ c. search needs) returns (λ c. search needs) returns-2)

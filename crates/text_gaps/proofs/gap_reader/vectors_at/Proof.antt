@@ -1,5 +1,5 @@
--- `text_gaps::gap_reader::vectors_at` meets its contract: what is read in all is what is read from the place on.
--- Assumes nothing.
+-- `text_gaps::gap_reader::vectors_at` meets its contract: what is read in all is what is read from
+-- the place on. Assumes nothing.
 use Prim.Native.Nat.{_≤_}
 use mathlib.Core.Path.{_≡_, sym, _∙_}
 use native.Mathlib.Omega.{arith}
@@ -24,19 +24,10 @@ Inv-loop s m₀ m =
 abbrev μ-loop : tie.MeasureT-loop
 μ-loop s m₀ m = leftOf s (m .turn) (m .next .at)
 
-no-gaps-requires : tie.Need-no-gaps-requires Inv-loop μ-loop
-no-gaps-requires c κs = search needs
-
 loop-holds : tie.Need-loop-holds Inv-loop μ-loop
 loop-holds c = let a = c .before .before .args in
     let z = no-vectors (c .no-gaps .result) (c .no-gaps .ensures) in
     (vectors-start (c .no-gaps .result) (tokens (drop (a .c .at) (a .s .now))) (c .no-gaps .ensures), record { inside = c .before .before .pre; counted = omega arith }, omega arith)
-
-goes-on-requires : tie.Need-goes-on-requires Inv-loop μ-loop
-goes-on-requires c κs = search needs
-
-is-done-requires : tie.Need-is-done-requires Inv-loop μ-loop
-is-done-requires c κs = search needs
 
 returns : tie.Need-returns Inv-loop μ-loop
 returns c = let a = c .before .before .before .before .before .before .before .before .args in
@@ -60,10 +51,10 @@ vectors-at-spec =
     (tie.spec
     Inv-loop
     μ-loop
-    no-gaps-requires
+    (λ c κs. search needs)
     loop-holds
-    goes-on-requires
-    is-done-requires
+    (λ c κs. search needs)
+    (λ c κs. search needs)
     returns
     with-vector-requires
     loop-less

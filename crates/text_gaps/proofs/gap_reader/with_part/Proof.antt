@@ -8,27 +8,9 @@ use borrow.Author.Needs.{needs}
 use Rattle.text_gaps.proofs.gap_reader.with_part.Statement.{statement}
 use Rattle.text_gaps.proofs.gap_reader.with_part.Tie as tie
 
-number-at-requires : tie.Need-number-at-requires
-number-at-requires c κs = search needs
-
 returns : tie.Need-returns
 returns c = let a = c .before .before .before .before .before .before .args in
     part-wrong (a .s .now) (a .m .turn) (a .m .gap) (a .m .next .at) (c .before .before .before .before .before .before .pre) (c .before .before .number-at .result) (c .before .before .number-at .ensures) (not-true _ (c .if1 .taken))
-
-stored-part-requires : tie.Need-stored-part-requires
-stored-part-requires c κs = search needs
-
-step-requires : tie.Need-step-requires
-step-requires c κs = search needs
-
-is-right-requires : tie.Need-is-right-requires
-is-right-requires c κs = search needs
-
-is-byte-requires : tie.Need-is-byte-requires
-is-byte-requires c κs = search needs
-
-turn-of-requires : tie.Need-turn-of-requires
-turn-of-requires c κs = search needs
 
 returns-2 : tie.Need-returns-2
 returns-2 c = let a = c .before .before .before .before .before .before .before .before .before .before .before .before .before .args in
@@ -39,11 +21,11 @@ pub with-part-spec : {M : Type 1} → statement M
 with-part-spec =
     tie.close
     (tie.spec
-    number-at-requires
+    (λ c κs. search needs)
     returns
-    stored-part-requires
-    step-requires
-    is-right-requires
-    is-byte-requires
-    turn-of-requires
+    (λ c κs. search needs)
+    (λ c κs. search needs)
+    (λ c κs. search needs)
+    (λ c κs. search needs)
+    (λ c κs. search needs)
     returns-2)

@@ -8,27 +8,9 @@ use borrow.Author.Needs.{needs}
 use Rattle.text_gaps.proofs.gap_reader.with_vector.Statement.{statement}
 use Rattle.text_gaps.proofs.gap_reader.with_vector.Tie as tie
 
-gap-at-requires : tie.Need-gap-at-requires
-gap-at-requires c κs = search needs
-
 returns : tie.Need-returns
 returns c = let a = c .before .before .before .before .before .before .args in
     gap-wrong (a .s .now) (a .m .turn) (a .m .gaps) (a .m .next .at) (c .before .before .before .before .before .before .pre) (c .before .before .gap-at .result) (c .before .before .gap-at .ensures) (not-true _ (c .if1 .taken))
-
-stored-gap-requires : tie.Need-stored-gap-requires
-stored-gap-requires c κs = search needs
-
-step-requires : tie.Need-step-requires
-step-requires c κs = search needs
-
-is-byte-requires : tie.Need-is-byte-requires
-is-byte-requires c κs = search needs
-
-is-byte-requires-2 : tie.Need-is-byte-requires-2
-is-byte-requires-2 c κs = search needs
-
-turn-of-requires : tie.Need-turn-of-requires
-turn-of-requires c κs = search needs
 
 returns-2 : tie.Need-returns-2
 returns-2 c = let a = c .before .before .before .before .before .before .before .before .before .before .before .before .before .before .args in
@@ -39,11 +21,11 @@ pub with-vector-spec : {M : Type 1} → statement M
 with-vector-spec =
     tie.close
     (tie.spec
-    gap-at-requires
+    (λ c κs. search needs)
     returns
-    stored-gap-requires
-    step-requires
-    is-byte-requires
-    is-byte-requires-2
-    turn-of-requires
+    (λ c κs. search needs)
+    (λ c κs. search needs)
+    (λ c κs. search needs)
+    (λ c κs. search needs)
+    (λ c κs. search needs)
     returns-2)

@@ -1,49 +1,25 @@
--- `text_grammar::cursor::mark_at` meets its contract: each test that was made decides one test of the definition.
--- Assumes nothing.
+-- `text_grammar::cursor::mark_at` meets its contract: each test that was made decides one test of
+-- the definition. Assumes nothing.
 use mathlib.Core.Path.{sym, _∙_}
 use Rattle.text_grammar.proofs.CursorLaws.{is-epsilon, is-empty, is-left, is-right, is-byte}
 use borrow.Author.Needs.{needs}
 use Rattle.text_grammar.proofs.cursor.mark_at.Statement.{statement}
 use Rattle.text_grammar.proofs.cursor.mark_at.Tie as tie
 
-slice-aggregate-begins-with : tie.Need-slice-aggregate-begins-with
-slice-aggregate-begins-with c = search needs
-
-begins-with-requires : tie.Need-begins-with-requires
-begins-with-requires c κs = search needs
-
 returns : tie.Need-returns
 returns c = let a = c .before .before .before .before .args in
     sym (is-epsilon (a .x) (a .s .now) (sym (c .before .begins-with .ensures) ∙ c .if1 .taken))
-
-slice-aggregate-begins-with-2 : tie.Need-slice-aggregate-begins-with-2
-slice-aggregate-begins-with-2 c = search needs
-
-begins-with-requires-2 : tie.Need-begins-with-requires-2
-begins-with-requires-2 c κs = search needs
 
 returns-2 : tie.Need-returns-2
 returns-2 c = let a = c .before .before .before .before .before .before .before .args in
     let e = sym (c .before .before .before .before .begins-with .ensures) ∙ c .before .before .before .if1 .left in
     sym (is-empty (a .x) (a .s .now) e (sym (c .before .begins-with2 .ensures) ∙ c .if2 .taken))
 
-slice-aggregate-begins-with-3 : tie.Need-slice-aggregate-begins-with-3
-slice-aggregate-begins-with-3 c = search needs
-
-begins-with-requires-3 : tie.Need-begins-with-requires-3
-begins-with-requires-3 c κs = search needs
-
 returns-3 : tie.Need-returns-3
 returns-3 c = let a = c .before .before .before .before .before .before .before .before .before .before .args in
     let e = sym (c .before .before .before .before .before .before .before .begins-with .ensures) ∙ c .before .before .before .before .before .before .if1 .left in
     let f = sym (c .before .before .before .before .begins-with2 .ensures) ∙ c .before .before .before .if2 .left in
     sym (is-left (a .x) (a .s .now) e f (sym (c .before .begins-with3 .ensures) ∙ c .if3 .taken))
-
-slice-aggregate-begins-with-4 : tie.Need-slice-aggregate-begins-with-4
-slice-aggregate-begins-with-4 c = search needs
-
-begins-with-requires-4 : tie.Need-begins-with-requires-4
-begins-with-requires-4 c κs = search needs
 
 returns-4 : tie.Need-returns-4
 returns-4 c = let a = c .before .before .before .before .before .before .before .before .before .before .before .before .before .args in
@@ -63,16 +39,16 @@ pub mark-at-spec : {M : Type 1} → statement M
 mark-at-spec =
     tie.close
     (tie.spec
-    slice-aggregate-begins-with
-    begins-with-requires
+    (λ c. search needs)
+    (λ c κs. search needs)
     returns
-    slice-aggregate-begins-with-2
-    begins-with-requires-2
+    (λ c. search needs)
+    (λ c κs. search needs)
     returns-2
-    slice-aggregate-begins-with-3
-    begins-with-requires-3
+    (λ c. search needs)
+    (λ c κs. search needs)
     returns-3
-    slice-aggregate-begins-with-4
-    begins-with-requires-4
+    (λ c. search needs)
+    (λ c κs. search needs)
     returns-4
     returns-5)

@@ -7,11 +7,8 @@ use borrow.Author.Needs.{needs}
 use Rattle.text_grammar.proofs.kinds.has_code.Statement.{statement}
 use Rattle.text_grammar.proofs.kinds.has_code.Tie as tie
 
-code-requires : tie.Need-code-requires
-code-requires c κs = search needs
-
 returns : tie.Need-returns
 returns c = ap (λ (x : ℕ). eqb x (c .before .args .n)) (c .code .ensures)
 
 pub has-code-spec : {M : Type 1} → statement M
-has-code-spec = tie.close (tie.spec code-requires returns)
+has-code-spec = tie.close (tie.spec (λ c κs. search needs) returns)

@@ -1,5 +1,5 @@
--- `text_grammar::marks::begins_with` meets its contract: the text begins with the mark if from the index on it begins with the rest.
--- Assumes nothing.
+-- `text_grammar::marks::begins_with` meets its contract: the text begins with the mark if from the
+-- index on it begins with the rest. Assumes nothing.
 use Prim.Native.Nat.{_-_}
 use mathlib.Core.Path.{_≡_, sym, _∙_}
 use borrow.Author.Needs.{needs}
@@ -16,29 +16,14 @@ Inv-loop s mark i₀ i = begins mark s ≡ begins (drop i mark) (drop i s)
 abbrev μ-loop : tie.MeasureT-loop
 μ-loop s mark i₀ i = length mark - i
 
-loop-holds : tie.Need-loop-holds Inv-loop μ-loop
-loop-holds c = search needs
-
 returns : tie.Need-returns Inv-loop μ-loop
 returns c = let a = c .before .before .before .args in
     sym (c .before .before .loop .inv ∙ begins-short (a .mark .now) (a .s .now) (c .before .before .loop .i) (omega arith) (omega arith))
-
-shared-slice-read-if2 : tie.Need-shared-slice-read-if2 Inv-loop μ-loop
-shared-slice-read-if2 c = search needs
-
-shared-slice-read-if2-2 : tie.Need-shared-slice-read-if2-2 Inv-loop μ-loop
-shared-slice-read-if2-2 c = search needs
 
 returns-2 : tie.Need-returns-2 Inv-loop μ-loop
 returns-2 c = let a = c .before .before .before .before .before .before .args in
     let l = c .before .before .before .before .before .loop in
     sym (l .inv ∙ begins-other (a .mark .now) (a .s .now) (l .i) (omega arith) (omega arith) (c .if2 .taken))
-
-add-i : tie.Need-add-i Inv-loop μ-loop
-add-i c = search needs
-
-loop-less : tie.Need-loop-less Inv-loop μ-loop
-loop-less c = search needs
 
 loop-again : tie.Need-loop-again Inv-loop μ-loop
 loop-again c = let a = c .before .before .before .before .before .before .args in
@@ -55,12 +40,12 @@ begins-with-spec =
     (tie.spec
     Inv-loop
     μ-loop
-    loop-holds
+    (λ c. search needs)
     returns
-    shared-slice-read-if2
-    shared-slice-read-if2-2
+    (λ c. search needs)
+    (λ c. search needs)
     returns-2
-    add-i
-    loop-less
+    (λ c. search needs)
+    (λ c. search needs)
     loop-again
     returns-3)

@@ -1,28 +1,16 @@
--- `text_page::bytes::put` meets its contract: a byte inside the page is one place set, and one behind its end changes nothing.
--- Assumes nothing.
+-- `text_page::bytes::put` meets its contract: a byte inside the page is one place set, and one
+-- behind its end changes nothing. Assumes nothing.
 use borrow.Author.Needs.{needs}
 use Rattle.text_page.specs.PageLaws.{one-inside, one-behind}
 use Rattle.text_page.proofs.bytes.put.Statement.{statement}
 use Rattle.text_page.proofs.bytes.put.Tie as tie
 
-slice-write-page : tie.Need-slice-write-page
-slice-write-page c = search needs
-
-add-result : tie.Need-add-result
-add-result c = search needs
-
-same-length : tie.Need-same-length
-same-length c = search needs
-
 returns : tie.Need-returns
 returns c = one-inside _ _ _
-
-add-result-2 : tie.Need-add-result-2
-add-result-2 c = search needs
 
 returns-2 : tie.Need-returns-2
 returns-2 c = one-behind _ _ _ (search needs)
 
 pub put-spec : {M : Type 1} → statement M
 put-spec =
-    tie.close (tie.spec slice-write-page add-result same-length returns add-result-2 returns-2)
+    tie.close (tie.spec (λ c. search needs) (λ c. search needs) (λ c. search needs) returns (λ c. search needs) returns-2)

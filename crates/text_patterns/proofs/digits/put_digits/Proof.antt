@@ -1,5 +1,5 @@
--- `text_patterns::digits::put_digits` meets its contract: the digits so far are the front of the run.
--- Assumes nothing.
+-- `text_patterns::digits::put_digits` meets its contract: the digits so far are the front of the
+-- run. Assumes nothing.
 use Prim.Native.Nat.{_+_, _-_, _<_}
 use mathlib.Core.Path.{_≡_, refl, _∙_}
 use native.Mathlib.Omega.{arith}
@@ -53,15 +53,6 @@ sub-digits c =
     let h : l .i < length (run (drop (a .from) (a .s .now))) = omega (arith, begin .pre) in
     digits-in (a .s .now) (a .from) (l .i) h .1
 
-slice-write-digits : tie.Need-slice-write-digits Inv-loop μ-loop
-slice-write-digits c = search needs
-
-add-i : tie.Need-add-i Inv-loop μ-loop
-add-i c = search needs
-
-loop-less : tie.Need-loop-less Inv-loop μ-loop
-loop-less c = search needs
-
 loop-again : tie.Need-loop-again Inv-loop μ-loop
 loop-again c =
     let l = c .before .before .before .loop in
@@ -94,9 +85,9 @@ put-digits-spec =
     add-k
     shared-slice-read-digits
     sub-digits
-    slice-write-digits
-    add-i
-    loop-less
+    (λ c. search needs)
+    (λ c. search needs)
+    (λ c. search needs)
     loop-again
     same-length-2
     returns-2)

@@ -1,5 +1,5 @@
--- `text_patterns::pattern_reader::load_patterns` meets its contract: what is read in all is what is read from the place on.
--- Assumes nothing.
+-- `text_patterns::pattern_reader::load_patterns` meets its contract: what is read in all is what is
+-- read from the place on. Assumes nothing.
 use mathlib.Core.Path.{sym, _∙_}
 use native.Mathlib.Omega.{arith}
 use borrow.Author.Tests.{not-true, not-false}
@@ -15,17 +15,8 @@ Inv-loop s state₀ at₀ state at = ReadTo s state at
 abbrev μ-loop : tie.MeasureT-loop
 μ-loop s state₀ at₀ state at = leftOf s (state .place) at
 
-no-patterns-requires : tie.Need-no-patterns-requires Inv-loop μ-loop
-no-patterns-requires c κs = search needs
-
 loop-holds : tie.Need-loop-holds Inv-loop μ-loop
 loop-holds c = start-read (c .before .before .args .s .now) (c .no-patterns .result) (c .no-patterns .ensures)
-
-goes-on-requires : tie.Need-goes-on-requires Inv-loop μ-loop
-goes-on-requires c κs = search needs
-
-text-of-requires : tie.Need-text-of-requires Inv-loop μ-loop
-text-of-requires c κs = search needs
 
 returns : tie.Need-returns Inv-loop μ-loop
 returns c = let l = c .before .before .before .loop in
@@ -33,12 +24,6 @@ returns c = let l = c .before .before .before .loop in
 
 sub-advance : tie.Need-sub-advance Inv-loop μ-loop
 sub-advance c = c .before .before .loop .inv .inside
-
-part-advance-start : tie.Need-part-advance-start Inv-loop μ-loop
-part-advance-start c = search needs
-
-part-advance-end : tie.Need-part-advance-end Inv-loop μ-loop
-part-advance-end c = search needs
 
 advance-requires : tie.Need-advance-requires Inv-loop μ-loop
 advance-requires c κs = let v = c .before .before .before .loop .inv in
@@ -62,14 +47,14 @@ load-patterns-spec =
     (tie.spec
     Inv-loop
     μ-loop
-    no-patterns-requires
+    (λ c κs. search needs)
     loop-holds
-    goes-on-requires
-    text-of-requires
+    (λ c κs. search needs)
+    (λ c κs. search needs)
     returns
     sub-advance
-    part-advance-start
-    part-advance-end
+    (λ c. search needs)
+    (λ c. search needs)
     advance-requires
     add-at
     loop-less

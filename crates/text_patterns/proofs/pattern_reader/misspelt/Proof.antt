@@ -8,11 +8,8 @@ use borrow.Author.Needs.{needs}
 use Rattle.text_patterns.proofs.pattern_reader.misspelt.Statement.{statement}
 use Rattle.text_patterns.proofs.pattern_reader.misspelt.Tie as tie
 
-no-patterns-requires : tie.Need-no-patterns-requires
-no-patterns-requires c κs = search needs
-
 returns : tie.Need-returns
 returns c = ap {B = PatternText} (λ (m : Patterns). record { spelt = false; patterns = m }) (c .no-patterns .ensures)
 
 pub misspelt-spec : {M : Type 1} → statement M
-misspelt-spec = tie.close (tie.spec no-patterns-requires returns)
+misspelt-spec = tie.close (tie.spec (λ c κs. search needs) returns)

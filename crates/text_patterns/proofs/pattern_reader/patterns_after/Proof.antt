@@ -9,20 +9,11 @@ use borrow.Author.Needs.{needs}
 use Rattle.text_patterns.proofs.pattern_reader.patterns_after.Statement.{statement}
 use Rattle.text_patterns.proofs.pattern_reader.patterns_after.Tie as tie
 
-is-item-requires : tie.Need-is-item-requires
-is-item-requires c κs = search needs
-
-with-item-requires : tie.Need-with-item-requires
-with-item-requires c κs = search needs
-
 returns : tie.Need-returns
 returns c =
     let a = c .before .before .before .before .args in
     c .with-item .ensures
     ∙ sym (ap (λ (b : Bool). cond b (itemAfter (a .t .kind) (run (drop (a .t .from) (a .s .now))) (a .patterns)) (a .patterns)) (sym (c .before .before .is-item .ensures) ∙ c .before .if1 .taken))
 
-returns-2 : tie.Need-returns-2
-returns-2 c = search needs
-
 pub patterns-after-spec : {M : Type 1} → statement M
-patterns-after-spec = tie.close (tie.spec is-item-requires with-item-requires returns returns-2)
+patterns-after-spec = tie.close (tie.spec (λ c κs. search needs) (λ c κs. search needs) returns (λ c. search needs))

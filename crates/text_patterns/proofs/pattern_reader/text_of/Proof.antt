@@ -9,19 +9,10 @@ use borrow.Author.Needs.{needs}
 use Rattle.text_patterns.proofs.pattern_reader.text_of.Statement.{statement}
 use Rattle.text_patterns.proofs.pattern_reader.text_of.Tie as tie
 
-is-spelt-requires : tie.Need-is-spelt-requires
-is-spelt-requires c κs = search needs
-
 returns : tie.Need-returns
 returns c =
     let m = c .before .before .before .args .m in
     sym (ap (λ (b : Bool). cond {A = PatternText} b (record { spelt = true; patterns = m .patterns }) (patternText none)) (sym (c .before .is-spelt .ensures) ∙ c .if1 .taken))
 
-misspelt-requires : tie.Need-misspelt-requires
-misspelt-requires c κs = search needs
-
-returns-2 : tie.Need-returns-2
-returns-2 c = search needs
-
 pub text-of-spec : {M : Type 1} → statement M
-text-of-spec = tie.close (tie.spec is-spelt-requires returns misspelt-requires returns-2)
+text-of-spec = tie.close (tie.spec (λ c κs. search needs) returns (λ c κs. search needs) (λ c. search needs))

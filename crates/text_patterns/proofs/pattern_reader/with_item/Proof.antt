@@ -9,19 +9,10 @@ use borrow.Author.Needs.{needs}
 use Rattle.text_patterns.proofs.pattern_reader.with_item.Statement.{statement}
 use Rattle.text_patterns.proofs.pattern_reader.with_item.Tie as tie
 
-is-digits-requires : tie.Need-is-digits-requires
-is-digits-requires c κs = search needs
-
-sub-len : tie.Need-sub-len
-sub-len c = search needs
-
 digits-at-requires : tie.Need-digits-at-requires
 digits-at-requires c κs =
     let a = c .before .before .before .before .args in
     run-length (a .s .now) (a .t) (a .patterns) (c .before .before .before .before .pre) (sym (c .before .before .is-digits .ensures) ∙ c .before .if1 .taken)
-
-stored-requires : tie.Need-stored-requires
-stored-requires c κs = search needs
 
 returns : tie.Need-returns
 returns c =
@@ -29,12 +20,6 @@ returns c =
     let k = sym (c .before .before .before .before .is-digits .ensures) ∙ c .before .before .before .if1 .taken in
     c .stored .ensures ∙ item-digits (a .t .kind) (run (drop (a .t .from) (a .s .now))) (a .patterns) (c .before .digits-at .result) (a .t .next .at - a .t .from) k (c .before .digits-at .ensures)
     (run-length (a .s .now) (a .t) (a .patterns) (c .before .before .before .before .before .before .pre) k)
-
-is-epsilon-requires : tie.Need-is-epsilon-requires
-is-epsilon-requires c κs = search needs
-
-stored-requires-2 : tie.Need-stored-requires-2
-stored-requires-2 c κs = search needs
 
 returns-2 : tie.Need-returns-2
 returns-2 c =
@@ -52,12 +37,12 @@ pub with-item-spec : {M : Type 1} → statement M
 with-item-spec =
     tie.close
     (tie.spec
-    is-digits-requires
-    sub-len
+    (λ c κs. search needs)
+    (λ c. search needs)
     digits-at-requires
-    stored-requires
+    (λ c κs. search needs)
     returns
-    is-epsilon-requires
-    stored-requires-2
+    (λ c κs. search needs)
+    (λ c κs. search needs)
     returns-2
     returns-3)

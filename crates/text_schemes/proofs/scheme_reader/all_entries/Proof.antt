@@ -1,5 +1,5 @@
--- `text_schemes::scheme_reader::all_entries` meets its contract: what is read in all is what is read from the place on.
--- Assumes nothing.
+-- `text_schemes::scheme_reader::all_entries` meets its contract: what is read in all is what is
+-- read from the place on. Assumes nothing.
 use native.Mathlib.Omega.{arith}
 use Prim.Native.Nat.{_-_}
 use lib.ListN.{length}
@@ -15,26 +15,11 @@ Inv-loop s entries₀ count₀ at₀ spelt₀ more₀ entries count at spelt mor
 abbrev μ-loop : tie.MeasureT-loop
 μ-loop s entries₀ count₀ at₀ spelt₀ more₀ entries count at spelt more = leftBy more (length s - at)
 
-no-entries-requires : tie.Need-no-entries-requires Inv-loop μ-loop
-no-entries-requires c κs = search needs
-
-goes-on-requires : tie.Need-goes-on-requires Inv-loop μ-loop
-goes-on-requires c κs = search needs
-
 loop-holds : tie.Need-loop-holds Inv-loop μ-loop
 loop-holds c = start-read (c .before .before .before .before .args .s .now) (c .before .before .before .before .args .mark) (c .before .before .before .before .pre) (c .before .before .no-entries .result) (c .goes-on .result) (c .before .before .no-entries .ensures) (c .goes-on .ensures)
 
 sub-item-at : tie.Need-sub-item-at Inv-loop μ-loop
 sub-item-at c = c .before .loop .inv .inside
-
-part-item-at-start : tie.Need-part-item-at-start Inv-loop μ-loop
-part-item-at-start c = search needs
-
-part-item-at-end : tie.Need-part-item-at-end Inv-loop μ-loop
-part-item-at-end c = search needs
-
-item-at-requires : tie.Need-item-at-requires Inv-loop μ-loop
-item-at-requires c κs = search needs
 
 add-at : tie.Need-add-at Inv-loop μ-loop
 add-at c = let l = c .before .before .before .before .before .loop in
@@ -51,15 +36,6 @@ loop-less c = let l = c .before .before .before .before .before .before .loop in
 loop-again : tie.Need-loop-again Inv-loop μ-loop
 loop-again c = let l = c .before .before .before .before .before .before .loop in
     read-counted (c .before .before .before .before .before .before .before .before .before .before .before .args .s .now) (made (l .entries) (l .count)) (l .at) (l .more) (l .spelt) (c .before .before .before .before .before .loop-test .taken) (l .inv) (c .before .before .before .item-at .result) (c .before .before .before .item-at .ensures) (c .if1 .taken)
-
-mul-entries : tie.Need-mul-entries Inv-loop μ-loop
-mul-entries c = search needs
-
-array-set-from-entries : tie.Need-array-set-from-entries Inv-loop μ-loop
-array-set-from-entries c = search needs
-
-add-count-2 : tie.Need-add-count-2 Inv-loop μ-loop
-add-count-2 c = search needs
 
 loop-less-2 : tie.Need-loop-less-2 Inv-loop μ-loop
 loop-less-2 c = let l = c .before .before .before .before .before .before .loop in
@@ -79,20 +55,20 @@ all-entries-spec =
     (tie.spec
     Inv-loop
     μ-loop
-    no-entries-requires
-    goes-on-requires
+    (λ c κs. search needs)
+    (λ c κs. search needs)
     loop-holds
     sub-item-at
-    part-item-at-start
-    part-item-at-end
-    item-at-requires
+    (λ c. search needs)
+    (λ c. search needs)
+    (λ c κs. search needs)
     add-at
     add-count
     loop-less
     loop-again
-    mul-entries
-    array-set-from-entries
-    add-count-2
+    (λ c. search needs)
+    (λ c. search needs)
+    (λ c. search needs)
     loop-less-2
     loop-again-2
     returns)

@@ -10,16 +10,10 @@ use Rattle.text_patterns.proofs.FilledLaws.{sets-filled}
 use Rattle.text_schemes.proofs.scheme_reader.digits_at.Statement.{statement}
 use Rattle.text_schemes.proofs.scheme_reader.digits_at.Tie as tie
 
-slice-aggregate-put-digits : tie.Need-slice-aggregate-put-digits
-slice-aggregate-put-digits c = search needs
-
-put-digits-requires : tie.Need-put-digits-requires
-put-digits-requires c κs = search needs
-
 returns : tie.Need-returns
 returns c =
     let a = c .before .before .before .before .args in
     c .before .put-digits .ensures ∙ sets-filled PREFIX 0 [] (run (drop (a .from) (a .s .now)))
 
 pub digits-at-spec : {M : Type 1} → statement M
-digits-at-spec = tie.close (tie.spec slice-aggregate-put-digits put-digits-requires returns)
+digits-at-spec = tie.close (tie.spec (λ c. search needs) (λ c κs. search needs) returns)

@@ -1,24 +1,9 @@
--- `text_schemes::scheme_reader::head_at` meets its contract: a mark, a prefix and a mark are read one after the other.
--- Assumes nothing.
+-- `text_schemes::scheme_reader::head_at` meets its contract: a mark, a prefix and a mark are read
+-- one after the other. Assumes nothing.
 use Rattle.text_schemes.proofs.EntryTextLaws.{headed}
 use borrow.Author.Needs.{needs}
 use Rattle.text_schemes.proofs.scheme_reader.head_at.Statement.{statement}
 use Rattle.text_schemes.proofs.scheme_reader.head_at.Tie as tie
-
-byte-at-requires : tie.Need-byte-at-requires
-byte-at-requires c κs = search needs
-
-prefix-at-requires : tie.Need-prefix-at-requires
-prefix-at-requires c κs = search needs
-
-byte-at-requires-2 : tie.Need-byte-at-requires-2
-byte-at-requires-2 c κs = search needs
-
-both-requires : tie.Need-both-requires
-both-requires c κs = search needs
-
-both-requires-2 : tie.Need-both-requires-2
-both-requires-2 c κs = search needs
 
 returns : tie.Need-returns
 returns c = headed (c .before .before .before .before .before .before .before .before .args .s .now) 0 (c .before .before .before .before .before .before .byte-at .result) (c .before .before .before .before .before .prefix-at .result) (c .before .before .before .before .byte-at2 .result) (c .before .before .before .both .result) (c .before .before .both2 .result)
@@ -28,9 +13,9 @@ pub head-at-spec : {M : Type 1} → statement M
 head-at-spec =
     tie.close
     (tie.spec
-    byte-at-requires
-    prefix-at-requires
-    byte-at-requires-2
-    both-requires
-    both-requires-2
+    (λ c κs. search needs)
+    (λ c κs. search needs)
+    (λ c κs. search needs)
+    (λ c κs. search needs)
+    (λ c κs. search needs)
     returns)

@@ -5,21 +5,6 @@ use borrow.Author.Needs.{needs}
 use Rattle.text_schemes.proofs.scheme_reader.item_at.Statement.{statement}
 use Rattle.text_schemes.proofs.scheme_reader.item_at.Tie as tie
 
-entry-at-requires : tie.Need-entry-at-requires
-entry-at-requires c κs = search needs
-
-separator-at-requires : tie.Need-separator-at-requires
-separator-at-requires c κs = search needs
-
-goes-on-requires : tie.Need-goes-on-requires
-goes-on-requires c κs = search needs
-
-both-requires : tie.Need-both-requires
-both-requires c κs = search needs
-
-both-requires-2 : tie.Need-both-requires-2
-both-requires-2 c κs = search needs
-
 returns : tie.Need-returns
 returns c = item-read (c .before .before .before .before .before .before .before .args .s .now) (c .before .before .before .before .before .entry-at .result) (c .before .before .before .before .before .entry-at .ensures) (c .before .before .before .before .separator-at .result) (c .before .before .before .before .separator-at .ensures) (c .before .before .before .goes-on .result) (c .before .before .both .result) (c .before .both2 .result) (c .before .before .before .goes-on .ensures) (c .before .before .both .ensures) (c .before .both2 .ensures)
 
@@ -27,9 +12,9 @@ pub item-at-spec : {M : Type 1} → statement M
 item-at-spec =
     tie.close
     (tie.spec
-    entry-at-requires
-    separator-at-requires
-    goes-on-requires
-    both-requires
-    both-requires-2
+    (λ c κs. search needs)
+    (λ c κs. search needs)
+    (λ c κs. search needs)
+    (λ c κs. search needs)
+    (λ c κs. search needs)
     returns)

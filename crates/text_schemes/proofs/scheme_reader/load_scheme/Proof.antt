@@ -1,22 +1,13 @@
--- `text_schemes::scheme_reader::load_scheme` meets its contract: ∅ or entries in braces, and nothing after them.
--- Assumes nothing.
+-- `text_schemes::scheme_reader::load_scheme` meets its contract: ∅ or entries in braces, and
+-- nothing after them. Assumes nothing.
 use Rattle.text_schemes.proofs.EntryItemLaws.{whole-text}
 use borrow.Author.Needs.{needs}
 use Rattle.text_schemes.proofs.scheme_reader.load_scheme.Statement.{statement}
 use Rattle.text_schemes.proofs.scheme_reader.load_scheme.Tie as tie
-
-opening-at-requires : tie.Need-opening-at-requires
-opening-at-requires c κs = search needs
-
-all-entries-requires : tie.Need-all-entries-requires
-all-entries-requires c κs = search needs
-
-text-of-requires : tie.Need-text-of-requires
-text-of-requires c κs = search needs
 
 returns : tie.Need-returns
 returns c = whole-text (c .before .before .before .before .args .s .now) _ (c .text-of .result) (c .text-of .ensures) (c .before .all-entries .ensures)
 
 pub load-scheme-spec : {M : Type 1} → statement M
 load-scheme-spec =
-    tie.close (tie.spec opening-at-requires all-entries-requires text-of-requires returns)
+    tie.close (tie.spec (λ c κs. search needs) (λ c κs. search needs) (λ c κs. search needs) returns)

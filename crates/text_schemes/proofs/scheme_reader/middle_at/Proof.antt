@@ -1,22 +1,13 @@
--- `text_schemes::scheme_reader::middle_at` meets its contract: gap vectors and a mark are read one after the other.
--- Assumes nothing.
+-- `text_schemes::scheme_reader::middle_at` meets its contract: gap vectors and a mark are read one
+-- after the other. Assumes nothing.
 use Rattle.text_schemes.proofs.EntryTextLaws.{middled}
 use borrow.Author.Needs.{needs}
 use Rattle.text_schemes.proofs.scheme_reader.middle_at.Statement.{statement}
 use Rattle.text_schemes.proofs.scheme_reader.middle_at.Tie as tie
-
-gaps-at-requires : tie.Need-gaps-at-requires
-gaps-at-requires c κs = search needs
-
-byte-at-requires : tie.Need-byte-at-requires
-byte-at-requires c κs = search needs
-
-both-requires : tie.Need-both-requires
-both-requires c κs = search needs
 
 returns : tie.Need-returns
 returns c = middled (c .before .before .before .before .before .before .args .s .now) 0 (c .before .before .before .before .gaps-at .result) (c .before .before .before .byte-at .result) (c .before .before .both .result)
     (c .before .before .before .before .gaps-at .ensures) (c .before .before .before .byte-at .ensures) (c .before .before .both .ensures)
 
 pub middle-at-spec : {M : Type 1} → statement M
-middle-at-spec = tie.close (tie.spec gaps-at-requires byte-at-requires both-requires returns)
+middle-at-spec = tie.close (tie.spec (λ c κs. search needs) (λ c κs. search needs) (λ c κs. search needs) returns)

@@ -1,5 +1,5 @@
--- `text_schemes::scheme_reader::prefix_at` meets its contract: the next token is a run of digits, ε, or neither.
--- Assumes nothing.
+-- `text_schemes::scheme_reader::prefix_at` meets its contract: the next token is a run of digits,
+-- ε, or neither. Assumes nothing.
 use mathlib.Core.Path.{sym, _∙_}
 use Rattle.text_schemes.proofs.EntryTextLaws.{prefixed, prefixed-other}
 use borrow.Author.Needs.{needs}
@@ -7,23 +7,11 @@ use Rattle.text_schemes.proofs.scheme_reader.prefix_at.Statement.{state
 use Rattle.text_gaps.proofs.GapNumberLaws.{run-length}
 use Rattle.text_schemes.proofs.scheme_reader.prefix_at.Tie as tie
 
-step-requires : tie.Need-step-requires
-step-requires c κs = search needs
-
-is-digits-requires : tie.Need-is-digits-requires
-is-digits-requires c κs = search needs
-
-sub-len : tie.Need-sub-len
-sub-len c = search needs
-
 digits-at-requires : tie.Need-digits-at-requires
 digits-at-requires c κs = run-length (c .before .before .before .before .before .before .args .s .now) (c .before .before .before .before .before .before .args .c .at) (c .before .before .before .before .step .result) (c .before .before .before .before .step .ensures) (sym (c .before .before .is-digits .ensures) ∙ c .before .if1 .taken)
 
 returns : tie.Need-returns
 returns c = prefixed (c .before .before .before .before .before .before .before .args .s .now) (c .before .before .before .before .before .before .before .args .c .at) (c .before .before .before .before .before .step .result) (c .before .before .before .before .before .step .ensures) (sym (c .before .before .before .is-digits .ensures) ∙ c .before .before .if1 .taken) (c .digits-at .result) (c .digits-at .ensures)
-
-is-epsilon-requires : tie.Need-is-epsilon-requires
-is-epsilon-requires c κs = search needs
 
 returns-2 : tie.Need-returns-2
 returns-2 c = prefixed-other (c .before .before .before .before .before .before .args .s .now) (c .before .before .before .before .before .before .args .c .at) (c .before .before .before .before .step .result) (c .before .before .before .before .step .ensures) (sym (c .before .before .is-digits .ensures) ∙ c .before .if1 .left) (c .is-epsilon .result) (c .is-epsilon .ensures)
@@ -32,10 +20,10 @@ pub prefix-at-spec : {M : Type 1} → statement M
 prefix-at-spec =
     tie.close
     (tie.spec
-    step-requires
-    is-digits-requires
-    sub-len
+    (λ c κs. search needs)
+    (λ c κs. search needs)
+    (λ c. search needs)
     digits-at-requires
     returns
-    is-epsilon-requires
+    (λ c κs. search needs)
     returns-2)

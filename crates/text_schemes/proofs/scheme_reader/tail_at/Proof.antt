@@ -1,22 +1,13 @@
--- `text_schemes::scheme_reader::tail_at` meets its contract: a rule and a mark are read one after the other.
--- Assumes nothing.
+-- `text_schemes::scheme_reader::tail_at` meets its contract: a rule and a mark are read one after
+-- the other. Assumes nothing.
 use Rattle.text_schemes.proofs.EntryTextLaws.{tailed}
 use borrow.Author.Needs.{needs}
 use Rattle.text_schemes.proofs.scheme_reader.tail_at.Statement.{statement}
 use Rattle.text_schemes.proofs.scheme_reader.tail_at.Tie as tie
-
-rule-at-requires : tie.Need-rule-at-requires
-rule-at-requires c κs = search needs
-
-byte-at-requires : tie.Need-byte-at-requires
-byte-at-requires c κs = search needs
-
-both-requires : tie.Need-both-requires
-both-requires c κs = search needs
 
 returns : tie.Need-returns
 returns c = tailed (c .before .before .before .before .before .args .s .now) 0 (c .before .before .before .rule-at .result) (c .before .before .byte-at .result) (c .before .both .result)
     (c .before .before .before .rule-at .ensures) (c .before .before .byte-at .ensures) (c .before .both .ensures)
 
 pub tail-at-spec : {M : Type 1} → statement M
-tail-at-spec = tie.close (tie.spec rule-at-requires byte-at-requires both-requires returns)
+tail-at-spec = tie.close (tie.spec (λ c κs. search needs) (λ c κs. search needs) (λ c κs. search needs) returns)

@@ -1,14 +1,11 @@
--- `text_writer::writing::put_deleted` meets its contract: an opening brace, the number and a closing brace.
--- Assumes nothing.
+-- `text_writer::writing::put_deleted` meets its contract: an opening brace, the number and a
+-- closing brace. Assumes nothing.
 use mathlib.Core.Path.{refl}
 use borrow.Author.Needs.{needs}
 use Rattle.text_page.specs.PageLaws.{start-as, step, finish-by, room-next, room-last}
 use Rattle.text_writer.specs.WrittenLaws.{text-deletes}
 use Rattle.text_writer.proofs.writing.put_deleted.Statement.{statement}
 use Rattle.text_writer.proofs.writing.put_deleted.Tie as tie
-
-put-requires : tie.Need-put-requires
-put-requires c κs = search needs
 
 put-number-requires : tie.Need-put-number-requires
 put-number-requires c κs =
@@ -22,9 +19,6 @@ put-requires-2 c κs =
     let whole = start-as _ _ (a .at) (a .page .now) (text-deletes (a .n)) in
     room-last (c .before .before .before .before .before .before .before .before .before .before .pre .1) (step (step whole (c .before .before .before .before .before .before .before .put .ensures)) (c .before .before .before .put-number .ensures))
 
-same-length : tie.Need-same-length
-same-length c = search needs
-
 returns : tie.Need-returns
 returns c =
     let a = c .before .before .before .before .before .before .before .before .before .before .before .before .before .args in
@@ -33,4 +27,4 @@ returns c =
 
 pub put-deleted-spec : {M : Type 1} → statement M
 put-deleted-spec =
-    tie.close (tie.spec put-requires put-number-requires put-requires-2 same-length returns)
+    tie.close (tie.spec (λ c κs. search needs) put-number-requires put-requires-2 (λ c. search needs) returns)

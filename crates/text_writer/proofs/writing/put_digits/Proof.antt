@@ -1,5 +1,5 @@
--- `text_writer::writing::put_digits` meets its contract: what is still to come are the digits from the index on.
--- Assumes nothing.
+-- `text_writer::writing::put_digits` meets its contract: what is still to come are the digits from
+-- the index on. Assumes nothing.
 use Prim.Native.Nat.{_-_}
 use borrow.Author.Needs.{needs}
 use native.Mathlib.Omega.{arith}
@@ -22,9 +22,6 @@ loop-holds c =
     let a = c .before .before .args in
     start-as _ _ _ _ (shown-start (a .n) (a .run .now) (c .before .before .pre .0 .inside))
 
-shared-slice-read-put : tie.Need-shared-slice-read-put Inv-loop μ-loop
-shared-slice-read-put c = search needs
-
 add-put : tie.Need-add-put Inv-loop μ-loop
 add-put c =
     let i = c .before .before .before .loop .i in
@@ -35,12 +32,6 @@ put-requires c κs =
     let a = c .before .before .before .before .before .before .args in
     let l = c .before .before .before .loop in
     room-next _ _ (c .before .before .before .before .before .before .pre .1) (l .inv) (shown-step (a .run .now) (l .i) (a .n) (search needs))
-
-add-i : tie.Need-add-i Inv-loop μ-loop
-add-i c = search needs
-
-loop-less : tie.Need-loop-less Inv-loop μ-loop
-loop-less c = search needs
 
 loop-again : tie.Need-loop-again Inv-loop μ-loop
 loop-again c =
@@ -64,11 +55,11 @@ put-digits-spec =
     Inv-loop
     μ-loop
     loop-holds
-    shared-slice-read-put
+    (λ c. search needs)
     add-put
     put-requires
-    add-i
-    loop-less
+    (λ c. search needs)
+    (λ c. search needs)
     loop-again
     same-length
     returns)

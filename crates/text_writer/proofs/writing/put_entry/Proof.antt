@@ -1,5 +1,5 @@
--- `text_writer::writing::put_entry` meets its contract: the seven parts of an entry, one after the other.
--- Assumes nothing.
+-- `text_writer::writing::put_entry` meets its contract: the seven parts of an entry, one after the
+-- other. Assumes nothing.
 use mathlib.Core.Path.{_≡_, refl}
 use native.Mathlib.Omega.{arith}
 use lib.ListN.{length}
@@ -9,12 +9,6 @@ use Rattle.text_page.specs.PageLaws.{start-as, step, finish-by, room-next, room
 use Rattle.text_writer.specs.WrittenLaws.{text-entry}
 use Rattle.text_writer.proofs.writing.put_entry.Statement.{statement}
 use Rattle.text_writer.proofs.writing.put_entry.Tie as tie
-
-put-requires : tie.Need-put-requires
-put-requires c κs = search needs
-
-slice-aggregate-put-permutation : tie.Need-slice-aggregate-put-permutation
-slice-aggregate-put-permutation c = search needs
 
 put-permutation-requires : tie.Need-put-permutation-requires
 put-permutation-requires c κs =
@@ -59,9 +53,6 @@ put-requires-4 c κs =
     let whole = start-as _ _ (a .at) (a .page .now) (text-entry (entryIn (a .e))) in
     room-last (h .1) (step (step (step (step (step (step whole (c .before .before .before .before .before .before .before .before .before .before .before .before .before .before .before .before .before .before .before .before .before .before .before .before .put .ensures)) (c .before .before .before .before .before .before .before .before .before .before .before .before .before .before .before .before .before .before .before .put-permutation .ensures)) (c .before .before .before .before .before .before .before .before .before .before .before .before .before .before .before .put2 .ensures)) (c .before .before .before .before .before .before .before .before .before .before .before .put-gaps .ensures)) (c .before .before .before .before .before .before .before .put3 .ensures)) (c .before .before .before .put-rule .ensures))
 
-same-length : tie.Need-same-length
-same-length c = search needs
-
 returns : tie.Need-returns
 returns c =
     let a = c .before .before .before .before .before .before .before .before .before .before .before .before .before .before .before .before .before .before .before .before .before .before .before .before .before .before .before .before .before .before .before .args in
@@ -73,13 +64,13 @@ pub put-entry-spec : {M : Type 1} → statement M
 put-entry-spec =
     tie.close
     (tie.spec
-    put-requires
-    slice-aggregate-put-permutation
+    (λ c κs. search needs)
+    (λ c. search needs)
     put-permutation-requires
     put-requires-2
     put-gaps-requires
     put-requires-3
     put-rule-requires
     put-requires-4
-    same-length
+    (λ c. search needs)
     returns)

@@ -1,5 +1,5 @@
--- `text_writer::writing::put_further_parts` meets its contract: what is still to come are the components from the index on.
--- Assumes nothing.
+-- `text_writer::writing::put_further_parts` meets its contract: what is still to come are the
+-- components from the index on. Assumes nothing.
 use Prim.Native.Nat.{_-_}
 use borrow.Author.Needs.{needs}
 use Rattle.text_page.specs.PageLaws.{ToCome, start, same-size, room-first, room-rest}
@@ -24,21 +24,12 @@ put-requires c κs =
     let l = c .before .before .loop in
     room-first (further-room (number (s .parts)) (l .i) (s .width) (l .inv) (search needs) (h .1))
 
-array-read-put-part : tie.Need-array-read-put-part Inv-loop μ-loop
-array-read-put-part c = search needs
-
 put-part-requires : tie.Need-put-part-requires Inv-loop μ-loop
 put-part-requires c κs =
     let s = c .before .before .before .before .before .before .before .before .before .args .g in
     let h = c .before .before .before .before .before .before .before .before .before .pre in
     let l = c .before .before .before .before .before .before .loop in
     room-rest (further-room (number (s .parts)) (l .i) (s .width) (l .inv) (search needs) (h .1)) (c .before .before .before .put .ensures)
-
-add-i : tie.Need-add-i Inv-loop μ-loop
-add-i c = search needs
-
-loop-less : tie.Need-loop-less Inv-loop μ-loop
-loop-less c = search needs
 
 loop-again : tie.Need-loop-again Inv-loop μ-loop
 loop-again c =
@@ -63,10 +54,10 @@ put-further-parts-spec =
     μ-loop
     loop-holds
     put-requires
-    array-read-put-part
+    (λ c. search needs)
     put-part-requires
-    add-i
-    loop-less
+    (λ c. search needs)
+    (λ c. search needs)
     loop-again
     same-length
     returns)

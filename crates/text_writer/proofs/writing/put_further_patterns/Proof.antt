@@ -1,5 +1,5 @@
--- `text_writer::writing::put_further_patterns` meets its contract: what is still to come are the patterns from the index on.
--- Assumes nothing.
+-- `text_writer::writing::put_further_patterns` meets its contract: what is still to come are the
+-- patterns from the index on. Assumes nothing.
 use Prim.Native.Nat.{_+_, _-_}
 use borrow.Author.Needs.{needs}
 use Rattle.text_page.specs.PageLaws.{ToCome, start-as, same-size, room-first, room-rest}
@@ -14,9 +14,6 @@ Inv-loop page₀ at items last-pattern next₀ i₀ page next i = ToCome (furthe
 abbrev μ-loop : tie.MeasureT-loop
 μ-loop page₀ at items last-pattern next₀ i₀ page next i = last-pattern + 1 - i
 
-sub-last-pattern : tie.Need-sub-last-pattern Inv-loop μ-loop
-sub-last-pattern c = search needs
-
 loop-holds : tie.Need-loop-holds Inv-loop μ-loop
 loop-holds c =
     let s = c .before .before .before .args .s in
@@ -29,24 +26,12 @@ put-requires c κs =
     let l = c .before .before .loop in
     room-first (further-room (patternAt (s .items)) (l .i) (s .count - 1 + 1) (l .inv) (search needs) (h .2))
 
-mul-put-pattern : tie.Need-mul-put-pattern Inv-loop μ-loop
-mul-put-pattern c = search needs
-
-array-copy-out-put-pattern : tie.Need-array-copy-out-put-pattern Inv-loop μ-loop
-array-copy-out-put-pattern c = search needs
-
 put-pattern-requires : tie.Need-put-pattern-requires Inv-loop μ-loop
 put-pattern-requires c κs =
     let s = c .before .before .before .before .before .before .before .before .before .before .before .args .s in
     let h = c .before .before .before .before .before .before .before .before .before .before .before .pre in
     let l = c .before .before .before .before .before .before .before .loop in
     (h .0 .fit (l .i) (search needs), room-rest (further-room (patternAt (s .items)) (l .i) (s .count - 1 + 1) (l .inv) (search needs) (h .2)) (c .before .before .before .before .put .ensures))
-
-add-i : tie.Need-add-i Inv-loop μ-loop
-add-i c = search needs
-
-loop-less : tie.Need-loop-less Inv-loop μ-loop
-loop-less c = search needs
 
 loop-again : tie.Need-loop-again Inv-loop μ-loop
 loop-again c =
@@ -69,14 +54,14 @@ put-further-patterns-spec =
     (tie.spec
     Inv-loop
     μ-loop
-    sub-last-pattern
+    (λ c. search needs)
     loop-holds
     put-requires
-    mul-put-pattern
-    array-copy-out-put-pattern
+    (λ c. search needs)
+    (λ c. search needs)
     put-pattern-requires
-    add-i
-    loop-less
+    (λ c. search needs)
+    (λ c. search needs)
     loop-again
     same-length
     returns)

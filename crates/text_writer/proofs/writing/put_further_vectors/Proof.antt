@@ -1,5 +1,5 @@
--- `text_writer::writing::put_further_vectors` meets its contract: what is still to come are the vectors from the index on.
--- Assumes nothing.
+-- `text_writer::writing::put_further_vectors` meets its contract: what is still to come are the
+-- vectors from the index on. Assumes nothing.
 use Prim.Native.Nat.{_-_}
 use borrow.Author.Needs.{needs}
 use Rattle.text_page.specs.PageLaws.{ToCome, start, same-size, room-first, room-rest}
@@ -32,12 +32,6 @@ put-vector-at-requires c κs =
     let h = start-at .pre in
     (h .0, search needs, room-rest (further-room (vectorAt e) (at-loop .loop .i) (e .«gap_count») (at-loop .loop .inv) (search needs) (h .1)) (after-put .put .ensures))
 
-add-i : tie.Need-add-i Inv-loop μ-loop
-add-i c = search needs
-
-loop-less : tie.Need-loop-less Inv-loop μ-loop
-loop-less c = search needs
-
 loop-again : tie.Need-loop-again Inv-loop μ-loop
 loop-again c =
     let after-vector = c .before .before in
@@ -64,8 +58,8 @@ put-further-vectors-spec =
     loop-holds
     put-requires
     put-vector-at-requires
-    add-i
-    loop-less
+    (λ c. search needs)
+    (λ c. search needs)
     loop-again
     same-length
     returns)

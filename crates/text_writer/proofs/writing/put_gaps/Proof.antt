@@ -1,5 +1,5 @@
--- `text_writer::writing::put_gaps` meets its contract: no vectors are ∅, and others an opening brace, the first, the further ones and a closing brace.
--- Assumes nothing.
+-- `text_writer::writing::put_gaps` meets its contract: no vectors are ∅, and others an opening
+-- brace, the first, the further ones and a closing brace. Assumes nothing.
 use mathlib.Core.Path.{refl, sym}
 use borrow.Author.Needs.{needs}
 use Rattle.text_page.specs.PageLaws.{start-as, step, finish-by, room-as, room-next, room-last, writes-as}
@@ -7,17 +7,11 @@ use Rattle.text_writer.specs.WrittenLaws.{text-gaps, text-no-gaps}
 use Rattle.text_writer.proofs.writing.put_gaps.Statement.{statement}
 use Rattle.text_writer.proofs.writing.put_gaps.Tie as tie
 
-slice-aggregate-put-bytes : tie.Need-slice-aggregate-put-bytes
-slice-aggregate-put-bytes c = search needs
-
 put-bytes-requires : tie.Need-put-bytes-requires
 put-bytes-requires c κs =
     let none = c .before .before in
     let begin = none .before .before .before in
     room-as (begin .pre .1) (text-no-gaps (begin .args .e) (none .if1 .taken))
-
-same-length : tie.Need-same-length
-same-length c = search needs
 
 returns : tie.Need-returns
 returns c =
@@ -59,9 +53,6 @@ put-requires-2 c κs =
     let whole = start-as _ _ (begin .args .at) (begin .args .page .now) (text-gaps (begin .args .e) (some .if1 .left)) in
     room-last (begin .pre .1) (step (step (step whole (first .put .ensures)) (second .put-vector-at .ensures)) (third .put-further-vectors .ensures))
 
-same-length-2 : tie.Need-same-length-2
-same-length-2 c = search needs
-
 returns-2 : tie.Need-returns-2
 returns-2 c =
     let last = c .before .before in
@@ -77,13 +68,13 @@ pub put-gaps-spec : {M : Type 1} → statement M
 put-gaps-spec =
     tie.close
     (tie.spec
-    slice-aggregate-put-bytes
+    (λ c. search needs)
     put-bytes-requires
-    same-length
+    (λ c. search needs)
     returns
     put-requires
     put-vector-at-requires
     put-further-vectors-requires
     put-requires-2
-    same-length-2
+    (λ c. search needs)
     returns-2)

@@ -12,13 +12,10 @@ put-decimal-requires c κs =
     let h = c .before .before .pre in
     room-as (h .1) (numeral-decimal (c .before .before .args .n) (h .0))
 
-same-length : tie.Need-same-length
-same-length c = search needs
-
 returns : tie.Need-returns
 returns c =
     let h = c .before .before .before .before .before .pre in
     writes-as (c .before .before .put-decimal .ensures .0) (sym (numeral-decimal (c .before .before .before .before .before .args .n) (h .0)))
 
 pub put-number-spec : {M : Type 1} → statement M
-put-number-spec = tie.close (tie.spec put-decimal-requires same-length returns)
+put-number-spec = tie.close (tie.spec put-decimal-requires (λ c. search needs) returns)

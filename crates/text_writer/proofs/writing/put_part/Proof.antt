@@ -9,17 +9,11 @@ use Rattle.text_writer.specs.WrittenLaws.{text-one}
 use Rattle.text_writer.proofs.writing.put_part.Statement.{statement}
 use Rattle.text_writer.proofs.writing.put_part.Tie as tie
 
-wide-requires : tie.Need-wide-requires
-wide-requires c κs = search needs
-
 put-number-requires : tie.Need-put-number-requires
 put-number-requires c κs =
     let w = c .wide .ensures in
     let same = ap (λ (n : ℕ). bytesOf (digits (numeral n))) (w .0) in
     (search needs, room-as (c .before .before .before .pre) (text-one (digits (numeral (c .before .before .before .args .x))) ∙ sym same))
-
-same-length : tie.Need-same-length
-same-length c = search needs
 
 returns : tie.Need-returns
 returns c =
@@ -27,4 +21,4 @@ returns c =
     writes-as (c .before .before .put-number .ensures) (same ∙ sym (text-one (digits (numeral (c .before .before .before .before .before .before .args .x)))))
 
 pub put-part-spec : {M : Type 1} → statement M
-put-part-spec = tie.close (tie.spec wide-requires put-number-requires same-length returns)
+put-part-spec = tie.close (tie.spec (λ c κs. search needs) put-number-requires (λ c. search needs) returns)

@@ -11,18 +11,12 @@ use Rattle.text_writer.specs.WrittenLaws.{text-one}
 use Rattle.text_writer.proofs.writing.put_pattern.Statement.{statement}
 use Rattle.text_writer.proofs.writing.put_pattern.Tie as tie
 
-slice-aggregate-put-permutation : tie.Need-slice-aggregate-put-permutation
-slice-aggregate-put-permutation c = search needs
-
 put-permutation-requires : tie.Need-put-permutation-requires
 put-permutation-requires c κs =
     let p = c .before .before .before .before .args .p in
     let h = c .before .before .before .before .pre in
     let eight : length (p .digits) ≡ 8 = search needs in
     (record { inside = omega arith; small = h .0 .small }, room-as (h .1) (text-one (permPiece (patternIn p))))
-
-same-length : tie.Need-same-length
-same-length c = search needs
 
 returns : tie.Need-returns
 returns c =
@@ -32,4 +26,4 @@ returns c =
 pub put-pattern-spec : {M : Type 1} → statement M
 put-pattern-spec =
     tie.close
-    (tie.spec slice-aggregate-put-permutation put-permutation-requires same-length returns)
+    (tie.spec (λ c. search needs) put-permutation-requires (λ c. search needs) returns)

@@ -1,5 +1,5 @@
--- `text_writer::writing::put_permutation` meets its contract: the text of no digits is ε, and that of some digits is theirs.
--- Assumes nothing.
+-- `text_writer::writing::put_permutation` meets its contract: the text of no digits is ε, and that
+-- of some digits is theirs. Assumes nothing.
 use mathlib.Core.Path.{sym}
 use borrow.Author.Needs.{needs}
 use Rattle.text_page.specs.PageLaws.{room-as, writes-as}
@@ -7,16 +7,10 @@ use Rattle.text_writer.specs.WrittenLaws.{perm-none, perm-some}
 use Rattle.text_writer.proofs.writing.put_permutation.Statement.{statement}
 use Rattle.text_writer.proofs.writing.put_permutation.Tie as tie
 
-slice-aggregate-put-bytes : tie.Need-slice-aggregate-put-bytes
-slice-aggregate-put-bytes c = search needs
-
 put-bytes-requires : tie.Need-put-bytes-requires
 put-bytes-requires c κs =
     let a = c .before .before .before .before .before .args in
     room-as (c .before .before .before .before .before .pre .1) (perm-none (a .n) (a .run .now) (c .before .before .if1 .taken))
-
-same-length : tie.Need-same-length
-same-length c = search needs
 
 returns : tie.Need-returns
 returns c =
@@ -29,9 +23,6 @@ put-digits-requires c κs =
     let p = c .before .before .before .before .pre in
     (p .0, room-as (p .1) (perm-some (a .n) (a .run .now) (p .0 .inside) (search needs)))
 
-same-length-2 : tie.Need-same-length-2
-same-length-2 c = search needs
-
 returns-2 : tie.Need-returns-2
 returns-2 c =
     let a = c .before .before .before .before .before .before .before .args in
@@ -42,10 +33,10 @@ pub put-permutation-spec : {M : Type 1} → statement M
 put-permutation-spec =
     tie.close
     (tie.spec
-    slice-aggregate-put-bytes
+    (λ c. search needs)
     put-bytes-requires
-    same-length
+    (λ c. search needs)
     returns
     put-digits-requires
-    same-length-2
+    (λ c. search needs)
     returns-2)

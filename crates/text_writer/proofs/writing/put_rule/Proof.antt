@@ -13,28 +13,16 @@ use Rattle.text_writer.proofs.writing.put_rule.Tie as tie
 enum-told : tie.Need-enum-told
 enum-told c = search needs
 
-slice-aggregate-put-bytes : tie.Need-slice-aggregate-put-bytes
-slice-aggregate-put-bytes c = search needs
-
 put-bytes-requires : tie.Need-put-bytes-requires
 put-bytes-requires c κs = room-as (c .before .before .before .before .before .pre .1) (ap (λ (r : Rule). text (rulePieces (doesOf r))) (c .before .before .enum-told .given .1))
-
-enum-known-rule : tie.Need-enum-known-rule
-enum-known-rule c = search needs
 
 put-deleted-requires : tie.Need-put-deleted-requires
 put-deleted-requires c κs =
     let told = c .before .before .rule .given in
     (c .before .before .before .before .before .pre .0 .short (told .0 .0) (told .1), room-as (c .before .before .before .before .before .pre .1) (ap (λ (r : Rule). text (rulePieces (doesOf r))) (told .1)))
 
-same-length : tie.Need-same-length
-same-length c = search needs
-
 returns : tie.Need-returns
 returns c = writes-as (c .before .before .put-bytes .ensures) (sym (ap (λ (r : Rule). text (rulePieces (doesOf r))) (c .before .before .before .before .before .enum-told .given .1)))
-
-same-length-2 : tie.Need-same-length-2
-same-length-2 c = search needs
 
 returns-2 : tie.Need-returns-2
 returns-2 c = writes-as (c .before .before .put-deleted .ensures) (sym (ap (λ (r : Rule). text (rulePieces (doesOf r))) (c .before .before .before .before .before .rule .given .1)))
@@ -44,11 +32,11 @@ put-rule-spec =
     tie.close
     (tie.spec
     enum-told
-    slice-aggregate-put-bytes
+    (λ c. search needs)
     put-bytes-requires
-    enum-known-rule
+    (λ c. search needs)
     put-deleted-requires
-    same-length
+    (λ c. search needs)
     returns
-    same-length-2
+    (λ c. search needs)
     returns-2)

@@ -1,5 +1,5 @@
--- `text_writer::writing::put_scheme` meets its contract: no entries are ∅, and others an opening brace, the first, the further ones and a closing brace.
--- Assumes nothing.
+-- `text_writer::writing::put_scheme` meets its contract: no entries are ∅, and others an opening
+-- brace, the first, the further ones and a closing brace. Assumes nothing.
 use mathlib.Core.Path.{refl, sym}
 use borrow.Author.Needs.{needs}
 use Rattle.text_page.specs.PageLaws.{start-as, step, finish-by, room-next, room-last, writes-as}
@@ -8,24 +8,9 @@ use Rattle.text_writer.specs.RoomLaws.{room-scheme}
 use Rattle.text_writer.proofs.writing.put_scheme.Statement.{statement}
 use Rattle.text_writer.proofs.writing.put_scheme.Tie as tie
 
-slice-aggregate-put-bytes : tie.Need-slice-aggregate-put-bytes
-slice-aggregate-put-bytes c = search needs
-
-put-bytes-requires : tie.Need-put-bytes-requires
-put-bytes-requires c κs = search needs
-
-same-length : tie.Need-same-length
-same-length c = search needs
-
 returns : tie.Need-returns
 returns c =
     writes-as (c .before .before .put-bytes .ensures) (sym (text-no-entries (c .before .before .before .before .before .before .before .before .before .args .s) (c .before .before .before .before .before .if1 .taken)))
-
-put-requires : tie.Need-put-requires
-put-requires c κs = search needs
-
-array-copy-out-put-entry : tie.Need-array-copy-out-put-entry
-array-copy-out-put-entry c = search needs
 
 put-entry-requires : tie.Need-put-entry-requires
 put-entry-requires c κs =
@@ -51,9 +36,6 @@ put-requires-2 c κs =
     let whole = start-as _ _ (a .at) (a .page .now) (text-scheme (a .s) (c .before .before .before .before .before .before .before .before .before .before .before .before .before .before .if1 .left)) in
     room-last room (step (step (step whole (c .before .before .before .before .before .before .before .before .before .before .before .before .put .ensures)) (c .before .before .before .before .before .before .before .put-entry .ensures)) (c .before .before .before .put-further-entries .ensures))
 
-same-length-2 : tie.Need-same-length-2
-same-length-2 c = search needs
-
 returns-2 : tie.Need-returns-2
 returns-2 c =
     let a = c .before .before .before .before .before .before .before .before .before .before .before .before .before .before .before .before .before .before .before .before .before .args in
@@ -64,14 +46,14 @@ pub put-scheme-spec : {M : Type 1} → statement M
 put-scheme-spec =
     tie.close
     (tie.spec
-    slice-aggregate-put-bytes
-    put-bytes-requires
-    same-length
+    (λ c. search needs)
+    (λ c κs. search needs)
+    (λ c. search needs)
     returns
-    put-requires
-    array-copy-out-put-entry
+    (λ c κs. search needs)
+    (λ c. search needs)
     put-entry-requires
     put-further-entries-requires
     put-requires-2
-    same-length-2
+    (λ c. search needs)
     returns-2)

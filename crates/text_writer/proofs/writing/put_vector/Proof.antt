@@ -1,5 +1,5 @@
--- `text_writer::writing::put_vector` meets its contract: a mark, the first component, the further ones and a mark.
--- Assumes nothing.
+-- `text_writer::writing::put_vector` meets its contract: a mark, the first component, the further
+-- ones and a mark. Assumes nothing.
 use mathlib.Core.Path.{_≡_, refl}
 use native.Mathlib.Omega.{arith}
 use lib.ListN.{length}
@@ -8,15 +8,6 @@ use Rattle.text_page.specs.PageLaws.{start-as, step, finish-by, room-next, room
 use Rattle.text_writer.specs.WrittenLaws.{text-vector}
 use Rattle.text_writer.proofs.writing.put_vector.Statement.{statement}
 use Rattle.text_writer.proofs.writing.put_vector.Tie as tie
-
-slice-aggregate-put-bytes : tie.Need-slice-aggregate-put-bytes
-slice-aggregate-put-bytes c = search needs
-
-put-bytes-requires : tie.Need-put-bytes-requires
-put-bytes-requires c κs = search needs
-
-array-read-put-part : tie.Need-array-read-put-part
-array-read-put-part c = search needs
 
 put-part-requires : tie.Need-put-part-requires
 put-part-requires c κs =
@@ -34,9 +25,6 @@ put-further-parts-requires c κs =
     let whole = start-as _ _ (a .at) (a .page .now) (text-vector (a .g .width) (a .g .parts) (h .0 .some) (omega arith)) in
     (h .0, room-next _ _ (h .1) (step (step whole (c .before .before .before .before .before .before .before .put-bytes .ensures)) (c .before .before .before .put-part .ensures)) refl)
 
-slice-aggregate-put-bytes-2 : tie.Need-slice-aggregate-put-bytes-2
-slice-aggregate-put-bytes-2 c = search needs
-
 put-bytes-requires-2 : tie.Need-put-bytes-requires-2
 put-bytes-requires-2 c κs =
     let a = c .before .before .before .before .before .before .before .before .before .before .before .before .before .before .before .before .before .args in
@@ -44,9 +32,6 @@ put-bytes-requires-2 c κs =
     let seven : length (a .g .parts) ≡ 7 = search needs in
     let whole = start-as _ _ (a .at) (a .page .now) (text-vector (a .g .width) (a .g .parts) (h .0 .some) (omega arith)) in
     room-last (h .1) (step (step (step whole (c .before .before .before .before .before .before .before .before .before .before .before .before .put-bytes .ensures)) (c .before .before .before .before .before .before .before .before .put-part .ensures)) (c .before .before .before .before .put-further-parts .ensures))
-
-same-length : tie.Need-same-length
-same-length c = search needs
 
 returns : tie.Need-returns
 returns c =
@@ -60,12 +45,12 @@ pub put-vector-spec : {M : Type 1} → statement M
 put-vector-spec =
     tie.close
     (tie.spec
-    slice-aggregate-put-bytes
-    put-bytes-requires
-    array-read-put-part
+    (λ c. search needs)
+    (λ c κs. search needs)
+    (λ c. search needs)
     put-part-requires
     put-further-parts-requires
-    slice-aggregate-put-bytes-2
+    (λ c. search needs)
     put-bytes-requires-2
-    same-length
+    (λ c. search needs)
     returns)

@@ -1,5 +1,5 @@
--- `text_writer::writing::put_vector_at` meets its contract: the vector that is written is the one with the index.
--- Assumes nothing.
+-- `text_writer::writing::put_vector_at` meets its contract: the vector that is written is the one
+-- with the index. Assumes nothing.
 use mathlib.Core.Path.{sym, ap}
 use borrow.Author.Needs.{needs}
 use Rattle.forms.specs.SchemeMemory.{gapIn}
@@ -10,17 +10,11 @@ use Rattle.text_writer.specs.Writable.{text}
 use Rattle.text_writer.proofs.writing.put_vector_at.Statement.{statement}
 use Rattle.text_writer.proofs.writing.put_vector_at.Tie as tie
 
-entry-gap-requires : tie.Need-entry-gap-requires
-entry-gap-requires c κs = search needs
-
 put-vector-requires : tie.Need-put-vector-requires
 put-vector-requires c κs =
     let read = c .before .entry-gap .ensures in
     let begin = c .before .before .before in
     (rw read (begin .pre .0 .fit (begin .args .j) (begin .pre .1)), room-as (begin .pre .2) (sym (ap (λ (g : Gap). text (vectorPieces (gapIn g))) read)))
-
-same-length : tie.Need-same-length
-same-length c = search needs
 
 returns : tie.Need-returns
 returns c =
@@ -28,4 +22,4 @@ returns c =
     writes-as (written .put-vector .ensures) (ap (λ (g : Gap). text (vectorPieces (gapIn g))) (written .before .before .entry-gap .ensures))
 
 pub put-vector-at-spec : {M : Type 1} → statement M
-put-vector-at-spec = tie.close (tie.spec entry-gap-requires put-vector-requires same-length returns)
+put-vector-at-spec = tie.close (tie.spec (λ c κs. search needs) put-vector-requires (λ c. search needs) returns)

@@ -10,9 +10,6 @@ use Rattle.verdict.proofs.answer.answer.Tie as tie
 enum-told : tie.Need-enum-told
 enum-told c = search needs
 
-enum-known-fault : tie.Need-enum-known-fault
-enum-known-fault c = search needs
-
 returns : tie.Need-returns
 returns c = let a = c .before .before .args in sym (ap (λ (f : Fault). answered f (a .cells)) (c .enum-told .given .1))
 
@@ -20,4 +17,4 @@ returns-2 : tie.Need-returns-2
 returns-2 c = let a = c .before .before .before .args in sym (ap (λ (f : Fault). answered f (a .cells)) (c .before .fault .given .1))
 
 pub answer-spec : {M : Type 1} → statement M
-answer-spec = tie.close (tie.spec enum-told enum-known-fault returns returns-2)
+answer-spec = tie.close (tie.spec enum-told (λ c. search needs) returns returns-2)

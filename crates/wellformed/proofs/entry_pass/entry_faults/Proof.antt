@@ -1,5 +1,5 @@
--- `wellformed::entry_pass::entry_faults` meets its contract: the findings so far, and what the entries
--- from the index on add.
+-- `wellformed::entry_pass::entry_faults` meets its contract: the findings so far, and what the
+-- entries from the index on add.
 -- Assumes nothing.
 use Prim.Native.Nat.{_-_}
 use native.Mathlib.Omega.{arith}
@@ -17,9 +17,6 @@ abbrev μ-loop : tie.MeasureT-loop
 loop-holds : tie.Need-loop-holds Inv-loop μ-loop
 loop-holds c = findings-start (c .before .args .t1)
 
-mul-e : tie.Need-mul-e Inv-loop μ-loop
-mul-e c = search needs
-
 element-copy-out-e : tie.Need-element-copy-out-e Inv-loop μ-loop
 element-copy-out-e c =
     let few = c .before .before .before .pre .0 .few in
@@ -31,12 +28,6 @@ with-entry-requires c κs =
     let start = at .before .before in
     let s = start .args .t1 in
     (start .pre .0 .each (at .loop .i) (omega arith), omega (arith, codes-length s (start .args .codes .now) (start .pre .1)))
-
-add-i : tie.Need-add-i Inv-loop μ-loop
-add-i c = search needs
-
-loop-less : tie.Need-loop-less Inv-loop μ-loop
-loop-less c = search needs
 
 loop-again : tie.Need-loop-again Inv-loop μ-loop
 loop-again c =
@@ -57,10 +48,10 @@ entry-faults-spec =
     Inv-loop
     μ-loop
     loop-holds
-    mul-e
+    (λ c. search needs)
     element-copy-out-e
     with-entry-requires
-    add-i
-    loop-less
+    (λ c. search needs)
+    (λ c. search needs)
     loop-again
     returns)

@@ -5,9 +5,6 @@ use borrow.Author.Needs.{needs}
 use Rattle.wellformed.proofs.entry_pass.root_fault.Statement.{statement}
 use Rattle.wellformed.proofs.entry_pass.root_fault.Tie as tie
 
-has-entry-requires : tie.Need-has-entry-requires
-has-entry-requires c κs = search needs
-
 returns : tie.Need-returns
 returns c = λ ps w. rw (sym (c .before .has-entry .ensures ps w) ∙ c .if1 .taken) refl
 
@@ -15,4 +12,4 @@ returns-2 : tie.Need-returns-2
 returns-2 c = λ ps w. rw (sym (c .before .has-entry .ensures ps w) ∙ c .if1 .left) refl
 
 pub root-fault-spec : {M : Type 1} → statement M
-root-fault-spec = tie.close (tie.spec has-entry-requires returns returns-2)
+root-fault-spec = tie.close (tie.spec (λ c κs. search needs) returns returns-2)

@@ -21,23 +21,8 @@ Inv-loop codes i code j₀ j = (j ≤ i) × (earlierCode codes i ≡ any (eqb (g
 abbrev μ-loop : tie.MeasureT-loop
 μ-loop codes i code j₀ j = j
 
-mul-code : tie.Need-mul-code Inv-loop μ-loop
-mul-code c = search needs
-
-shared-slice-read-code : tie.Need-shared-slice-read-code Inv-loop μ-loop
-shared-slice-read-code c = search needs
-
 loop-holds : tie.Need-loop-holds Inv-loop μ-loop
 loop-holds c = (omega arith, refl)
-
-sub-j : tie.Need-sub-j Inv-loop μ-loop
-sub-j c = search needs
-
-mul-if1 : tie.Need-mul-if1 Inv-loop μ-loop
-mul-if1 c = search needs
-
-shared-slice-read-if1 : tie.Need-shared-slice-read-if1 Inv-loop μ-loop
-shared-slice-read-if1 c = search needs
 
 returns : tie.Need-returns Inv-loop μ-loop
 returns c =
@@ -46,9 +31,6 @@ returns c =
     let v = a .codes .now in
     let l = at .loop in
     sym (l .inv .1 ∙ seen-here (eqb (getD v (a .i) 0)) (λ n. getD v n 0) (l .j) (omega arith) (eq-eqb (getD v (a .i) 0) (getD v (l .j - 1) 0) (c .if1 .taken)))
-
-loop-less : tie.Need-loop-less Inv-loop μ-loop
-loop-less c = search needs
 
 loop-again : tie.Need-loop-again Inv-loop μ-loop
 loop-again c =
@@ -71,13 +53,13 @@ stands-before-spec =
     (tie.spec
     Inv-loop
     μ-loop
-    mul-code
-    shared-slice-read-code
+    (λ c. search needs)
+    (λ c. search needs)
     loop-holds
-    sub-j
-    mul-if1
-    shared-slice-read-if1
+    (λ c. search needs)
+    (λ c. search needs)
+    (λ c. search needs)
     returns
-    loop-less
+    (λ c. search needs)
     loop-again
     returns-2)

@@ -10,30 +10,6 @@ use Rattle.wellformed.proofs.EntryTestLaws.{outside-length}
 use Rattle.wellformed.proofs.entry_pass.with_entry.Statement.{statement}
 use Rattle.wellformed.proofs.entry_pass.with_entry.Tie as tie
 
-is-permuted-requires : tie.Need-is-permuted-requires
-is-permuted-requires c κs = search needs
-
-noted-requires : tie.Need-noted-requires
-noted-requires c κs = search needs
-
-is-twin-requires : tie.Need-is-twin-requires
-is-twin-requires c κs = search needs
-
-noted-requires-2 : tie.Need-noted-requires-2
-noted-requires-2 c κs = search needs
-
-wrong-width-requires : tie.Need-wrong-width-requires
-wrong-width-requires c κs = search needs
-
-noted-requires-3 : tie.Need-noted-requires-3
-noted-requires-3 c κs = search needs
-
-is-outside-requires : tie.Need-is-outside-requires
-is-outside-requires c κs = search needs
-
-noted-requires-4 : tie.Need-noted-requires-4
-noted-requires-4 c κs = search needs
-
 returns : tie.Need-returns
 returns c =
     let d = c .before in
@@ -57,12 +33,12 @@ pub with-entry-spec : {M : Type 1} → statement M
 with-entry-spec =
     tie.close
     (tie.spec
-    is-permuted-requires
-    noted-requires
-    is-twin-requires
-    noted-requires-2
-    wrong-width-requires
-    noted-requires-3
-    is-outside-requires
-    noted-requires-4
+    (λ c κs. search needs)
+    (λ c κs. search needs)
+    (λ c κs. search needs)
+    (λ c κs. search needs)
+    (λ c κs. search needs)
+    (λ c κs. search needs)
+    (λ c κs. search needs)
+    (λ c κs. search needs)
     returns)

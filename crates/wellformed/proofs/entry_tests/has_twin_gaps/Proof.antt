@@ -1,5 +1,5 @@
--- `wellformed::entry_tests::has_twin_gaps` meets its contract: a vector stands twice if one from the index on does.
--- Assumes nothing.
+-- `wellformed::entry_tests::has_twin_gaps` meets its contract: a vector stands twice if one from
+-- the index on does. Assumes nothing.
 use Prim.Native.Nat.{_+_, _-_, _≤_}
 use mathlib.Core.Path.{_≡_, sym, ap, _∙_}
 use mathlib.Core.List.{map}
@@ -24,12 +24,6 @@ abbrev μ-loop : tie.MeasureT-loop
 loop-holds : tie.Need-loop-holds Inv-loop μ-loop
 loop-holds c = (omega arith, repeats-start (gapAt (c .args .e)) (c .args .e .«gap_count»))
 
-entry-gap-requires : tie.Need-entry-gap-requires Inv-loop μ-loop
-entry-gap-requires c κs = search needs
-
-add-stands-from : tie.Need-add-stands-from Inv-loop μ-loop
-add-stands-from c = search needs
-
 stands-from-requires : tie.Need-stands-from-requires Inv-loop μ-loop
 stands-from-requires c κs =
     let l = c .before .before .loop in
@@ -46,12 +40,6 @@ returns c =
     c .before .stands-from .ensures ∙ ap (λ (g : Gap). listed later (gapIn g)) (c .before .before .entry-gap .ensures)
     ∙ ap (any (same (gapAt e (l .j)))) (from-at (gapAt e) (e .«gap_count») (l .j + 1)) in
     sym (l .inv .1 ∙ repeats-here (gapAt e) (e .«gap_count») (l .j) (omega arith) (sym stands ∙ c .if1 .taken))
-
-add-j : tie.Need-add-j Inv-loop μ-loop
-add-j c = search needs
-
-loop-less : tie.Need-loop-less Inv-loop μ-loop
-loop-less c = search needs
 
 loop-again : tie.Need-loop-again Inv-loop μ-loop
 loop-again c =
@@ -76,11 +64,11 @@ has-twin-gaps-spec =
     Inv-loop
     μ-loop
     loop-holds
-    entry-gap-requires
-    add-stands-from
+    (λ c κs. search needs)
+    (λ c. search needs)
     stands-from-requires
     returns
-    add-j
-    loop-less
+    (λ c. search needs)
+    (λ c. search needs)
     loop-again
     returns-2)

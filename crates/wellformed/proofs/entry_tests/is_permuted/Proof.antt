@@ -22,9 +22,6 @@ slice-aggregate-is-permutation c =
     let six : length (e .prefix) ≡ PREFIX = search needs in
     sym (length-take-le (e .length) (e .prefix) (omega (arith, c .before .before .pre .short)))
 
-is-permutation-requires : tie.Need-is-permutation-requires
-is-permutation-requires c κs = search needs
-
 returns : tie.Need-returns
 returns c =
     let e = c .before .before .before .args .e in
@@ -34,4 +31,4 @@ returns c =
 pub is-permuted-spec : {M : Type 1} → statement M
 is-permuted-spec =
     tie.close
-    (tie.spec array-share-prefix-p slice-aggregate-is-permutation is-permutation-requires returns)
+    (tie.spec array-share-prefix-p slice-aggregate-is-permutation (λ c κs. search needs) returns)

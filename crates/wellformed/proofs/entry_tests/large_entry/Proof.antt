@@ -1,5 +1,5 @@
--- `wellformed::entry_tests::large_entry` meets its contract: the entry passes a ceiling if a vector from the index on does.
--- Assumes nothing.
+-- `wellformed::entry_tests::large_entry` meets its contract: the entry passes a ceiling if a vector
+-- from the index on does. Assumes nothing.
 use Prim.Native.Nat.{_-_, _≤_}
 use mathlib.Core.Path.{_≡_, sym, ap, _∙_}
 use borrow.Author.Needs.{needs}
@@ -30,24 +30,12 @@ returns-2 c = sym (entry-many (c .before .before .args .e) (c .before .if1 .left
 loop-holds : tie.Need-loop-holds Inv-loop μ-loop
 loop-holds c = (omega arith, c .if2 .left, entry-by-gaps (c .before .before .args .e) (c .before .if1 .left) (c .if2 .left))
 
-entry-gap-requires : tie.Need-entry-gap-requires Inv-loop μ-loop
-entry-gap-requires c κs = search needs
-
-large-gap-requires : tie.Need-large-gap-requires Inv-loop μ-loop
-large-gap-requires c κs = search needs
-
 returns-3 : tie.Need-returns-3 Inv-loop μ-loop
 returns-3 c =
     let e = c .before .before .before .before .before .before .before .args .e in
     let l = c .before .before .before .before .loop in
     let large = c .before .large-gap .ensures ∙ ap (λ (g : Gap). largeGap (gapIn g)) (c .before .before .entry-gap .ensures) in
     sym (l .inv .2 ∙ any-here largeGap (gapAt e) (e .«gap_count») (l .j) (omega arith) (sym large ∙ c .if3 .taken))
-
-add-j : tie.Need-add-j Inv-loop μ-loop
-add-j c = search needs
-
-loop-less : tie.Need-loop-less Inv-loop μ-loop
-loop-less c = search needs
 
 loop-again : tie.Need-loop-again Inv-loop μ-loop
 loop-again c =
@@ -71,10 +59,10 @@ large-entry-spec =
     returns
     returns-2
     loop-holds
-    entry-gap-requires
-    large-gap-requires
+    (λ c κs. search needs)
+    (λ c κs. search needs)
     returns-3
-    add-j
-    loop-less
+    (λ c. search needs)
+    (λ c. search needs)
     loop-again
     returns-4)

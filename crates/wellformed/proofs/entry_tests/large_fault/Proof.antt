@@ -1,5 +1,5 @@
--- `wellformed::entry_tests::large_fault` meets its contract: the first entry at fault is the first one from the index on.
--- Assumes nothing.
+-- `wellformed::entry_tests::large_fault` meets its contract: the first entry at fault is the first
+-- one from the index on. Assumes nothing.
 use Prim.Native.Nat.{_-_, _≤_}
 use mathlib.Core.Path.{_≡_, sym, ap, _∙_}
 use borrow.Author.Needs.{needs}
@@ -26,26 +26,11 @@ returns c = sym (ap faultOf (scheme-many (c .before .args .t1) (c .if1 .taken)))
 loop-holds : tie.Need-loop-holds Inv-loop μ-loop
 loop-holds c = (omega arith, c .if1 .left, scheme-by-entries (c .before .args .t1) (c .if1 .left))
 
-mul-e : tie.Need-mul-e Inv-loop μ-loop
-mul-e c = search needs
-
-element-copy-out-e : tie.Need-element-copy-out-e Inv-loop μ-loop
-element-copy-out-e c = search needs
-
-large-entry-requires : tie.Need-large-entry-requires Inv-loop μ-loop
-large-entry-requires c κs = search needs
-
 returns-2 : tie.Need-returns-2 Inv-loop μ-loop
 returns-2 c =
     let s = c .before .before .before .before .before .before .args .t1 in
     let l = c .before .before .before .before .loop in
     sym (ap faultOf (l .inv .2 ∙ first-here Oversize largeEntry (entryAt s) (s .count) (l .i) (omega arith) (sym (c .before .large-entry .ensures) ∙ c .if2 .taken)))
-
-add-i : tie.Need-add-i Inv-loop μ-loop
-add-i c = search needs
-
-loop-less : tie.Need-loop-less Inv-loop μ-loop
-loop-less c = search needs
 
 loop-again : tie.Need-loop-again Inv-loop μ-loop
 loop-again c =
@@ -67,11 +52,11 @@ large-fault-spec =
     μ-loop
     returns
     loop-holds
-    mul-e
-    element-copy-out-e
-    large-entry-requires
+    (λ c. search needs)
+    (λ c. search needs)
+    (λ c κs. search needs)
     returns-2
-    add-i
-    loop-less
+    (λ c. search needs)
+    (λ c. search needs)
     loop-again
     returns-3)

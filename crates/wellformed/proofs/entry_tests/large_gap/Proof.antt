@@ -1,5 +1,5 @@
--- `wellformed::entry_tests::large_gap` meets its contract: the vector passes a ceiling if the sum so far and the total of what is left do.
--- Assumes nothing.
+-- `wellformed::entry_tests::large_gap` meets its contract: the vector passes a ceiling if the sum
+-- so far and the total of what is left do. Assumes nothing.
 use Prim.Native.Nat.{_+_, _-_, _≤_}
 use mathlib.Core.Path.{_≡_, refl, sym, ap, _∙_}
 use borrow.Author.Needs.{needs}
@@ -30,15 +30,6 @@ loop-holds c =
     let start : total (gapIn b) ≡ 0 + total (gapIn b) = omega arith in
     (omega arith, omega arith, c .if1 .left, refl, gap-by-total b (c .if1 .left) ∙ ap (ltb TOTAL) start)
 
-element-copy-out-wide : tie.Need-element-copy-out-wide Inv-loop μ-loop
-element-copy-out-wide c = search needs
-
-wide-requires : tie.Need-wide-requires Inv-loop μ-loop
-wide-requires c κs = search needs
-
-add-sum : tie.Need-add-sum Inv-loop μ-loop
-add-sum c = search needs
-
 returns-2 : tie.Need-returns-2 Inv-loop μ-loop
 returns-2 c =
     let b = c .before .before .before .before .before .before .args .t1 in
@@ -46,12 +37,6 @@ returns-2 c =
     let seven : length (b .parts) ≡ COMPONENTS = search needs in
     let more = total-more (b .parts) (b .width) (omega arith) (l .i) (omega arith) in
     sym (l .inv .4 ∙ lt-ltb TOTAL (l .sum + total (drop (l .i) (gapIn b))) (omega (arith, more, c .before .wide .ensures .0)))
-
-add-i : tie.Need-add-i Inv-loop μ-loop
-add-i c = search needs
-
-loop-less : tie.Need-loop-less Inv-loop μ-loop
-loop-less c = search needs
 
 loop-again : tie.Need-loop-again Inv-loop μ-loop
 loop-again c =
@@ -78,11 +63,11 @@ large-gap-spec =
     μ-loop
     returns
     loop-holds
-    element-copy-out-wide
-    wide-requires
-    add-sum
+    (λ c. search needs)
+    (λ c κs. search needs)
+    (λ c. search needs)
     returns-2
-    add-i
-    loop-less
+    (λ c. search needs)
+    (λ c. search needs)
     loop-again
     returns-3)

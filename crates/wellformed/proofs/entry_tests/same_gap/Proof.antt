@@ -1,5 +1,5 @@
--- `wellformed::entry_tests::same_gap` meets its contract: the parts of the two arrays are the vectors.
--- Assumes nothing.
+-- `wellformed::entry_tests::same_gap` meets its contract: the parts of the two arrays are the
+-- vectors. Assumes nothing.
 use mathlib.Core.Path.{_≡_, sym, ap₂, _∙_}
 use native.Mathlib.Omega.{arith}
 use lib.ListN.{length}
@@ -35,9 +35,6 @@ slice-aggregate-same-bytes-2 c =
     let full : length (e .parts) ≡ COMPONENTS = search needs in
     sym (length-take-le (e .width) (e .parts) (omega (arith, c .before .before .before .before .pre .1)))
 
-same-bytes-requires : tie.Need-same-bytes-requires
-same-bytes-requires c κs = search needs
-
 returns : tie.Need-returns
 returns c =
     let e = c .before .before .before .before .before .args .b in
@@ -57,5 +54,5 @@ same-gap-spec =
     slice-aggregate-same-bytes
     array-share-prefix-q
     slice-aggregate-same-bytes-2
-    same-bytes-requires
+    (λ c κs. search needs)
     returns)

@@ -1,5 +1,5 @@
--- `wellformed::entry_tests::stands_from` meets its contract: the vector stands from `start` on if it stands from the index on.
--- Assumes nothing.
+-- `wellformed::entry_tests::stands_from` meets its contract: the vector stands from `start` on if
+-- it stands from the index on. Assumes nothing.
 use Prim.Native.Nat.{_-_, _≤_}
 use mathlib.Core.Path.{_≡_, sym, ap, _∙_}
 use borrow.Author.Needs.{needs}
@@ -19,12 +19,6 @@ Inv-loop e start b n j₀ j = (j ≤ n) × (any (same (gapIn b)) (from (gapAt e)
 abbrev μ-loop : tie.MeasureT-loop
 μ-loop e start b n j₀ j = n - j
 
-loop-holds : tie.Need-loop-holds Inv-loop μ-loop
-loop-holds c = search needs
-
-entry-gap-requires : tie.Need-entry-gap-requires Inv-loop μ-loop
-entry-gap-requires c κs = search needs
-
 same-gap-requires : tie.Need-same-gap-requires Inv-loop μ-loop
 same-gap-requires c κs =
     let l = c .before .before .loop in
@@ -40,12 +34,6 @@ returns c =
     let alike = c .before .same-gap .ensures ∙ ap (λ (g : Gap). same (gapIn b) (gapIn g)) (c .before .before .entry-gap .ensures) in
     let here = any-here (same (gapIn b)) (gapAt e) (e .«gap_count») (l .j) (omega arith) (sym alike ∙ c .if1 .taken) in
     sym (ap (any (same (gapIn b))) (from-at (gapAt e) (e .«gap_count») (c .before .before .before .before .before .args .start)) ∙ l .inv .1 ∙ here)
-
-add-j : tie.Need-add-j Inv-loop μ-loop
-add-j c = search needs
-
-loop-less : tie.Need-loop-less Inv-loop μ-loop
-loop-less c = search needs
 
 loop-again : tie.Need-loop-again Inv-loop μ-loop
 loop-again c =
@@ -68,11 +56,11 @@ stands-from-spec =
     (tie.spec
     Inv-loop
     μ-loop
-    loop-holds
-    entry-gap-requires
+    (λ c. search needs)
+    (λ c κs. search needs)
     same-gap-requires
     returns
-    add-j
-    loop-less
+    (λ c. search needs)
+    (λ c. search needs)
     loop-again
     returns-2)

@@ -24,26 +24,11 @@ Inv-loop i s p j₀ j = (nearestTwin (twin s i) i ≡ nearestBelow (twin s i) i 
 abbrev μ-loop : tie.MeasureT-loop
 μ-loop i s p j₀ j = j
 
-mul-p : tie.Need-mul-p Inv-loop μ-loop
-mul-p c = search needs
-
-element-copy-out-p : tie.Need-element-copy-out-p Inv-loop μ-loop
-element-copy-out-p c = search needs
-
 loop-holds : tie.Need-loop-holds Inv-loop μ-loop
 loop-holds c = let a = c .before .args in (nearest-start (twin (a .t1) (a .i)) (a .i), omega arith)
 
-sub-j : tie.Need-sub-j Inv-loop μ-loop
-sub-j c = search needs
-
-mul-q : tie.Need-mul-q Inv-loop μ-loop
-mul-q c = search needs
-
 element-copy-out-q : tie.Need-element-copy-out-q Inv-loop μ-loop
 element-copy-out-q c = omega arith
-
-same-digits-requires : tie.Need-same-digits-requires Inv-loop μ-loop
-same-digits-requires c κs = search needs
 
 returns : tie.Need-returns Inv-loop μ-loop
 returns c =
@@ -74,13 +59,13 @@ earlier-twin-spec =
     (tie.spec
     Inv-loop
     μ-loop
-    mul-p
-    element-copy-out-p
+    (λ c. search needs)
+    (λ c. search needs)
     loop-holds
-    sub-j
-    mul-q
+    (λ c. search needs)
+    (λ c. search needs)
     element-copy-out-q
-    same-digits-requires
+    (λ c κs. search needs)
     returns
     loop-less
     loop-again

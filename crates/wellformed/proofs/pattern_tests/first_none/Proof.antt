@@ -1,5 +1,5 @@
--- `wellformed::pattern_tests::first_none` meets its contract: the first item that is no pattern is the first from the index on.
--- Assumes nothing.
+-- `wellformed::pattern_tests::first_none` meets its contract: the first item that is no pattern is
+-- the first from the index on. Assumes nothing.
 use Prim.Native.Nat.{_-_}
 use mathlib.Core.Path.{_≡_, sym, ap, _∙_}
 use mathlib.Core.Bool.{not}
@@ -23,26 +23,11 @@ abbrev μ-loop : tie.MeasureT-loop
 loop-holds : tie.Need-loop-holds Inv-loop μ-loop
 loop-holds c = let s = c .args .t1 in first-start NoPermutation (λ β. not (isPattern β)) (placeIn s) (s .count)
 
-mul-p : tie.Need-mul-p Inv-loop μ-loop
-mul-p c = search needs
-
-element-copy-out-p : tie.Need-element-copy-out-p Inv-loop μ-loop
-element-copy-out-p c = search needs
-
-no-pattern-requires : tie.Need-no-pattern-requires Inv-loop μ-loop
-no-pattern-requires c κs = search needs
-
 returns : tie.Need-returns Inv-loop μ-loop
 returns c =
     let s = c .before .before .before .before .before .args .t1 in
     let l = c .before .before .before .before .loop in
     ap faultOf (sym (l .inv ∙ first-here NoPermutation (λ β. not (isPattern β)) (placeIn s) (s .count) (l .i) (omega arith) (sym (c .before .no-pattern .ensures) ∙ c .if1 .taken)))
-
-add-i : tie.Need-add-i Inv-loop μ-loop
-add-i c = search needs
-
-loop-less : tie.Need-loop-less Inv-loop μ-loop
-loop-less c = search needs
 
 loop-again : tie.Need-loop-again Inv-loop μ-loop
 loop-again c =
@@ -63,11 +48,11 @@ first-none-spec =
     Inv-loop
     μ-loop
     loop-holds
-    mul-p
-    element-copy-out-p
-    no-pattern-requires
+    (λ c. search needs)
+    (λ c. search needs)
+    (λ c κs. search needs)
     returns
-    add-i
-    loop-less
+    (λ c. search needs)
+    (λ c. search needs)
     loop-again
     returns-2)

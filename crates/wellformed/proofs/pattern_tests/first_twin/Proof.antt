@@ -1,5 +1,5 @@
--- `wellformed::pattern_tests::first_twin` meets its contract: the first item that an earlier one equals is the first from the index on.
--- Assumes nothing.
+-- `wellformed::pattern_tests::first_twin` meets its contract: the first item that an earlier one
+-- equals is the first from the index on. Assumes nothing.
 use Prim.Native.Nat.{ℕ, _-_}
 use mathlib.Core.Path.{_≡_, sym, ap, _∙_}
 use mathlib.Core.List.{[]}
@@ -31,21 +31,12 @@ abbrev μ-loop : tie.MeasureT-loop
 loop-holds : tie.Need-loop-holds Inv-loop μ-loop
 loop-holds c = let s = c .args .s in twin-start listed (placeIn s) (s .count)
 
-earlier-twin-requires : tie.Need-earlier-twin-requires Inv-loop μ-loop
-earlier-twin-requires c κs = search needs
-
 returns : tie.Need-returns Inv-loop μ-loop
 returns c =
     let s = c .before .before .before .before .args .s in
     let l = c .before .before .before .loop in
     let t = sym (nearest s (l .i) (c .before .earlier-twin .result) (c .before .earlier-twin .ensures)) ∙ lt-ltb (c .before .earlier-twin .result) (l .i) (c .if1 .taken) in
     ap faultOf (sym (l .inv ∙ twin-here listed (placeIn s) (s .count) (l .i) (omega arith) t))
-
-add-i : tie.Need-add-i Inv-loop μ-loop
-add-i c = search needs
-
-loop-less : tie.Need-loop-less Inv-loop μ-loop
-loop-less c = search needs
 
 loop-again : tie.Need-loop-again Inv-loop μ-loop
 loop-again c =
@@ -67,9 +58,9 @@ first-twin-spec =
     Inv-loop
     μ-loop
     loop-holds
-    earlier-twin-requires
+    (λ c κs. search needs)
     returns
-    add-i
-    loop-less
+    (λ c. search needs)
+    (λ c. search needs)
     loop-again
     returns-2)

@@ -1,5 +1,5 @@
--- `wellformed::pattern_tests::no_pattern` meets its contract: a pattern has a digit, none behind the array, and is a permutation.
--- Assumes nothing.
+-- `wellformed::pattern_tests::no_pattern` meets its contract: a pattern has a digit, none behind
+-- the array, and is a permutation. Assumes nothing.
 use mathlib.Core.Path.{_≡_, sym, ap, _∙_}
 use mathlib.Core.Bool.{not}
 use native.Mathlib.Omega.{arith}
@@ -31,9 +31,6 @@ slice-aggregate-is-permutation c =
     let eight : length (p .digits) ≡ DIGITS = search needs in
     sym (length-take-le (p .length) (p .digits) (omega arith))
 
-is-permutation-requires : tie.Need-is-permutation-requires
-is-permutation-requires c κs = search needs
-
 returns-3 : tie.Need-returns-3
 returns-3 c =
     let p = c .before .before .before .before .before .args .p in
@@ -48,5 +45,5 @@ no-pattern-spec =
     returns-2
     array-share-prefix-digits
     slice-aggregate-is-permutation
-    is-permutation-requires
+    (λ c κs. search needs)
     returns-3)

@@ -1,5 +1,5 @@
--- `wellformed::pattern_tests::patterns_fault` meets its contract: the number of patterns decides, or the findings of the three tests of the items in their order.
--- Assumes nothing.
+-- `wellformed::pattern_tests::patterns_fault` meets its contract: the number of patterns decides,
+-- or the findings of the three tests of the items in their order. Assumes nothing.
 use mathlib.Core.Path.{sym, ap₂, _∙_}
 use Rattle.forms.specs.SchemeMemory.{orElse}
 use Rattle.wellformed.proofs.PatternLaws.{many-patterns, few-patterns}
@@ -9,21 +9,6 @@ use Rattle.wellformed.proofs.pattern_tests.patterns_fault.Tie as tie
 
 returns : tie.Need-returns
 returns c = let s = c .before .before .args .s in sym (many-patterns s (c .if1 .taken))
-
-first-long-requires : tie.Need-first-long-requires
-first-long-requires c κs = search needs
-
-first-none-requires : tie.Need-first-none-requires
-first-none-requires c κs = search needs
-
-first-twin-requires : tie.Need-first-twin-requires
-first-twin-requires c κs = search needs
-
-earlier-requires : tie.Need-earlier-requires
-earlier-requires c κs = search needs
-
-earlier-requires-2 : tie.Need-earlier-requires-2
-earlier-requires-2 c κs = search needs
 
 returns-2 : tie.Need-returns-2
 returns-2 c =
@@ -36,9 +21,9 @@ patterns-fault-spec =
     tie.close
     (tie.spec
     returns
-    first-long-requires
-    first-none-requires
-    first-twin-requires
-    earlier-requires
-    earlier-requires-2
+    (λ c κs. search needs)
+    (λ c κs. search needs)
+    (λ c κs. search needs)
+    (λ c κs. search needs)
+    (λ c κs. search needs)
     returns-2)

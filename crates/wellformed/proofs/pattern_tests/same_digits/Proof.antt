@@ -1,5 +1,5 @@
--- `wellformed::pattern_tests::same_digits` meets its contract: the digits are the same if they are from the index on.
--- Assumes nothing.
+-- `wellformed::pattern_tests::same_digits` meets its contract: the digits are the same if they are
+-- from the index on. Assumes nothing.
 use Prim.Native.Nat.{ℕ, _-_}
 use mathlib.Core.Path.{_≡_, sym, ap, _∙_}
 use borrow.Author.Needs.{needs}
@@ -38,12 +38,6 @@ returns-2 c =
     let w = ap (λ (m : ℕ). same (padded (p .length) (p .digits)) (padded m (q .digits))) e in
     sym (sym w ∙ c .before .before .loop .inv ∙ same-counted (p .length) (p .digits) (q .digits) (c .before .before .loop .i) (omega arith))
 
-array-read-if3 : tie.Need-array-read-if3 Inv-loop μ-loop
-array-read-if3 c = search needs
-
-array-read-if3-2 : tie.Need-array-read-if3-2 Inv-loop μ-loop
-array-read-if3-2 c = search needs
-
 returns-3 : tie.Need-returns-3 Inv-loop μ-loop
 returns-3 c =
     let p = c .before .before .before .before .before .before .before .before .args .p in
@@ -53,12 +47,6 @@ returns-3 c =
     let e : p .length ≡ q .length = c .before .before .before .before .if1 .left in
     let w = ap (λ (m : ℕ). same (padded (p .length) (p .digits)) (padded m (q .digits))) e in
     sym (sym w ∙ c .before .before .before .loop .inv ∙ same-differs (p .length) (p .digits) (q .digits) (c .before .before .before .loop .i) (omega arith) (omega arith) (omega arith) (c .if3 .taken))
-
-add-i : tie.Need-add-i Inv-loop μ-loop
-add-i c = search needs
-
-loop-less : tie.Need-loop-less Inv-loop μ-loop
-loop-less c = search needs
 
 loop-again : tie.Need-loop-again Inv-loop μ-loop
 loop-again c =
@@ -87,10 +75,10 @@ same-digits-spec =
     returns
     loop-holds
     returns-2
-    array-read-if3
-    array-read-if3-2
+    (λ c. search needs)
+    (λ c. search needs)
     returns-3
-    add-i
-    loop-less
+    (λ c. search needs)
+    (λ c. search needs)
     loop-again
     returns-4)

@@ -6,21 +6,6 @@ use Rattle.forms.specs.SchemeMemory.{orElse}
 use Rattle.wellformed.proofs.scheme_tests.entry_fault.Statement.{statement}
 use Rattle.wellformed.proofs.scheme_tests.entry_fault.Tie as tie
 
-root-fault-requires : tie.Need-root-fault-requires
-root-fault-requires c κs = search needs
-
-earlier-requires : tie.Need-earlier-requires
-earlier-requires c κs = search needs
-
-earlier-requires-2 : tie.Need-earlier-requires-2
-earlier-requires-2 c κs = search needs
-
-earlier-requires-3 : tie.Need-earlier-requires-3
-earlier-requires-3 c κs = search needs
-
-earlier-requires-4 : tie.Need-earlier-requires-4
-earlier-requires-4 c κs = search needs
-
 returns : tie.Need-returns
 returns c =
     let third = c .before in
@@ -36,9 +21,9 @@ pub entry-fault-spec : {M : Type 1} → statement M
 entry-fault-spec =
     tie.close
     (tie.spec
-    root-fault-requires
-    earlier-requires
-    earlier-requires-2
-    earlier-requires-3
-    earlier-requires-4
+    (λ c κs. search needs)
+    (λ c κs. search needs)
+    (λ c κs. search needs)
+    (λ c κs. search needs)
+    (λ c κs. search needs)
     returns)

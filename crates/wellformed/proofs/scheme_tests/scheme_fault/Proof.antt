@@ -1,5 +1,5 @@
--- `wellformed::scheme_tests::scheme_fault` meets its contract: the parts of the tests in their order.
--- Assumes nothing.
+-- `wellformed::scheme_tests::scheme_fault` meets its contract: the parts of the tests in their
+-- order. Assumes nothing.
 use Prim.Native.Nat.{_≤_}
 use mathlib.Core.Path.{_≡_, sym, ap, ap₂, _∙_}
 use native.Mathlib.Omega.{arith}
@@ -43,12 +43,6 @@ entries f =
     ap₂ orElse (found .none) (ap₂ orElse (found .twin) (ap (orElse (faultOf (rootTest E))) (ap₂ orElse (found .width) (found .position)))) ∙
     sym (five-faults (permutationTest E) (twinTest E) (rootTest E) (widthTest E) (positionTest E))
 
-large-fault-requires : tie.Need-large-fault-requires
-large-fault-requires c κs = search needs
-
-is-fault-requires : tie.Need-is-fault-requires
-is-fault-requires c κs = search needs
-
 returns : tie.Need-returns
 returns c =
     let large = c .before .before in
@@ -75,12 +69,6 @@ slice-aggregate-entry-fault : tie.Need-slice-aggregate-entry-fault
 slice-aggregate-entry-fault c =
     let k = c .before .before .before in
     sym (length-take-le (k .before .before .before .before .args .s .count) (k .codes-of .result) (room k))
-
-entry-fault-requires : tie.Need-entry-fault-requires
-entry-fault-requires c κs = search needs
-
-is-fault-requires-2 : tie.Need-is-fault-requires-2
-is-fault-requires-2 c κs = search needs
 
 returns-2 : tie.Need-returns-2
 returns-2 c =
@@ -113,9 +101,6 @@ link-faults-requires c κs =
     let clean = not-faulty (f .entry-fault .result) (sym (q .before .is-fault2 .ensures) ∙ q .if2 .left) in
     (linked-of-clean s (sized o) (sym (large .large-fault .ensures) ∙ none) (sym (entries f) ∙ clean), k .codes-of .ensures .1)
 
-link-fault-requires : tie.Need-link-fault-requires
-link-fault-requires c κs = search needs
-
 returns-3 : tie.Need-returns-3
 returns-3 c =
     let links = c .before in
@@ -134,8 +119,8 @@ pub scheme-fault-spec : {M : Type 1} → statement M
 scheme-fault-spec =
     tie.close
     (tie.spec
-    large-fault-requires
-    is-fault-requires
+    (λ c κs. search needs)
+    (λ c κs. search needs)
     returns
     codes-of-requires
     array-share-prefix-codes
@@ -143,11 +128,11 @@ scheme-fault-spec =
     entry-faults-requires
     array-share-prefix-codes-2
     slice-aggregate-entry-fault
-    entry-fault-requires
-    is-fault-requires-2
+    (λ c κs. search needs)
+    (λ c κs. search needs)
     returns-2
     array-share-prefix-codes-3
     slice-aggregate-link-faults
     link-faults-requires
-    link-fault-requires
+    (λ c κs. search needs)
     returns-3)

@@ -1,5 +1,5 @@
--- `word::containment::any_in` meets its contract: a pattern of the set stands in the word if one from the index on does.
--- Assumes nothing.
+-- `word::containment::any_in` meets its contract: a pattern of the set stands in the word if one
+-- from the index on does. Assumes nothing.
 use Prim.Native.Nat.{_-_}
 use mathlib.Core.Path.{_≡_, sym, _∙_}
 use mathlib.Core.Bool.{not}
@@ -29,33 +29,12 @@ returns c =
     let a = c .before .before .before .before .args in
     sym (c .before .before .loop .inv ∙ some-counted (a .t1) (a .t2) (a .count) (a .w .now) (c .before .before .loop .i) (omega arith))
 
-mul-first-copy : tie.Need-mul-first-copy Inv-loop μ-loop
-mul-first-copy c = search needs
-
-array-copy-out-first-copy : tie.Need-array-copy-out-first-copy Inv-loop μ-loop
-array-copy-out-first-copy c = search needs
-
-array-read-first-copy : tie.Need-array-read-first-copy Inv-loop μ-loop
-array-read-first-copy c = search needs
-
-cast-first-copy : tie.Need-cast-first-copy Inv-loop μ-loop
-cast-first-copy c = search needs
-
-first-copy-requires : tie.Need-first-copy-requires Inv-loop μ-loop
-first-copy-requires c κs = search needs
-
 returns-2 : tie.Need-returns-2 Inv-loop μ-loop
 returns-2 c =
     let a = c .before .before .before .before .before .before .before .args in
     let l = c .before .before .before .before .before .loop in
     let copy = found-contains (take (getD (a .t2) (l .i) 0) (getD (a .t1) (l .i) [])) (a .w .now) (c .before .first-copy .result) (c .before .first-copy .ensures) in
     sym (l .inv ∙ some-here (a .t1) (a .t2) (a .count) (a .w .now) (l .i) (search needs) (search needs) (omega arith) (sym copy ∙ c .if2 .taken))
-
-add-i : tie.Need-add-i Inv-loop μ-loop
-add-i c = search needs
-
-loop-less : tie.Need-loop-less Inv-loop μ-loop
-loop-less c = search needs
 
 loop-again : tie.Need-loop-again Inv-loop μ-loop
 loop-again c =
@@ -78,13 +57,13 @@ any-in-spec =
     μ-loop
     loop-holds
     returns
-    mul-first-copy
-    array-copy-out-first-copy
-    array-read-first-copy
-    cast-first-copy
-    first-copy-requires
+    (λ c. search needs)
+    (λ c. search needs)
+    (λ c. search needs)
+    (λ c. search needs)
+    (λ c κs. search needs)
     returns-2
-    add-i
-    loop-less
+    (λ c. search needs)
+    (λ c. search needs)
     loop-again
     returns-3)

@@ -29,9 +29,6 @@ returns-2 c =
     let a = c .before .before .before .before .args in
     decides (a .pattern .now) (a .permutation .now) _ (sym (empty-pattern (a .pattern .now) (a .permutation .now) (c .before .if1 .left) (c .if2 .taken)))
 
-is-permutation-requires : tie.Need-is-permutation-requires
-is-permutation-requires c κs = search needs
-
 returns-3 : tie.Need-returns-3
 returns-3 c =
     let a = c .before .before .before .before .before .before .args in
@@ -44,21 +41,12 @@ returns-4 c =
     let p : isPerm (a .pattern .now) ≡ true = sym (c .before .before .is-permutation .ensures) ∙ not-false _ (c .before .if3 .left) in
     decides (a .pattern .now) (a .permutation .now) _ (sym (long-word (a .pattern .now) (a .permutation .now) (c .before .before .before .before .if1 .left) (c .before .before .before .if2 .left) p (c .if4 .taken)))
 
-is-permutation-requires-2 : tie.Need-is-permutation-requires-2
-is-permutation-requires-2 c κs = search needs
-
 returns-5 : tie.Need-returns-5
 returns-5 c =
     let a = c .before .before .before .before .before .before .before .before .before .args in
     let p : isPerm (a .pattern .now) ≡ true = sym (c .before .before .before .before .is-permutation .ensures) ∙ not-false _ (c .before .before .before .if3 .left) in
     let w : isPerm (a .permutation .now) ≡ false = sym (c .before .is-permutation2 .ensures) ∙ not-true _ (c .if5 .taken) in
     decides (a .pattern .now) (a .permutation .now) _ (sym (no-word (a .pattern .now) (a .permutation .now) (c .before .before .before .before .before .before .if1 .left) (c .before .before .before .before .before .if2 .left) p (c .before .before .if4 .left) w))
-
-digits-of-requires : tie.Need-digits-of-requires
-digits-of-requires c κs = search needs
-
-first-copy-requires : tie.Need-first-copy-requires
-first-copy-requires c κs = search needs
 
 -- past the tests the answer is whether a copy was found
 searched :
@@ -86,12 +74,12 @@ contains-spec =
     (tie.spec
     returns
     returns-2
-    is-permutation-requires
+    (λ c κs. search needs)
     returns-3
     returns-4
-    is-permutation-requires-2
+    (λ c κs. search needs)
     returns-5
-    digits-of-requires
-    first-copy-requires
+    (λ c κs. search needs)
+    (λ c κs. search needs)
     returns-6
     returns-7)

@@ -16,9 +16,6 @@ Inv-loop s digits₀ i₀ digits i = (take i digits ≡ take i s) × (length dig
 abbrev μ-loop : tie.MeasureT-loop
 μ-loop s digits₀ i₀ digits i = 8 - i
 
-loop-holds : tie.Need-loop-holds Inv-loop μ-loop
-loop-holds c = search needs
-
 returns : tie.Need-returns Inv-loop μ-loop
 returns c =
     let l = c .before .before .loop in
@@ -26,18 +23,6 @@ returns c =
     let whole : l .i ≡ length s = omega arith in
     let eight : length s ≤ 8 = omega arith in
     ap (λ (k : ℕ). take k (l .digits)) (sym whole) ∙ l .inv .0 ∙ take-all (l .i) s (omega arith) ∙ sym (take-all 8 s eight)
-
-shared-slice-read-digits : tie.Need-shared-slice-read-digits Inv-loop μ-loop
-shared-slice-read-digits c = search needs
-
-array-write-digits : tie.Need-array-write-digits Inv-loop μ-loop
-array-write-digits c = search needs
-
-add-i : tie.Need-add-i Inv-loop μ-loop
-add-i c = search needs
-
-loop-less : tie.Need-loop-less Inv-loop μ-loop
-loop-less c = search needs
 
 loop-again : tie.Need-loop-again Inv-loop μ-loop
 loop-again c =
@@ -66,11 +51,11 @@ digits-of-spec =
     (tie.spec
     Inv-loop
     μ-loop
-    loop-holds
+    (λ c. search needs)
     returns
-    shared-slice-read-digits
-    array-write-digits
-    add-i
-    loop-less
+    (λ c. search needs)
+    (λ c. search needs)
+    (λ c. search needs)
+    (λ c. search needs)
     loop-again
     returns-2)

@@ -1,5 +1,5 @@
--- `word::copy::first_copy` meets its contract: the walk keeps the first copy among what is left to try, and what is left falls.
--- Assumes nothing.
+-- `word::copy::first_copy` meets its contract: the walk keeps the first copy among what is left to
+-- try, and what is left falls. Assumes nothing.
 use Prim.Native.Nat.{_-_, _≤_, _<_}
 use mathlib.Core.Path.{_≡_, sym, ap, _∙_}
 use mathlib.Core.Bool.{true, false}
@@ -57,9 +57,6 @@ positions-holds :
     tie.Need-positions-holds Inv-pairs μ-pairs Inv-positions μ-positions Inv-copy μ-copy
 positions-holds c = search needs
 
-sub-positions : tie.Need-sub-positions Inv-pairs μ-pairs Inv-positions μ-positions Inv-copy μ-copy
-sub-positions c = search needs
-
 sub-positions-2 :
     tie.Need-sub-positions-2 Inv-pairs μ-pairs Inv-positions μ-positions Inv-copy μ-copy
 sub-positions-2 c = search needs
@@ -67,12 +64,6 @@ sub-positions-2 c = search needs
 shared-slice-read-x :
     tie.Need-shared-slice-read-x Inv-pairs μ-pairs Inv-positions μ-positions Inv-copy μ-copy
 shared-slice-read-x c = search needs
-
-add-i : tie.Need-add-i Inv-pairs μ-pairs Inv-positions μ-positions Inv-copy μ-copy
-add-i c = search needs
-
-pairs-holds : tie.Need-pairs-holds Inv-pairs μ-pairs Inv-positions μ-positions Inv-copy μ-copy
-pairs-holds c = search needs
 
 array-read-below :
     tie.Need-array-read-below Inv-pairs μ-pairs Inv-positions μ-positions Inv-copy μ-copy
@@ -108,12 +99,6 @@ positions-again c =
       omega (arith, s .inv .1, weight-skip (k .result) (length (a .w .now)) (s .at) (s .d) (s .i) (W .inside) more),
     )
 
-add-j : tie.Need-add-j Inv-pairs μ-pairs Inv-positions μ-positions Inv-copy μ-copy
-add-j c = search needs
-
-pairs-less : tie.Need-pairs-less Inv-pairs μ-pairs Inv-positions μ-positions Inv-copy μ-copy
-pairs-less c = search needs
-
 pairs-again : tie.Need-pairs-again Inv-pairs μ-pairs Inv-positions μ-positions Inv-copy μ-copy
 pairs-again c =
     let a = c .before .before .before .before .before .before .before .before .before .before .args in
@@ -128,9 +113,6 @@ pairs-again c =
           (omega (arith, W .inside, k .ensures)) (omega (arith, W .inside, W .values, k .ensures)) j (c .if2 .left),
     )
 
-mul-at : tie.Need-mul-at Inv-pairs μ-pairs Inv-positions μ-positions Inv-copy μ-copy
-mul-at c = search needs
-
 array-write-at :
     tie.Need-array-write-at Inv-pairs μ-pairs Inv-positions μ-positions Inv-copy μ-copy
 array-write-at c = search needs
@@ -138,9 +120,6 @@ array-write-at c = search needs
 array-write-entries :
     tie.Need-array-write-entries Inv-pairs μ-pairs Inv-positions μ-positions Inv-copy μ-copy
 array-write-entries c = search needs
-
-add-d : tie.Need-add-d Inv-pairs μ-pairs Inv-positions μ-positions Inv-copy μ-copy
-add-d c = search needs
 
 -- after the walk over the pairs all of them compare alike
 passed :
@@ -186,15 +165,6 @@ returns-2 c =
     let none-left = walk-none (a .t1) (a .w .now) (a .len) (k .result) eight (k .ensures) (s .at) (s .entries) (s .d) (s .i) (s .inv .0) (omega arith) (c .if4 .taken) in
     sym (ap shown none-left)
 
-sub-d : tie.Need-sub-d Inv-pairs μ-pairs Inv-positions μ-positions Inv-copy μ-copy
-sub-d c = search needs
-
-mul-i : tie.Need-mul-i Inv-pairs μ-pairs Inv-positions μ-positions Inv-copy μ-copy
-mul-i c = search needs
-
-array-read-i : tie.Need-array-read-i Inv-pairs μ-pairs Inv-positions μ-positions Inv-copy μ-copy
-array-read-i c = search needs
-
 copy-less-2 : tie.Need-copy-less-2 Inv-pairs μ-pairs Inv-positions μ-positions Inv-copy μ-copy
 copy-less-2 c =
     let s = c .before .before .positions in
@@ -232,29 +202,29 @@ first-copy-spec =
     returns
     copy-holds
     positions-holds
-    sub-positions
+    (λ c. search needs)
     sub-positions-2
     shared-slice-read-x
-    add-i
-    pairs-holds
+    (λ c. search needs)
+    (λ c. search needs)
     array-read-below
     array-read-below-2
     array-read-found-below
     positions-less
     positions-again
-    add-j
-    pairs-less
+    (λ c. search needs)
+    (λ c. search needs)
     pairs-again
-    mul-at
+    (λ c. search needs)
     array-write-at
     array-write-entries
-    add-d
+    (λ c. search needs)
     copy-less
     copy-again
     returns-2
-    sub-d
-    mul-i
-    array-read-i
+    (λ c. search needs)
+    (λ c. search needs)
+    (λ c. search needs)
     copy-less-2
     copy-again-2
     returns-3)

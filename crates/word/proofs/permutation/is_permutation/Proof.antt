@@ -1,5 +1,5 @@
--- `word::permutation::is_permutation` meets its contract: the list is a permutation if what is left of it is listed.
--- Assumes nothing.
+-- `word::permutation::is_permutation` meets its contract: the list is a permutation if what is left
+-- of it is listed. Assumes nothing.
 use Prim.Native.Nat.{_-_, _<_, _≤_}
 use mathlib.Core.Path.{_≡_, sym, _∙_}
 use borrow.Author.Needs.{needs}
@@ -19,17 +19,11 @@ abbrev μ-loop : tie.MeasureT-loop
 loop-holds : tie.Need-loop-holds Inv-loop μ-loop
 loop-holds c = listed-whole (c .before .args .s .now)
 
-shared-slice-read-x : tie.Need-shared-slice-read-x Inv-loop μ-loop
-shared-slice-read-x c = search needs
-
 returns : tie.Need-returns Inv-loop μ-loop
 returns c =
     let s = c .before .before .before .before .before .args .s .now in
     let l = c .before .before .before .loop in
     sym (l .inv ∙ listed-none (length s) s (l .i) (omega arith) (c .if1 .taken))
-
-wide-requires : tie.Need-wide-requires Inv-loop μ-loop
-wide-requires c κs = search needs
 
 returns-2 : tie.Need-returns-2 Inv-loop μ-loop
 returns-2 c =
@@ -38,23 +32,11 @@ returns-2 c =
     let above : length s < getD s (l .i) 0 = omega (arith, c .before .wide .ensures .0) in
     sym (l .inv ∙ listed-above (length s) s (l .i) (omega arith) above)
 
-add-stands : tie.Need-add-stands Inv-loop μ-loop
-add-stands c = search needs
-
-stands-requires : tie.Need-stands-requires Inv-loop μ-loop
-stands-requires c κs = search needs
-
 returns-3 : tie.Need-returns-3 Inv-loop μ-loop
 returns-3 c =
     let s = c .before .before .before .before .before .before .before .before .before .args .s .now in
     let l = c .before .before .before .before .before .before .before .loop in
     sym (l .inv ∙ listed-twice (length s) s (l .i) (omega arith) (sym (c .before .stands .ensures) ∙ c .if3 .taken))
-
-add-i : tie.Need-add-i Inv-loop μ-loop
-add-i c = search needs
-
-loop-less : tie.Need-loop-less Inv-loop μ-loop
-loop-less c = search needs
 
 loop-again : tie.Need-loop-again Inv-loop μ-loop
 loop-again c =
@@ -76,14 +58,14 @@ is-permutation-spec =
     Inv-loop
     μ-loop
     loop-holds
-    shared-slice-read-x
+    (λ c. search needs)
     returns
-    wide-requires
+    (λ c κs. search needs)
     returns-2
-    add-stands
-    stands-requires
+    (λ c. search needs)
+    (λ c κs. search needs)
     returns-3
-    add-i
-    loop-less
+    (λ c. search needs)
+    (λ c. search needs)
     loop-again
     returns-4)

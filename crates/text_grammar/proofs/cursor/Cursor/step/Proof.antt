@@ -1,5 +1,5 @@
--- `text_grammar::cursor::Cursor::step` meets its contract: past the spaces the end, a run of digits, or a mark.
--- Assumes nothing.
+-- `text_grammar::cursor::Cursor::step` meets its contract: past the spaces the end, a run of
+-- digits, or a mark. Assumes nothing.
 use Prim.Native.Nat.{ℕ, _+_}
 use mathlib.Core.Path.{_≡_, sym, ap, _∙_}
 use mathlib.Core.List.{List}
@@ -11,41 +11,14 @@ use borrow.Author.Needs.{needs}
 use Rattle.text_grammar.proofs.cursor.Cursor.step.Statement.{statement}
 use Rattle.text_grammar.proofs.cursor.Cursor.step.Tie as tie
 
-past-spaces-requires : tie.Need-past-spaces-requires
-past-spaces-requires c κs = search needs
-
 returns : tie.Need-returns
 returns c = let a = c .before .before .before .args in
     stepped-end (a .s .now) (a .self .at) (c .before .past-spaces .result .at) (c .before .past-spaces .ensures) (c .if1 .taken)
-
-shared-slice-read-x : tie.Need-shared-slice-read-x
-shared-slice-read-x c = search needs
-
-is-digit-requires : tie.Need-is-digit-requires
-is-digit-requires c κs = search needs
-
-past-digits-requires : tie.Need-past-digits-requires
-past-digits-requires c κs = search needs
 
 returns-2 : tie.Need-returns-2
 returns-2 c = let a = c .before .before .before .before .before .before .before .args in
     let p = c .before .before .before .before .before .past-spaces in
     stepped-run (a .s .now) (a .self .at) (p .result .at) (p .ensures) (c .past-digits .result) (c .before .before .before .before .if1 .left) (sym (c .before .before .is-digit .ensures) ∙ c .before .if2 .taken) (c .past-digits .ensures)
-
-sub-mark-at : tie.Need-sub-mark-at
-sub-mark-at c = search needs
-
-part-mark-at-start : tie.Need-part-mark-at-start
-part-mark-at-start c = search needs
-
-part-mark-at-end : tie.Need-part-mark-at-end
-part-mark-at-end c = search needs
-
-mark-at-requires : tie.Need-mark-at-requires
-mark-at-requires c κs = search needs
-
-width-requires : tie.Need-width-requires
-width-requires c κs = search needs
 
 add-behind : tie.Need-add-behind
 add-behind c = let a = c .before .before .before .before .before .before .before .before .before .args in
@@ -67,16 +40,16 @@ pub step-spec : {M : Type 1} → statement M
 step-spec =
     tie.close
     (tie.spec
-    past-spaces-requires
+    (λ c κs. search needs)
     returns
-    shared-slice-read-x
-    is-digit-requires
-    past-digits-requires
+    (λ c. search needs)
+    (λ c κs. search needs)
+    (λ c κs. search needs)
     returns-2
-    sub-mark-at
-    part-mark-at-start
-    part-mark-at-end
-    mark-at-requires
-    width-requires
+    (λ c. search needs)
+    (λ c. search needs)
+    (λ c. search needs)
+    (λ c κs. search needs)
+    (λ c κs. search needs)
     add-behind
     returns-3)
