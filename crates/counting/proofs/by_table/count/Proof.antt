@@ -27,7 +27,7 @@ table-fault-requires c κs =
     let j = c .before .before .before .judge in
     let f = c .before .before .fault-of in
     let none = not-faulty (f .result) (sym (c .before .is-fault .ensures) ∙ c .if1 .left) in
-    proper (schemeIn (c .before .before .before .before .args .scheme))
+    proper (schemeIn (c .before .before .before .before .before .args .scheme))
     (j .ensures .exactly .0 (clean-accepts (j .result) (sym (f .ensures) ∙ none)) .0 .scheme)
 
 returns-2 : tie.Need-returns-2

@@ -11,26 +11,40 @@ use borrow.Author.Needs.{needs}
 use Rattle.table_print.proofs.printing.judge_lines.Statement.{statement}
 use Rattle.table_print.proofs.printing.judge_lines.Tie as tie
 
+-- the arrays have all their places
+set-room : (start : tie.Start) → length (start .args .lines .set) ≡ setRoom
+set-room start = (let g = start .good in search needs)
+
+scheme-room : (start : tie.Start) → length (start .args .lines .scheme) ≡ schemeRoom
+scheme-room start = (let g = start .good in search needs)
+
+array-share-prefix-set : tie.Need-array-share-prefix-set
+array-share-prefix-set c = omega (arith, set-room (c .before .before .before .before), c .before .least .ensures .1)
+
 slice-aggregate-read-and-judge : tie.Need-slice-aggregate-read-and-judge
 slice-aggregate-read-and-judge c =
-    let a = c .before .before .before .args in
-    let size : length (a .lines .set) ≡ setRoom = (let g = c .before .before .before .good in search needs) in
-    sym (length-take-le (c .before .before .least .result) (a .lines .set) (omega (arith, size, c .before .before .least .ensures .1)))
+    let m = c .before .before .least in
+    let start = c .before .before .before .before .before in
+    sym (length-take-le (m .result) (start .args .lines .set) (omega (arith, set-room start, m .ensures .1)))
+
+array-share-prefix-scheme : tie.Need-array-share-prefix-scheme
+array-share-prefix-scheme c = omega (arith, scheme-room (c .before .before .before .before .before), c .before .least2 .ensures .1)
 
 slice-aggregate-read-and-judge-2 : tie.Need-slice-aggregate-read-and-judge-2
 slice-aggregate-read-and-judge-2 c =
-    let a = c .before .before .before .before .args in
-    let size : length (a .lines .scheme) ≡ schemeRoom = (let g = c .before .before .before .before .good in search needs) in
-    sym (length-take-le (c .before .before .least2 .result) (a .lines .scheme) (omega (arith, size, c .before .before .least2 .ensures .1)))
+    let n = c .before .before .least2 in
+    let start = c .before .before .before .before .before .before in
+    sym (length-take-le (n .result) (start .args .lines .scheme) (omega (arith, scheme-room start, n .ensures .1)))
 
 returns : tie.Need-returns
 returns c =
-    let a = c .before .before .before .before .before .args in
-    let size : length (a .lines .set) ≡ setRoom = (let g = c .before .before .before .before .before .good in search needs) in
-    let size-scheme : length (a .lines .scheme) ≡ schemeRoom = (let g = c .before .before .before .before .before .good in search needs) in
+    let n = c .before .before .before .least2 in
+    let m = c .before .before .before .before .least in
+    let start = c .before .before .before .before .before .before .before in
+    let lines = start .args .lines in
     rw (
-      ← (ap (λ (n : ℕ). take n (a .lines .set)) (c .before .before .before .before .least .ensures .0) ∙ take-least (a .lines .set) (a .lines .«set_length») setRoom size),
-      ← (ap (λ (n : ℕ). take n (a .lines .scheme)) (c .before .before .before .least2 .ensures .0) ∙ take-least (a .lines .scheme) (a .lines .«scheme_length») schemeRoom size-scheme),
+      ← (ap (λ (n : ℕ). take n (lines .set)) (m .ensures .0) ∙ take-least (lines .set) (lines .«set_length») setRoom (set-room start)),
+      ← (ap (λ (n : ℕ). take n (lines .scheme)) (n .ensures .0) ∙ take-least (lines .scheme) (lines .«scheme_length») schemeRoom (scheme-room start)),
     )
     (c .read-and-judge .ensures)
 
@@ -40,9 +54,9 @@ judge-lines-spec =
     (tie.spec
     (λ c κs. search needs)
     (λ c κs. search needs)
-    (λ c. search needs)
+    array-share-prefix-set
     slice-aggregate-read-and-judge
-    (λ c. search needs)
+    array-share-prefix-scheme
     slice-aggregate-read-and-judge-2
     (λ c κs. search needs)
     returns)
