@@ -19,31 +19,28 @@ pub fn binomials() -> [usize; BINOMIALS]
     let mut b = [0usize; BINOMIALS];
     let mut n: usize = 0;
     while n <= LENGTH {
-        let next = with_row(b, n);
-        b = next;
+        fill_row(&mut b, n);
         n += 1;
     }
     b
 }
 
-// Row n, from the row before it.
-fn with_row(rows: [usize; BINOMIALS], n: usize) -> [usize; BINOMIALS]
-    requires { ⌜ (n ≤ LENGTH) × PascalTo n 0 rows ⌝ }
-    ensures { λ r. ⌜ PascalTo (n + 1) 0 r ⌝ }
+// Fills row n, from the row before it.
+fn fill_row(b: &mut [usize], n: usize)
+    requires { ⌜ (n ≤ LENGTH) × PascalTo n 0 (now b) ⌝ }
+    ensures { λ r. ⌜ PascalTo (n + 1) 0 (now (b .exit)) ⌝ }
 {
-    let mut b = rows;
     let mut k: usize = 0;
     while k < COLUMNS {
         let x = pascal_sum(b, n, k);
         b[COLUMNS * n + k] = x;
         k += 1;
     }
-    b
 }
 
 // C(n, k), from the row before it.
-fn pascal_sum(b: [usize; BINOMIALS], n: usize, k: usize) -> usize
-    requires { ⌜ (n ≤ LENGTH) × (k < COLUMNS) × PascalTo n k b ⌝ }
+fn pascal_sum(b: &[usize], n: usize, k: usize) -> usize
+    requires { ⌜ (n ≤ LENGTH) × (k < COLUMNS) × PascalTo n k (now b) ⌝ }
     ensures { λ r. ⌜ r ≡ binomial n k ⌝ }
 {
     if k == 0 {
