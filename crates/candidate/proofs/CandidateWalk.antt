@@ -5,12 +5,11 @@ use Prim.Native.Nat.{ℕ, zero, suc, _+_, _-_, _≤_, _<_}
 use mathlib.Core.Path.{_≡_, refl, sym, ap, _∙_}
 use mathlib.Core.Bool.{Bool, true, false, not, cond, _&&_, _||_}
 use mathlib.Core.List.{List, [], _∷_, _++_, map, List·Memᴰ, List·Memᴰ·head, List·Memᴰ·tail, List·Memᴰ·not-nil}
-use mathlib.Core.Logic.{_↔_, _⊎_, inl, inr}
+use mathlib.Core.Logic.{_↔_}
 use native.Mathlib.Nat.{sub-zero}
 use native.Mathlib.Numerals.{add-one}
 use native.Mathlib.Omega.{arith}
 use lib.ListN.{length, getD, take, drop}
-use lib.Seq.{getD-set-same, getD-set-other}
 use Rattle.word.specs.Lists.{all, any, keep, each, row}
 use Rattle.word.specs.Word.{contains, avoids, longest, under, reduce, has, distinct, entry, within, isPerm}
 use Rattle.word.specs.PermLaws.{perm-bounds, perm-distinct}
@@ -18,12 +17,12 @@ use Rattle.cell.specs.Claim.{DeletionClaim}
 use Rattle.cell.specs.CandidateLaws.{irreversible-law}
 use Rattle.candidate.specs.Tabled.{Tabled, IsCandidate}
 use Rattle.word.specs.Containment.{patternsOf}
-use Rattle.word.specs.ListLaws.{true-not-false, same-or-not}
+use Rattle.word.specs.ListLaws.{true-not-false}
 use Rattle.word.specs.ContainsLaws.{avoids-none}
 use Rattle.cell.specs.Cell.{total, without, free, vectors, mOf, compared}
 use Rattle.cell.specs.Built.{level, built}
 use Rattle.cell.specs.Candidate.{headLength, hit, violates, violated, irreversible}
-use Rattle.candidate.specs.Lookup.{Says, Flags}
+use Rattle.candidate.specs.Lookup.{needAt, Says, Flags}
 use Rattle.candidate.specs.Ready.{Ready, patternAt, Needs, Given, FlaggedFor, FreeAnswer, TotalAnswer, EntryAnswer}
 use Rattle.candidate.specs.BasisMemory.{pattern-member}
 use Rattle.spacing.specs.Following.{firstVector, later, Follows}
@@ -32,10 +31,10 @@ use Rattle.candidate.proofs.HitLaws.{hit-short}
 use Rattle.candidate.proofs.BasisWalk.{take-again, from, from-start, from-counted, from-end, from-cons}
 
 -- what is looked up for the pattern at place i
-pub ready : (set : List (List ℕ)) (lengths : List ℕ) (count : ℕ) (p R g levels gone : List ℕ) (needs : List (List ℕ)) (t i : ℕ) →
+pub ready : (set : List (List ℕ)) (lengths : List ℕ) (count : ℕ) (p R g levels gone : List ℕ) (needs : List ℕ) (t i : ℕ) →
     Given set lengths count p R → length g ≡ suc (length p) → total g ≡ t → Says levels (suc (length p)) (level g) →
     Flags gone 9 (λ v. has v (map (entry p) R)) → Needs set lengths count t needs → i < count → length (patternAt set lengths i) ≤ 8 →
-    Ready p R g (patternAt set lengths i) levels gone (getD needs i [])
+    Ready p R g (patternAt set lengths i) levels gone (needAt needs t i)
 ready set lengths count p R g levels gone needs t i G size e L F N h eight =
     record {
       perm = G .perm;
@@ -138,19 +137,8 @@ module _ (f : List ℕ → Bool) where
   pub totals-later : (k m t : ℕ) → t < m → any f (vectors (suc k) t) ≡ false → from-total k m t ≡ from-total k m (t + 1)
   totals-later k m t h e = totals-cons k m t h ∙ rw e refl
 
--- the needed levels of one more pattern
-pub needs-more : (set : List (List ℕ)) (lengths : List ℕ) (i t : ℕ) (needs : List (List ℕ)) (need : List ℕ) → Needs set lengths i t needs →
-    i < length needs → (t ≤ length (patternAt set lengths i) → Says need 9 (under (drop (headLength (patternAt set lengths i) t) (patternAt set lengths i)))) →
-    Needs set lengths (i + 1) t (lib.ListN.set needs i need)
-needs-more set lengths i t needs need N room new j h = go (same-or-not j i)
-  where
-    go : (j ≡ i) ⊎ (j ≡ i → ⊥) → t ≤ length (patternAt set lengths j) →
-        Says (getD (lib.ListN.set needs i need) j []) 9 (under (drop (headLength (patternAt set lengths j) t) (patternAt set lengths j)))
-    go (inl e) = rw (e, getD-set-same needs i need [] room) new
-    go (inr e) = rw (getD-set-other needs i j need [] e) (N j (omega arith))
-
 -- what `spacing_violated` looks up, for the positions R and the spacing g
-pub record Looked (set : List (List ℕ)) (lengths : List ℕ) (count : ℕ) (needs : List (List ℕ)) (p gone levels : List ℕ) (t : ℕ) (R g : List ℕ) : Type 0 where
+pub record Looked (set : List (List ℕ)) (lengths : List ℕ) (count : ℕ) (needs : List ℕ) (p gone levels : List ℕ) (t : ℕ) (R g : List ℕ) : Type 0 where
   pub given : Given set lengths count p R
   pub flags : Flags gone 9 (λ v. has v (map (entry p) R))
   pub size : length g ≡ suc (length p)
@@ -158,7 +146,7 @@ pub record Looked (set : List (List ℕ)) (lengths : List ℕ) (count : ℕ) (ne
   pub said : Says levels (suc (length p)) (level g)
   pub needed : Needs set lengths count t needs
 
-module _ (set : List (List ℕ)) (lengths : List ℕ) (count : ℕ) (needs : List (List ℕ)) (p gone levels : List ℕ) (t : ℕ) where
+module _ (set : List (List ℕ)) (lengths : List ℕ) (count : ℕ) (needs : List ℕ) (p gone levels : List ℕ) (t : ℕ) where
   -- the patterns before place i do not violate
   abbrev pub Passed : ℕ → Type 0
   Passed i =
@@ -174,7 +162,7 @@ module _ (set : List (List ℕ)) (lengths : List ℕ) (count : ℕ) (needs : Lis
   passed-end i h I R g L = sym (I R g L ∙ some-counted (violates (patternsOf set lengths count) p R g) set lengths count i h)
 
   module _ (i : ℕ) (hr : i < length set) (hl : i < length lengths) (hn : i < count) (eight : length (patternAt set lengths i) ≤ 8) (I : Passed i) where
-    pub look : (R g : List ℕ) → Looked set lengths count needs p gone levels t R g → Ready p R g (patternAt set lengths i) levels gone (getD needs i [])
+    pub look : (R g : List ℕ) → Looked set lengths count needs p gone levels t R g → Ready p R g (patternAt set lengths i) levels gone (needAt needs t i)
     look R g L = ready set lengths count p R g levels gone needs t i (L .given) (L .size) (L .whole) (L .said) (L .flags) (L .needed) hn eight
 
     later-passed : ((R g : List ℕ) → Looked set lengths count needs p gone levels t R g → violates (patternsOf set lengths count) p R g (patternAt set lengths i) ≡ false) → Passed (i + 1)
@@ -186,7 +174,7 @@ module _ (set : List (List ℕ)) (lengths : List ℕ) (count : ℕ) (needs : Lis
         later-passed (λ R g L. violates-missed (patternsOf set lengths count) p R g (patternAt set lengths i)
         (hit-short p R g (patternAt set lengths i) t (L .whole) h))
 
-    module _ (r : Bool) (hits : (R g : List ℕ) → Ready p R g (patternAt set lengths i) levels gone (getD needs i []) → total g ≡ t → r ≡ hit p R g (patternAt set lengths i)) where
+    module _ (r : Bool) (hits : (R g : List ℕ) → Ready p R g (patternAt set lengths i) levels gone (needAt needs t i) → total g ≡ t → r ≡ hit p R g (patternAt set lengths i)) where
       -- one that does not hit
       pub passed-missed : r ≡ false → Passed (i + 1)
       passed-missed e =
@@ -210,24 +198,15 @@ module _ (set : List (List ℕ)) (lengths : List ℕ) (count : ℕ) (needs : Lis
         violation a R g L =
             sym (I R g L ∙ some-here (violates (patternsOf set lengths count) p R g) set lengths count i hr hl hn (decides R g L ∙ a))
 
--- the needed levels of a pattern that is cut at its own length
-pub need-cut : (cut : List ℕ) (n len t : ℕ) (need : List ℕ) → len ≡ length (take n cut) → len ≤ 8 →
-    (t ≤ len → len ≤ 8 → Says need 9 (under (drop (len - t) (take len cut)))) →
-    t ≤ length (take n cut) → Says need 9 (under (drop (headLength (take n cut) t) (take n cut)))
-need-cut cut n len t need e eight f h v b =
-    f (omega arith) eight v b ∙
-    ap (λ (w : List ℕ). under (drop (len - t) w) v) (ap (λ (m : ℕ). take m cut) e ∙ take-again n cut) ∙
-    ap (λ (m : ℕ). under (drop (m - t) (take n cut)) v) e
-
 -- the word that was made is the candidate
-module _ (set : List (List ℕ)) (lengths : List ℕ) (count : ℕ) (needs : List (List ℕ)) (prefix gone levels : List ℕ) (k t i len : ℕ) (wide : length (take k prefix) ≡ k)
+module _ (set : List (List ℕ)) (lengths : List ℕ) (count : ℕ) (needs : List ℕ) (prefix gone levels : List ℕ) (k t i len : ℕ) (wide : length (take k prefix) ≡ k)
     (hn : i < count) (long : len ≡ length (patternAt set lengths i)) (eight : len ≤ 8) (short : t ≤ len) (w : List ℕ)
-    (made : IsCandidate prefix k levels gone (getD set i []) len t (getD needs i []) w) where
+    (made : IsCandidate prefix k levels gone (getD set i []) len t (needAt needs t i) w) where
   cut : take len (getD set i []) ≡ patternAt set lengths i
   cut = ap (λ (m : ℕ). take m (getD set i [])) long ∙ take-again (getD lengths i 0) (getD set i [])
 
   tabled : (R g : List ℕ) → Looked set lengths count needs (take k prefix) gone levels t R g →
-      Tabled prefix k levels gone (getD set i []) len t (getD needs i []) (take k prefix) R g (patternAt set lengths i)
+      Tabled prefix k levels gone (getD set i []) len t (needAt needs t i) (take k prefix) R g (patternAt set lengths i)
   tabled R g L =
       record {
         prefix-is = refl;
@@ -270,7 +249,7 @@ pub record Walked (set : List (List ℕ)) (lengths : List ℕ) (count : ℕ) (p 
       (R : List ℕ) → FlaggedFor set lengths count p R gone →
       any (lost B (patternsOf set lengths count) p R) (vectors (suc k) t) ≡ any (lost B (patternsOf set lengths count) p R) (v ∷ later v)
 
-module _ (set : List (List ℕ)) (lengths : List ℕ) (count : ℕ) (needs : List (List ℕ)) (p gone : List ℕ) (B : List (List ℕ)) (k t : ℕ) where
+module _ (set : List (List ℕ)) (lengths : List ℕ) (count : ℕ) (needs : List ℕ) (p gone : List ℕ) (B : List (List ℕ)) (k t : ℕ) where
   pub walked-start : (v : List ℕ) → v ≡ firstVector k t → Walked set lengths count p gone B k t v
   walked-start v e =
       record {

@@ -4,4 +4,5 @@ pub mod HitLaws
 pub mod BasisWalk
 pub mod LookupLaws
 pub mod CandidateMade
+pub mod NeedLaws
 pub mod CandidateWalk

@@ -1,15 +1,23 @@
 -- Lists that are indexed by values.
-use Prim.Native.Nat.{ℕ, _+_, _<_}
+use Prim.Native.Nat.{ℕ, _+_, _*_, _<_}
 use mathlib.Core.Path.{_≡_}
 use mathlib.Core.Bool.{Bool, not}
 use mathlib.Core.List.{List}
-use lib.ListN.{getD}
+use lib.ListN.{getD, take, drop}
 use lib.Dec.{eqb}
-use Rattle.word.specs.Ceilings.{DIGITS}
+use Rattle.word.specs.Ceilings.{DIGITS, PATTERNS}
 
 -- values that such a list reaches: 0 and the digits
 abbrev pub VALUES : ℕ
 VALUES = DIGITS + 1
+
+-- bytes of the needed levels of a set: for each pattern, each total below DIGITS and each value one
+abbrev pub NEEDS : ℕ
+NEEDS = PATTERNS * DIGITS * VALUES
+
+-- the part for the total t and the pattern at place i, indexed by values
+abbrev pub needAt : List ℕ → ℕ → ℕ → List ℕ
+needAt needs t i = take VALUES (drop ((i * DIGITS + t) * VALUES) needs)
 
 -- what a list that is indexed by values says of a value
 abbrev pub entryOf : List ℕ → ℕ → ℕ

@@ -13,7 +13,7 @@ use Rattle.cell.specs.Cell.{total, free, vectors}
 use Rattle.cell.specs.Claim.{DeletionClaim}
 use Rattle.cell.specs.Built.{level}
 use Rattle.cell.specs.Candidate.{headLength, violated, irreversible}
-use Rattle.candidate.specs.Lookup.{VALUES, Says, Flags}
+use Rattle.candidate.specs.Lookup.{VALUES, NEEDS, needAt, Says, Flags}
 
 -- of one prefix, its deleted positions, one spacing and one pattern
 pub record Ready (p R g β levels gone need : List ℕ) : Type 0 where
@@ -33,10 +33,15 @@ patternAt set lengths i = take (getD lengths i 0) (getD set i [])
 
 -- for each pattern that is at least t long the levels that its head entries need, where its last t
 -- entries are the rest
-abbrev pub Needs : List (List ℕ) → List ℕ → ℕ → ℕ → List (List ℕ) → Type 0
+abbrev pub Needs : List (List ℕ) → List ℕ → ℕ → ℕ → List ℕ → Type 0
 Needs set lengths count t needs =
     (i : ℕ) → i < count → t ≤ length (patternAt set lengths i) →
-    Says (getD needs i []) VALUES (under (drop (headLength (patternAt set lengths i) t) (patternAt set lengths i)))
+    Says (needAt needs t i) VALUES (under (drop (headLength (patternAt set lengths i) t) (patternAt set lengths i)))
+
+-- the same for every total below DIGITS
+pub record AllNeeds (set : List (List ℕ)) (lengths : List ℕ) (count : ℕ) (needs : List ℕ) : Type 0 where
+  pub sized : length needs ≡ NEEDS
+  pub said : (t : ℕ) → t < DIGITS → Needs set lengths count t needs
 
 -- a set of patterns and an entry's prefix and positions that went through the tests 2, 3 and 7
 pub record Given (set : List (List ℕ)) (lengths : List ℕ) (count : ℕ) (p R : List ℕ) : Type 0 where
@@ -52,13 +57,13 @@ abbrev pub FlaggedFor : List (List ℕ) → List ℕ → ℕ → List ℕ → Li
 FlaggedFor set lengths count p R gone = Given set lengths count p R × Flags gone VALUES (λ v. has v (map (entry p) R))
 
 -- at one spacing
-abbrev pub SpacingAnswer : List (List ℕ) → List ℕ → ℕ → List (List ℕ) → List ℕ → List ℕ → List ℕ → ℕ → Bool → Type 0
+abbrev pub SpacingAnswer : List (List ℕ) → List ℕ → ℕ → List ℕ → List ℕ → List ℕ → List ℕ → ℕ → Bool → Type 0
 SpacingAnswer set lengths count needs p gone g t r =
     (R : List ℕ) → FlaggedFor set lengths count p R gone → length g ≡ suc (length p) → total g ≡ t → Needs set lengths count t needs →
     r ≡ violated (patternsOf set lengths count) p R g
 
 -- at one spacing that is at least no vector of B
-abbrev pub FreeAnswer : List (List ℕ) → List ℕ → ℕ → List (List ℕ) → List ℕ → List ℕ → List (List ℕ) → List ℕ → ℕ → Bool → Type 0
+abbrev pub FreeAnswer : List (List ℕ) → List ℕ → ℕ → List ℕ → List ℕ → List ℕ → List (List ℕ) → List ℕ → ℕ → Bool → Type 0
 FreeAnswer set lengths count needs p gone B g t r =
     (R : List ℕ) → FlaggedFor set lengths count p R gone → length g ≡ suc (length p) → total g ≡ t → Needs set lengths count t needs →
     r ≡ (free B g && violated (patternsOf set lengths count) p R g)

@@ -2,6 +2,7 @@
 // pattern there is one word to look at: the prefix at the spacing, followed by the rest that the
 // pattern's last entries make.
 use crate::basis::digits;
+use crate::needed::need_at;
 use crate::placing::Placing;
 use crate::placing::placed;
 use crate::tables::Tables;
@@ -9,7 +10,6 @@ use crate::tables::VALUES;
 use crate::tables::candidate_word;
 use crate::tables::deleted_values;
 use crate::tables::levels_of;
-use crate::tables::needed;
 use completion::contained;
 use spacing::first_spacing;
 use spacing::is_free;
@@ -23,16 +23,16 @@ use word::limits::WORD;
 ghost use mathlib.Core.Path.{_≡_};
 ghost use mathlib.Core.Bool.{not};
 ghost use mathlib.Core.List.{List};
-ghost use Prim.Native.Nat.{ℕ, _+_, _-_, _≤_, _<_};
-ghost use lib.ListN.{take, drop};
+ghost use Prim.Native.Nat.{ℕ, _+_, _≤_, _<_};
+ghost use lib.ListN.{length, take};
 ghost use Rattle.word.specs.Ceilings.{DIGITS, PATTERNS, PREFIX, TOTAL, WORD};
-ghost use Rattle.word.specs.Word.{avoids, longest, under};
+ghost use Rattle.word.specs.Word.{avoids, longest};
 ghost use Rattle.word.specs.Containment.{patternsOf};
 ghost use Rattle.cell.specs.Cell.{total};
 ghost use Rattle.cell.specs.Candidate.{hit};
 ghost use Rattle.forms.specs.GapRows.{gapsOf, HasVectors};
-ghost use Rattle.candidate.specs.Lookup.{VALUES, Says};
-ghost use Rattle.candidate.specs.Ready.{Ready, Needs, Given, SpacingAnswer, FreeAnswer, TotalAnswer, EntryAnswer};
+ghost use Rattle.candidate.specs.Lookup.{NEEDS};
+ghost use Rattle.candidate.specs.Ready.{Ready, AllNeeds, Given, SpacingAnswer, FreeAnswer, TotalAnswer, EntryAnswer};
 
 // A deletion from an entry's prefix: the prefix, the deleted positions, how many gap vectors the
 // entry has, and the length of the longest pattern.
@@ -52,6 +52,12 @@ struct Deleted {
     length: usize,
     gone: [u8; VALUES],
     gap_count: usize,
+}
+
+// The same at the spacings of one total.
+struct OfTotal {
+    deleted: Deleted,
+    total: usize,
 }
 
 // The same at one spacing, with its total.
@@ -86,40 +92,6 @@ fn hits(
     placed([0u8; DIGITS], &row[..head], &prefix[..k], start, tables)
 }
 
-// The levels that a pattern's head entries need, where its last t entries are the rest; for a
-// shorter pattern anything.
-fn need_of(row: [u8; DIGITS], len: usize, t: usize) -> [u8; VALUES]
-    ensures { λ r. ⌜ (t ≤ len → len ≤ DIGITS → Says r VALUES (under (drop (len - t) (take len row)))) ⌝ }
-{
-    if len < t {
-        return [0u8; VALUES];
-    }
-    if DIGITS < len {
-        return [0u8; VALUES];
-    }
-    needed(row, len, t)
-}
-
-// The same for each pattern of the set.
-fn needs_of(
-    set: [[u8; DIGITS]; PATTERNS],
-    lengths: [u8; PATTERNS],
-    count: usize,
-    t: usize,
-) -> [[u8; VALUES]; PATTERNS]
-    requires { ⌜ count ≤ PATTERNS ⌝ }
-    ensures { λ r. ⌜ Needs set lengths count t r ⌝ }
-{
-    let mut needs = [[0u8; VALUES]; PATTERNS];
-    let mut i: usize = 0;
-    while i < count {
-        let len = digits(set[i], lengths[i] as usize);
-        needs[i] = need_of(set[i], len, t);
-        i += 1;
-    }
-    needs
-}
-
 // Whether the first `len` entries of the word contain a pattern. The one at place i, of which the
 // word is made, is the likeliest, and is tried first.
 fn contained_by(
@@ -145,11 +117,11 @@ fn spacing_violated(
     set: [[u8; DIGITS]; PATTERNS],
     lengths: [u8; PATTERNS],
     count: usize,
-    needs: [[u8; VALUES]; PATTERNS],
+    needs: &[u8],
     at: At,
 ) -> bool
-    requires { ⌜ (count ≤ PATTERNS) × (at .deleted .length ≤ PREFIX) × (total (take (at .deleted .length + 1) (at .spacing)) ≤ TOTAL) ⌝ }
-    ensures { λ r. ⌜ SpacingAnswer set lengths count needs (take (at .deleted .length) (at .deleted .prefix)) (at .deleted .gone) (take (at .deleted .length + 1) (at .spacing)) (at .total) r ⌝ }
+    requires { ⌜ (count ≤ PATTERNS) × (at .deleted .length ≤ PREFIX) × (total (take (at .deleted .length + 1) (at .spacing)) ≤ TOTAL) × (at .total < DIGITS) × (length (now needs) ≡ NEEDS) ⌝ }
+    ensures { λ r. ⌜ SpacingAnswer set lengths count (now (needs .entry)) (take (at .deleted .length) (at .deleted .prefix)) (at .deleted .gone) (take (at .deleted .length + 1) (at .spacing)) (at .total) r ⌝ }
 {
     let d = at.deleted;
     let prefix = d.prefix;
@@ -163,11 +135,11 @@ fn spacing_violated(
         let place = i;
         let row = set[i];
         let len = digits(row, lengths[i] as usize);
-        let need = needs[i];
         i += 1;
         if len <= t {
             continue;
         }
+        let need = need_at(needs, t, place);
         let tables = Tables {
             need: need,
             levels: levels,
@@ -192,12 +164,12 @@ fn free_and_violated(
     set: [[u8; DIGITS]; PATTERNS],
     lengths: [u8; PATTERNS],
     count: usize,
-    needs: [[u8; VALUES]; PATTERNS],
+    needs: &[u8],
     gaps: &[u8],
     at: At,
 ) -> bool
-    requires { ⌜ (count ≤ PATTERNS) × (at .deleted .length ≤ PREFIX) × (total (take (at .deleted .length + 1) (at .spacing)) ≤ TOTAL) × HasVectors (now gaps) (at .deleted .«gap_count») ⌝ }
-    ensures { λ r. ⌜ FreeAnswer set lengths count needs (take (at .deleted .length) (at .deleted .prefix)) (at .deleted .gone) (gapsOf (now (gaps .entry)) (at .deleted .length + 1) (at .deleted .«gap_count»)) (take (at .deleted .length + 1) (at .spacing)) (at .total) r ⌝ }
+    requires { ⌜ (count ≤ PATTERNS) × (at .deleted .length ≤ PREFIX) × (total (take (at .deleted .length + 1) (at .spacing)) ≤ TOTAL) × (at .total < DIGITS) × (length (now needs) ≡ NEEDS) × HasVectors (now gaps) (at .deleted .«gap_count») ⌝ }
+    ensures { λ r. ⌜ FreeAnswer set lengths count (now (needs .entry)) (take (at .deleted .length) (at .deleted .prefix)) (at .deleted .gone) (gapsOf (now (gaps .entry)) (at .deleted .length + 1) (at .deleted .«gap_count»)) (take (at .deleted .length + 1) (at .spacing)) (at .total) r ⌝ }
 {
     let d = at.deleted;
     let g = at.spacing;
@@ -207,21 +179,22 @@ fn free_and_violated(
     spacing_violated(set, lengths, count, needs, at)
 }
 
-// Whether some spacing of total t that is at least no gap vector has a violation: the spacings in
+// Whether some spacing of the total that is at least no gap vector has a violation: the spacings in
 // lexicographic order.
 fn total_violated(
     set: [[u8; DIGITS]; PATTERNS],
     lengths: [u8; PATTERNS],
     count: usize,
+    needs: &[u8],
     gaps: &[u8],
-    deleted: Deleted,
-    t: usize,
+    of: OfTotal,
 ) -> bool
-    requires { ⌜ (count ≤ PATTERNS) × (deleted .length ≤ PREFIX) × (t ≤ TOTAL) × HasVectors (now gaps) (deleted .«gap_count») ⌝ }
-    ensures { λ r. ⌜ TotalAnswer set lengths count (take (deleted .length) (deleted .prefix)) (deleted .gone) (gapsOf (now (gaps .entry)) (deleted .length + 1) (deleted .«gap_count»)) (deleted .length) t r ⌝ }
+    requires { ⌜ (count ≤ PATTERNS) × (of .deleted .length ≤ PREFIX) × (of .total < DIGITS) × AllNeeds set lengths count (now needs) × HasVectors (now gaps) (of .deleted .«gap_count») ⌝ }
+    ensures { λ r. ⌜ TotalAnswer set lengths count (take (of .deleted .length) (of .deleted .prefix)) (of .deleted .gone) (gapsOf (now (gaps .entry)) (of .deleted .length + 1) (of .deleted .«gap_count»)) (of .deleted .length) (of .total) r ⌝ }
 {
+    let deleted = of.deleted;
+    let t = of.total;
     let k = deleted.length;
-    let needs = needs_of(set, lengths, count, t);
     let mut g = first_spacing(k, t as u8);
     loop {
         let at = At {
@@ -246,10 +219,11 @@ pub fn irreversible(
     set: [[u8; DIGITS]; PATTERNS],
     lengths: [u8; PATTERNS],
     count: usize,
+    needs: &[u8],
     gaps: &[u8],
     deletion: Deletion,
 ) -> bool
-    requires { ⌜ (deletion .length ≤ PREFIX) × (deletion .«position_count» ≤ PREFIX) × (deletion .longest ≡ longest (patternsOf set lengths count)) × (deletion .longest ≤ DIGITS) × HasVectors (now gaps) (deletion .«gap_count») × Given set lengths count (take (deletion .length) (deletion .prefix)) (take (deletion .«position_count») (deletion .positions)) ⌝ }
+    requires { ⌜ AllNeeds set lengths count (now needs) × (deletion .length ≤ PREFIX) × (deletion .«position_count» ≤ PREFIX) × (deletion .longest ≡ longest (patternsOf set lengths count)) × (deletion .longest ≤ DIGITS) × HasVectors (now gaps) (deletion .«gap_count») × Given set lengths count (take (deletion .length) (deletion .prefix)) (take (deletion .«position_count») (deletion .positions)) ⌝ }
     ensures { λ r. ⌜ EntryAnswer (patternsOf set lengths count) (take (deletion .length) (deletion .prefix)) (gapsOf (now (gaps .entry)) (deletion .length + 1) (deletion .«gap_count»)) (take (deletion .«position_count») (deletion .positions)) r ⌝ }
 {
     let prefix = deletion.prefix;
@@ -265,7 +239,11 @@ pub fn irreversible(
     let m = deletion.longest;
     let mut t: usize = 0;
     while t + 1 <= m {
-        if total_violated(set, lengths, count, gaps, deleted, t) {
+        let of = OfTotal {
+            deleted: deleted,
+            total: t,
+        };
+        if total_violated(set, lengths, count, needs, gaps, of) {
             return true;
         }
         t += 1;

@@ -1,5 +1,5 @@
-// The numbers that the candidate search looks up by value: levels, needed levels, deleted values;
-// and the candidate's word.
+// The numbers that the candidate search looks up by value: levels, deleted values; and the
+// candidate's word.
 use word::limits::COMPONENTS;
 use word::limits::DIGITS;
 use word::limits::PREFIX;
@@ -31,7 +31,7 @@ pub struct Tables {
 }
 
 // How many of the entries of the row from index `from` up to `to` are at most x.
-fn at_most(row: [u8; DIGITS], from: usize, to: usize, x: u8) -> u8
+pub fn at_most(row: [u8; DIGITS], from: usize, to: usize, x: u8) -> u8
     requires { ⌜ (from ≤ to) × (to ≤ DIGITS) ⌝ }
     ensures { λ r. ⌜ r ≡ under (drop from (take to row)) x ⌝ }
 {
@@ -44,21 +44,6 @@ fn at_most(row: [u8; DIGITS], from: usize, to: usize, x: u8) -> u8
         j += 1;
     }
     n
-}
-
-// The level that each head entry of a pattern needs, by the entry: how many of the pattern's last t
-// entries are at most as large.
-pub fn needed(row: [u8; DIGITS], len: usize, t: usize) -> [u8; VALUES]
-    requires { ⌜ (t ≤ len) × (len ≤ DIGITS) ⌝ }
-    ensures { λ r. ⌜ Says r VALUES (under (drop (len - t) (take len row))) ⌝ }
-{
-    let mut need = [0u8; VALUES];
-    let mut x: usize = 0;
-    while x < VALUES {
-        need[x] = at_most(row, len - t, len, x as u8);
-        x += 1;
-    }
-    need
 }
 
 // The level of each prefix value: what the components before it hold together.

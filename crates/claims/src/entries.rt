@@ -16,6 +16,7 @@ ghost use Rattle.word.specs.Ceilings.{DIGITS};
 ghost use Rattle.word.specs.Containment.{patternsOf};
 ghost use Rattle.word.specs.Word.{longest};
 ghost use Rattle.forms.specs.SchemeMemory.{entryIn};
+ghost use Rattle.candidate.specs.Ready.{AllNeeds};
 ghost use Rattle.verdict.specs.Verdict.{liveGap, differs};
 ghost use Rattle.scheme.specs.Proper.{ProperEntry};
 ghost use Rattle.claims.specs.EntryMemory.{ProperSet, DeletesAt, ComparedAnswer};
@@ -44,52 +45,65 @@ pub fn has_live_gap(
     false
 }
 
+// A deletion: its position, and the length of the longest pattern.
+struct Cut {
+    position: usize,
+    longest: usize,
+}
+
 // Refusal 11 of one entry: whether some compared sizes differ, m being the length of the longest
-// pattern.
+// pattern, with the levels that the head entries of the patterns need.
 pub fn is_irreversible(
     set: [[u8; DIGITS]; PATTERNS],
     lengths: [u8; PATTERNS],
     count: usize,
+    needs: &[u8],
     m: usize,
     e: Entry,
 ) -> bool
-    requires { ⌜ ProperSet set lengths count × (m ≡ longest (patternsOf set lengths count)) × (m ≤ DIGITS) × ProperEntry (entryIn e) ⌝ }
+    requires { ⌜ AllNeeds set lengths count (now needs) × ProperSet set lengths count × (m ≡ longest (patternsOf set lengths count)) × (m ≤ DIGITS) × ProperEntry (entryIn e) ⌝ }
     ensures { λ r. ⌜ r ≡ differs (patternsOf set lengths count) ((entryIn e) .prefix) ((entryIn e) .gaps) ((entryIn e) .rule) ⌝ }
 {
     let rule = e.rule;
     match rule {
         Rule::Expand => false,
-        Rule::Delete(r) => loses(set, lengths, count, m, e, r),
+        Rule::Delete(r) => {
+            let cut = Cut {
+                position: r,
+                longest: m,
+            };
+            loses(set, lengths, count, needs, e, cut)
+        }
     }
 }
 
-// Whether the deletion of position r loses a member of the shorter cell.
+// Whether the deletion loses a member of the shorter cell.
 fn loses(
     set: [[u8; DIGITS]; PATTERNS],
     lengths: [u8; PATTERNS],
     count: usize,
-    m: usize,
+    needs: &[u8],
     e: Entry,
-    r: usize,
+    cut: Cut,
 ) -> bool
-    requires { ⌜ ProperSet set lengths count × (m ≡ longest (patternsOf set lengths count)) × (m ≤ DIGITS) × ProperEntry (entryIn e) × DeletesAt e r ⌝ }
-    ensures { λ b. ⌜ b ≡ differs (patternsOf set lengths count) ((entryIn e) .prefix) ((entryIn e) .gaps) ((entryIn e) .rule) ⌝ }
+    requires { ⌜ AllNeeds set lengths count (now needs) × ProperSet set lengths count × (cut .longest ≡ longest (patternsOf set lengths count)) × (cut .longest ≤ DIGITS) × ProperEntry (entryIn e) × DeletesAt e (cut .position) ⌝ }
+    ensures { λ r. ⌜ r ≡ differs (patternsOf set lengths count) ((entryIn e) .prefix) ((entryIn e) .gaps) ((entryIn e) .rule) ⌝ }
 {
     let prefix = e.prefix;
     let k = e.length;
     let gaps = e.gaps;
     let n = e.gap_count;
     let mut positions = [0u8; PREFIX];
-    positions[0] = r as u8;
+    positions[0] = cut.position as u8;
     let deletion = Deletion {
         prefix: prefix,
         length: k,
         positions: positions,
         position_count: 1,
         gap_count: n,
-        longest: m,
+        longest: cut.longest,
     };
-    irreversible(set, lengths, count, &gaps, deletion)
+    irreversible(set, lengths, count, needs, &gaps, deletion)
 }
 
 // How many cells are compared for one entry, m being the length of the longest pattern.

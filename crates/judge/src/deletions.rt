@@ -1,5 +1,6 @@
 // Test 11 over all entries, one entry at a time.
 use candidate::basis::longest_length;
+use candidate::needed::all_needs;
 use claims::entries::is_irreversible;
 use forms::memory::Fault;
 use forms::memory::Scheme;
@@ -26,11 +27,12 @@ pub fn irreversible_fault(
     ensures { λ r. ⌜ r ≡ faultOf (firstAt Irreversible (λ e. differs (patternsOf set lengths count) (e .prefix) (e .gaps) (e .rule)) 0 (schemeIn s)) ⌝ }
 {
     let m = longest_length(set, lengths, count);
+    let needs = all_needs(set, lengths, count);
     let n = s.count;
     let mut i: usize = 0;
     while i < n {
         let e = s.entries[i];
-        if is_irreversible(set, lengths, count, m, e) {
+        if is_irreversible(set, lengths, count, &needs, m, e) {
             return Fault::At(Refusal::Irreversible, i);
         }
         i += 1;

@@ -12,7 +12,7 @@ enum-told c = search needs
 
 returns : tie.Need-returns
 returns c =
-    let a = c .before .before .args in
+    let a = c .before .before .before .args in
     sym (expands-differs (patternsOf (a .set) (a .lengths) (a .count)) (a .e) (c .enum-told .given .1))
 
 pub is-irreversible-spec : {M : Type 1} → statement M
