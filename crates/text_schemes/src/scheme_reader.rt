@@ -34,7 +34,7 @@ ghost use Rattle.text_schemes.specs.SchemeLoaded.{loadedScheme};
 ghost use Rattle.text_gaps.specs.PartReading.{found, kept};
 ghost use Rattle.text_schemes.specs.SchemeReading.{RuleAt, EntryAt, schemeText};
 ghost use Rattle.text_schemes.specs.EntryReading.{MarkAt, ChoiceAt, PrefixAt, HeadAt, MiddleAt, TailAt};
-ghost use Rattle.text_schemes.specs.EntryReading.{ItemAt, schemeOf};
+ghost use Rattle.text_schemes.specs.EntryReading.{ItemAt};
 
 // A mark that is due.
 pub struct MarkRead {
@@ -354,15 +354,19 @@ fn all_entries(s: &[u8], mark: Choice) -> EntriesRead
     }
 }
 
-// What was read, where nothing comes after it.
-fn text_of(s: &[u8], m: EntriesRead) -> SchemeText
-    ensures { λ r. ⌜ r ≡ schemeOf (found (m .spelt) (m .scheme) (tokens (drop (m .next .at) (now (s .entry))))) ⌝ }
+// The scheme that a text spells, where nothing comes after it. The count is the true number of
+// entries; the first 128 are kept.
+pub fn load_scheme(s: &[u8]) -> SchemeText
+    ensures { λ r. ⌜ r ≡ schemeText (readEntries (tokens (now (s .entry)))) ⌝ }
 {
-    let c = m.next;
-    let scheme = m.scheme;
-    let t = c.step(s);
+    let c = Cursor { at: 0 };
+    let open = opening_at(s, c);
+    let m = all_entries(s, open);
+    let behind = m.next;
+    let t = behind.step(s);
     let kind = t.kind;
     if both(m.spelt, is_end(kind)) {
+        let scheme = m.scheme;
         return SchemeText {
             spelt: true,
             scheme,
@@ -373,14 +377,4 @@ fn text_of(s: &[u8], m: EntriesRead) -> SchemeText
         spelt: false,
         scheme: nothing,
     }
-}
-
-// The scheme that a text spells. The count is the true number of entries; the first 128 are kept.
-pub fn load_scheme(s: &[u8]) -> SchemeText
-    ensures { λ r. ⌜ r ≡ schemeText (readEntries (tokens (now (s .entry)))) ⌝ }
-{
-    let c = Cursor { at: 0 };
-    let open = opening_at(s, c);
-    let m = all_entries(s, open);
-    text_of(s, m)
 }
