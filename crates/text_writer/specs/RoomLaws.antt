@@ -7,6 +7,7 @@ use mathlib.Core.Bool.{Bool, true, false, cond}
 use mathlib.Core.List.{List, [], _∷_, _++_, map, List·Memᴰ, List·Memᴰ·head, List·Memᴰ·tail}
 use lib.ListN.{length, getD, replicate, length-append, length-map, length-take}
 use lib.Dec.{ltb}
+use Rattle.word.specs.Ceilings.{COMPONENTS, GAPS}
 use Rattle.word.specs.Lists.{row}
 use Rattle.word.specs.ListLaws.{each-append, length-row, row-out}
 use Rattle.forms.specs.SchemeList.{Does, expands, deletes}
@@ -84,24 +85,34 @@ pub bound-rule : (r : Does) → length (text (rulePieces r)) ≤ 5
 bound-rule expands = omega arith
 bound-rule (deletes n) = omega (arith, length-append (bytesOf (digits (numeral n))) (0x7D ∷ []), bound-number n)
 
-bound-gaps : (e : Entry) → EntryFits e → length (text (gapPieces e)) ≤ 323
+-- bytes of a vector, of all vectors and of an entry, where a component may have three digits
+abbrev vectorBytes : ℕ
+vectorBytes = 4 * COMPONENTS + 12
+
+abbrev gapsBytes : ℕ
+gapsBytes = vectorBytes * GAPS + 3
+
+abbrev entryBytes : ℕ
+entryBytes = gapsBytes + 27
+
+bound-gaps : (e : Entry) → EntryFits e → length (text (gapPieces e)) ≤ gapsBytes
 bound-gaps e h =
     let few = h .few in
-    let whole = bound-places (vectorAt e) 40 (e .«gap_count») items in
+    let whole = bound-places (vectorAt e) vectorBytes (e .«gap_count») items in
     rw (gaps-map e) (omega arith)
   where
-    items : (i : ℕ) → i < e .«gap_count» → length (text (vectorAt e i)) < 40
+    items : (i : ℕ) → i < e .«gap_count» → length (text (vectorAt e i)) < vectorBytes
     items i p =
         let g = entryGap e i in
         let narrow = h .fit i p .narrow in
         omega (arith, bound-vector (gapIn g), bound-padded (g .width) (g .parts))
 
-bound-entry : (e : Entry) → EntryFits e → length (text (entryPieces (entryIn e))) < 350
+bound-entry : (e : Entry) → EntryFits e → length (text (entryPieces (entryIn e))) < entryBytes
 bound-entry e h =
     let l = entryIn e in
     let short = h .short in
     subst
-    (λ (t : List ℕ). length t < 350)
+    (λ (t : List ℕ). length t < entryBytes)
     (sym (text-entry l))
     (simp length-append
     (omega (arith, bound-perm (l .prefix), bound-padded (e .length) (e .prefix), bound-gaps e h, bound-rule (l .rule))))
@@ -109,5 +120,5 @@ bound-entry e h =
 pub room-scheme : (s : Scheme) (at : ℕ) → SchemeFits s → at ≤ 1000000 → Room (writtenScheme (schemeIn s)) at
 room-scheme s at h k =
     let few = h .few in
-    let whole = bound-places (entryAt (s .entries)) 350 (s .count) (λ (i : ℕ) (p : i < s .count). bound-entry (getD (s .entries) i noEntry) (h .fit i p)) in
+    let whole = bound-places (entryAt (s .entries)) entryBytes (s .count) (λ (i : ℕ) (p : i < s .count). bound-entry (getD (s .entries) i noEntry) (h .fit i p)) in
     record { fits = rw (scheme-map s) (omega arith) }
