@@ -41,9 +41,11 @@ fn read_all() -> Reading
         state: State::More,
         lines: nothing(),
     };
+    // one buffer for all reads
+    let mut chunk = io::large_buffer();
     let mut turns = u64::MAX;
     while 0 < turns {
-        let next = read_some(reading.lines);
+        let next = read_some(reading.lines, &mut chunk);
         reading = next;
         let state = reading.state;
         if !has_more(state) {
@@ -54,11 +56,10 @@ fn read_all() -> Reading
     reading
 }
 
-// Reads once, and keeps what is needed of it.
-fn read_some(lines: Lines) -> Reading
+// Reads once into the chunk, and keeps what is needed of it.
+fn read_some(lines: Lines, chunk: &mut [u8]) -> Reading
     ensures { λ r. ⌜ ReadsSome lines r ⌝ }
 {
-    let mut chunk = io::large_buffer();
-    let got = libc::read(STDIN_FILENO, &mut chunk);
-    taken(lines, &chunk, got, os::errno())
+    let got = libc::read(STDIN_FILENO, chunk);
+    taken(lines, chunk, got, os::errno())
 }

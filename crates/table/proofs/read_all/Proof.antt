@@ -2,7 +2,9 @@
 -- of turns that are left falls.
 -- Assumes nothing.
 use native.Mathlib.Omega.{arith}
+use mathlib.Core.Path.{_≡_, sym, _∙_}
 use mathlib.Core.List.{[]}
+use lib.ListN.{length}
 use Rattle.table_lines.specs.Reads.{ReadsAll}
 use Rattle.table_lines.specs.ReadLaws.{reads-on}
 use borrow.Author.Needs.{needs}
@@ -10,13 +12,16 @@ use Rattle.table.proofs.read_all.Statement.{statement}
 use Rattle.table.proofs.read_all.Tie as tie
 
 abbrev Inv-loop : tie.InvT-loop
-Inv-loop reading₀ turns₀ reading turns = ReadsAll reading
+Inv-loop reading₀ chunk₀ turns₀ reading chunk turns = ReadsAll reading × (length chunk ≡ 65536)
 
 abbrev μ-loop : tie.MeasureT-loop
-μ-loop reading₀ turns₀ reading turns = turns
+μ-loop reading₀ chunk₀ turns₀ reading chunk turns = turns
 
 loop-holds : tie.Need-loop-holds Inv-loop μ-loop
-loop-holds c = record { input = []; kept = c .nothing .ensures }
+loop-holds c = (record { input = []; kept = c .before .nothing .ensures }, sym (c .large-buffer .ensures))
+
+slice-aggregate-read-some : tie.Need-slice-aggregate-read-some Inv-loop μ-loop
+slice-aggregate-read-some c = sym (c .before .before .loop .inv .1)
 
 sub-turns : tie.Need-sub-turns Inv-loop μ-loop
 sub-turns c = omega arith
@@ -26,18 +31,18 @@ loop-less c = omega arith
 
 loop-again : tie.Need-loop-again Inv-loop μ-loop
 loop-again c =
-    let l = c .before .before .before .before .loop in
-    let r = c .before .before .read-some in
-    reads-on (l .reading) (r .result) (l .inv) (r .ensures)
+    let r = c .before .before .before .read-some in
+    let l = c .before .before .before .before .before .before .loop in
+    (reads-on (l .reading) (r .result) (l .inv .0) (r .ensures), (let k = l .inv .1 in search needs))
 
 returns : tie.Need-returns Inv-loop μ-loop
-returns c = c .before .loop .inv
+returns c = c .before .loop .inv .0
 
 returns-2 : tie.Need-returns-2 Inv-loop μ-loop
 returns-2 c =
-    let l = c .before .before .before .before .loop in
-    let r = c .before .before .read-some in
-    reads-on (l .reading) (r .result) (l .inv) (r .ensures)
+    let r = c .before .before .before .read-some in
+    let l = c .before .before .before .before .before .before .loop in
+    reads-on (l .reading) (r .result) (l .inv .0) (r .ensures)
 
 pub read-all-spec : {M : Type 1} → statement M
 read-all-spec =
@@ -46,7 +51,9 @@ read-all-spec =
     Inv-loop
     μ-loop
     (λ c κs. search needs)
+    (λ c κs. search needs)
     loop-holds
+    slice-aggregate-read-some
     (λ c κs. search needs)
     (λ c κs. search needs)
     sub-turns
