@@ -1,5 +1,6 @@
 -- The first entries of a cell at a gap vector, as the code makes them, and the gap vectors of an
--- entry from a place on. Assumes nothing.
+-- entry from a place on.
+-- Assumes nothing.
 use Prim.Native.Nat.{ℕ, suc, _+_, _≤_, _<_, min}
 use native.Mathlib.Numerals.{add-one}
 use native.Mathlib.Omega.{arith}

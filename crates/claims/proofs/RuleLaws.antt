@@ -1,5 +1,6 @@
 -- The rule of an entry: the deletion that the candidate search decides, and the number of compared
--- cells. Assumes nothing.
+-- cells.
+-- Assumes nothing.
 use Prim.Native.Nat.{ℕ, zero, suc, _+_, _≤_, _<_}
 use native.Mathlib.Numerals.{add-one}
 use native.Mathlib.Omega.{arith}

@@ -1,5 +1,6 @@
 -- The first n numbers of an array in memory, and whether two such lists are the same; arrays that
--- are written place by place. Assumes nothing.
+-- are written place by place.
+-- Assumes nothing.
 use Prim.Native.Nat.{ℕ, zero, suc, _+_, _≤_, _<_}
 use native.Mathlib.Numerals.{add-one}
 use native.Mathlib.Omega.{arith}

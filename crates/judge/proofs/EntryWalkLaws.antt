@@ -1,5 +1,6 @@
 -- The tests of one entry as the loops over entries cite them, and the compared cells of the entries
--- from a place on. Assumes nothing.
+-- from a place on.
+-- Assumes nothing.
 use Prim.Native.Nat.{ℕ, suc, _+_, _≤_, _<_}
 use native.Mathlib.Numerals.{add-one}
 use native.Mathlib.Omega.{arith}

@@ -1,5 +1,6 @@
 -- What the answers of the writer of patterns say: the page spells the patterns, and reading it
--- gives them back. Assumes nothing.
+-- gives them back.
+-- Assumes nothing.
 use Prim.Native.Nat.{ℕ, _≤_, _<_}
 use mathlib.Core.Path.{_≡_, refl, sym, ap, _∙_}
 use mathlib.Core.Bool.{true}

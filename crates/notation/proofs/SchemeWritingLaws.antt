@@ -1,5 +1,6 @@
 -- What the answers of the writer of schemes say: the page spells the scheme, and reading it gives
--- it back. Assumes nothing.
+-- it back.
+-- Assumes nothing.
 use Prim.Native.Nat.{ℕ, _≤_, _<_}
 use mathlib.Core.Path.{_≡_, refl, sym, ap, _∙_}
 use mathlib.Core.Bool.{true}

@@ -1,5 +1,6 @@
 -- Laws of a prefix in memory: its digits, when it is the same as another, its children, and the
--- shorter prefix. Assumes nothing.
+-- shorter prefix.
+-- Assumes nothing.
 use Prim.Native.Nat.{ℕ, zero, suc, _+_, _-_, _≤_, _<_}
 use native.Mathlib.Numerals.{add-one}
 use native.Mathlib.Omega.{arith}

@@ -1,5 +1,6 @@
 -- Tests over the items g 0 to g (n - 1), from a place on: what one item adds; the first at fault,
--- the first twin, whether one passes a test. Assumes nothing.
+-- the first twin, whether one passes a test.
+-- Assumes nothing.
 use Prim.Native.Nat.{ℕ, zero, suc, _+_, _-_, _≤_, _<_}
 use mathlib.Core.Path.{_≡_, refl, sym, ap, _∙_}
 use mathlib.Core.Bool.{Bool, true, false, _||_, cond, true≢false}

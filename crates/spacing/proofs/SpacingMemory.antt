@@ -1,5 +1,6 @@
 -- Spacings in memory: the array steps of the first and the next spacing, and the tests on
--- components and gap vectors from a place on. Assumes nothing.
+-- components and gap vectors from a place on.
+-- Assumes nothing.
 use Prim.Native.Nat.{ℕ, zero, suc, _+_, _*_, _-_, _≤_, _<_}
 use mathlib.Core.Path.{_≡_, refl, sym, ap, _∙_}
 use mathlib.Core.Bool.{Bool, true, false, not, _&&_}

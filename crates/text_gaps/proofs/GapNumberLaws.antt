@@ -1,5 +1,6 @@
 -- Laws on the reader of numbers: the digits of a run, the number of a run, the number from a place
--- on. Assumes nothing.
+-- on.
+-- Assumes nothing.
 use Prim.Native.Nat.{ℕ, zero, suc, _+_, _*_, _-_, _≤_, _<_}
 use native.Mathlib.Omega.{arith}
 use mathlib.Core.Path.{_≡_, refl, sym, ap, ap₂, _∙_, subst}

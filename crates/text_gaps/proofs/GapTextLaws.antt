@@ -1,5 +1,6 @@
 -- Laws on the readers of gap vectors: components and vectors in memory, one more of them, and the
--- marks around them. Assumes nothing.
+-- marks around them.
+-- Assumes nothing.
 use Prim.Native.Nat.{ℕ, suc, _+_, _*_, _≤_, _<_}
 use native.Mathlib.Numerals.{add-one}
 use native.Mathlib.Omega.{arith}

@@ -1,5 +1,6 @@
 -- Laws on items that are read one after the other, for any reader of items: one item more, and the
--- first and the last. Assumes nothing.
+-- first and the last.
+-- Assumes nothing.
 use Prim.Native.Nat.{ℕ, suc, _≤_, _<_}
 use native.Mathlib.Omega.{arith}
 use mathlib.Core.Path.{_≡_, refl, sym, ap, ap₂, _∙_}

@@ -1,5 +1,6 @@
 -- Laws on the text from a place on: its front against a mark, its spaces, its run of digits, its
--- first token. Assumes nothing.
+-- first token.
+-- Assumes nothing.
 use Prim.Native.Nat.{ℕ, suc, _+_, _-_, _≤_, _<_}
 use native.Mathlib.Numerals.{add-one}
 use native.Mathlib.Omega.{arith}

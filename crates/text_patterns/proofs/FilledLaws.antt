@@ -1,5 +1,6 @@
 -- Laws on lists of a fixed length that hold the front of another, on the digits of a run, and on
--- patterns stored one after the other. Assumes nothing.
+-- patterns stored one after the other.
+-- Assumes nothing.
 use Prim.Native.Nat.{ℕ, zero, suc, _+_, _-_, _≤_, _<_}
 use native.Mathlib.Nat.{zero-add}
 use native.Mathlib.Numerals.{add-one}

@@ -1,5 +1,6 @@
 -- Laws on the walk of the reader of pattern sets: each token keeps what is read in all, and less is
--- left. Assumes nothing.
+-- left.
+-- Assumes nothing.
 use Prim.Native.Nat.{ℕ, _+_, _-_, _≤_, _<_}
 use native.Mathlib.Omega.{arith}
 use mathlib.Core.Path.{_≡_, refl, sym, ap, ap₂, _∙_, subst}

@@ -1,5 +1,6 @@
 -- Laws on the reader of schemes: entries one after the other, each kept in memory, and nothing
--- after the last mark. Assumes nothing.
+-- after the last mark.
+-- Assumes nothing.
 use Prim.Native.Nat.{ℕ, suc, _+_, _-_, _≤_, _<_}
 use native.Mathlib.Omega.{arith}
 use mathlib.Core.Path.{_≡_, refl, sym, ap, ap₂, _∙_, subst}

@@ -1,5 +1,6 @@
 -- Laws on the reader of entries: marks, a prefix, and parts of an entry that are read one after the
--- other. Assumes nothing.
+-- other.
+-- Assumes nothing.
 use Prim.Native.Nat.{ℕ, suc, _+_, _-_, _≤_, _<_}
 use native.Mathlib.Numerals.{add-one}
 use native.Mathlib.Omega.{arith}

@@ -1,5 +1,6 @@
 -- The tests of an entry in memory: what its fields say of the lists that they stand for, and what
--- test 2 leaves of a scheme. Assumes nothing.
+-- test 2 leaves of a scheme.
+-- Assumes nothing.
 use Prim.Native.Nat.{ℕ, suc, _+_, _≤_, _<_}
 use mathlib.Core.Path.{_≡_, refl, sym, ap, _∙_}
 use mathlib.Core.Bool.{Bool, true, false, not, _||_}

@@ -1,5 +1,6 @@
 -- Laws on findings in their order: the tests of a scheme list by their three parts, and what clean
--- parts say. Assumes nothing.
+-- parts say.
+-- Assumes nothing.
 use mathlib.Core.Path.{_≡_, refl, sym, ap, _∙_}
 use mathlib.Core.Bool.{true, false, true≢false}
 use mathlib.Core.List.{List, [], _∷_, _++_}

@@ -1,5 +1,6 @@
 -- Laws on the tests of a pattern list in memory: when digits are a pattern, and the number of
--- patterns before the tests of the items. Assumes nothing.
+-- patterns before the tests of the items.
+-- Assumes nothing.
 use Prim.Native.Nat.{ℕ, _≤_, _<_}
 use native.Mathlib.Omega.{arith}
 use mathlib.Core.Path.{_≡_, refl}

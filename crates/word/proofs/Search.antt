@@ -1,5 +1,6 @@
 -- The walk of `first_copy`: what is left to try at each of its points, that this is the first copy
--- at the start, and how it falls. Assumes nothing.
+-- at the start, and how it falls.
+-- Assumes nothing.
 use Prim.Native.Nat.{ℕ, zero, suc, _+_, _-_, _≤_, _<_, min}
 use mathlib.Core.Path.{_≡_, refl, sym, ap, _∙_, fun-ext}
 use mathlib.Core.Bool.{Bool, true, false, not, cond, _&&_, Bool·beq}

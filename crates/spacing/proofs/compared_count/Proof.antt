@@ -1,5 +1,6 @@
 -- `spacing::compared_count` meets its contract: what was counted and what passes from total t on
--- are the whole. Assumes nothing.
+-- are the whole.
+-- Assumes nothing.
 use denote.Ref.{now}
 use Prim.Native.Nat.{suc, _+_, _-_, _≤_}
 use mathlib.Core.Path.{_≡_}

@@ -1,5 +1,6 @@
 -- `spacing::free_count` meets its contract: what was counted and what passes from g on are the
--- whole. Assumes nothing.
+-- whole.
+-- Assumes nothing.
 use denote.Ref.{now}
 use Prim.Native.Nat.{suc, _+_}
 use mathlib.Core.Path.{_≡_, sym, _∙_}

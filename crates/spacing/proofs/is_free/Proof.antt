@@ -1,5 +1,6 @@
 -- `spacing::is_free` meets its contract: g is at least no gap vector if it is at least none from j
--- on. Assumes nothing.
+-- on.
+-- Assumes nothing.
 use denote.Ref.{now}
 use Prim.Native.Nat.{_+_, _-_}
 use mathlib.Core.Path.{_≡_, sym, _∙_}

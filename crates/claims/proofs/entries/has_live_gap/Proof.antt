@@ -1,5 +1,6 @@
 -- `claims::entries::has_live_gap` meets its contract: some vector is live if one from the index on
--- is. Assumes nothing.
+-- is.
+-- Assumes nothing.
 use borrow.Author.Needs.{needs}
 use Prim.Native.Nat.{ℕ, _-_, _≤_}
 use mathlib.Core.Path.{_≡_, sym, ap, _∙_}

@@ -1,5 +1,6 @@
 -- `claims::gaps::is_at_most` meets its contract: the sum is the level behind the components that
--- were added. Assumes nothing.
+-- were added.
+-- Assumes nothing.
 use mathlib.Core.Path.{_≡_, sym, ap, _∙_}
 use lib.ListN.{length, take}
 use lib.Seq.{length-take-le}

@@ -1,5 +1,6 @@
 -- `claims::gaps::is_live` meets its contract: a smaller vector shows that the cell is empty, or its
--- own first entries decide. Assumes nothing.
+-- own first entries decide.
+-- Assumes nothing.
 use Prim.Native.Nat.{ℕ, _+_}
 use mathlib.Core.Path.{sym, ap, _∙_}
 use mathlib.Core.Bool.{not}

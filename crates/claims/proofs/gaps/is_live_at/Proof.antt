@@ -1,5 +1,6 @@
 -- `claims::gaps::is_live_at` meets its contract: the first entries are those of the cell, and
--- completing them decides. Assumes nothing.
+-- completing them decides.
+-- Assumes nothing.
 use Prim.Native.Nat.{ℕ, _+_}
 use mathlib.Core.Path.{_≡_, sym, ap, ap₂, _∙_}
 use native.Mathlib.Omega.{arith}

@@ -1,5 +1,6 @@
 -- `forms::gaps::gap_at` meets its contract: the components so far are the first of those at the
--- index. Assumes nothing.
+-- index.
+-- Assumes nothing.
 use Prim.Native.Nat.{ℕ, _+_, _*_, _-_, _≤_, _<_}
 use mathlib.Core.Path.{_≡_, refl, ap₂, _∙_}
 use mathlib.Core.List.{List}

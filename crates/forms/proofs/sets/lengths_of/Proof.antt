@@ -1,5 +1,6 @@
 -- `forms::sets::lengths_of` meets its contract: the numbers up to the index are the lengths of
--- their patterns. Assumes nothing.
+-- their patterns.
+-- Assumes nothing.
 use borrow.Author.Needs.{needs}
 use Prim.Native.Nat.{ℕ, _-_, _%_, _≤_, _<_}
 use mathlib.Core.Path.{_≡_, refl, _∙_}

@@ -1,5 +1,6 @@
 -- `forms::sets::rows_of` meets its contract: the rows up to the index have the digits of their
--- patterns. Assumes nothing.
+-- patterns.
+-- Assumes nothing.
 use borrow.Author.Needs.{needs}
 use Prim.Native.Nat.{ℕ, _-_, _≤_, _<_}
 use mathlib.Core.Path.{_≡_, refl, _∙_}

@@ -1,5 +1,6 @@
 -- `judge::compared::compared_cells` meets its contract: what is added up, and the entries from the
--- index on, are the whole. Assumes nothing.
+-- index on, are the whole.
+-- Assumes nothing.
 use borrow.Author.Needs.{needs}
 use Prim.Native.Nat.{ℕ, _+_, _-_, _*_, _≤_}
 use mathlib.Core.Path.{_≡_, sym, ap, _∙_}

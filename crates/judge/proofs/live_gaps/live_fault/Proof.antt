@@ -1,5 +1,6 @@
 -- `judge::live_gaps::live_fault` meets its contract: the first entry at fault is the first one from
--- the index on. Assumes nothing.
+-- the index on.
+-- Assumes nothing.
 use borrow.Author.Needs.{needs}
 use Prim.Native.Nat.{_-_, _≤_}
 use mathlib.Core.Path.{_≡_, sym, ap, _∙_}

@@ -1,5 +1,6 @@
 -- `judge::texts::read_and_judge` meets its contract: what reading found decides, and then the
--- claims. Assumes nothing.
+-- claims.
+-- Assumes nothing.
 use mathlib.Core.Path.{sym, _∙_}
 use Rattle.judge.specs.TextVerdictLaws.{refused-texts, texts-formed, judged-texts}
 use borrow.Author.Needs.{needs}

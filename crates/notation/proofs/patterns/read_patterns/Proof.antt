@@ -1,5 +1,6 @@
 -- `notation::patterns::read_patterns` meets its contract: by the length of the text, by its
--- spelling, by the tests of what it spells. Assumes nothing.
+-- spelling, by the tests of what it spells.
+-- Assumes nothing.
 use mathlib.Core.Path.{sym, ap, _∙_}
 use borrow.Author.Tests.{not-true, not-false}
 use native.Mathlib.Omega.{arith}

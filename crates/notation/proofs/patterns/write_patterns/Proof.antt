@@ -1,5 +1,6 @@
 -- `notation::patterns::write_patterns` meets its contract: by the tests of the patterns, then by
--- the length of the page. Assumes nothing.
+-- the length of the page.
+-- Assumes nothing.
 use mathlib.Core.Path.{sym, _∙_}
 use native.Mathlib.Omega.{arith}
 use Rattle.word.specs.Finding.{firstFault}

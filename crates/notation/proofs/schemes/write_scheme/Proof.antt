@@ -1,5 +1,6 @@
 -- `notation::schemes::write_scheme` meets its contract: by the tests of the scheme, then by the
--- length of the page. Assumes nothing.
+-- length of the page.
+-- Assumes nothing.
 use mathlib.Core.Path.{sym, _∙_}
 use native.Mathlib.Omega.{arith}
 use Rattle.word.specs.Finding.{firstFault}

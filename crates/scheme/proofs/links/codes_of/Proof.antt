@@ -1,5 +1,6 @@
 -- `scheme::links::codes_of` meets its contract: the codes up to the index are those of their
--- entries. Assumes nothing.
+-- entries.
+-- Assumes nothing.
 use Prim.Native.Nat.{ℕ, _-_, _≤_, _<_}
 use mathlib.Core.Path.{_≡_, refl, sym, _∙_}
 use native.Mathlib.Omega.{arith}

@@ -1,5 +1,6 @@
 -- `scheme::links::shorter` meets its contract: as many digits as were passed are those of the
--- shorter prefix. Assumes nothing.
+-- shorter prefix.
+-- Assumes nothing.
 use Prim.Native.Nat.{_-_, _≤_, _<_}
 use mathlib.Core.Path.{_≡_, ap, _∙_}
 use mathlib.Core.List.{[], _∷_}

@@ -1,5 +1,6 @@
 -- `table_lines::input::keep` meets its contract: what is kept in all is what is kept from the index
--- on. Assumes nothing.
+-- on.
+-- Assumes nothing.
 use Prim.Native.Nat.{_-_, _≤_}
 use native.Mathlib.Omega.{arith}
 use mathlib.Core.Path.{_≡_, refl}

@@ -1,5 +1,6 @@
 -- `table_lines::reading::state_after` meets its contract: by the answer of `read`, and then by
--- errno. Assumes nothing.
+-- errno.
+-- Assumes nothing.
 use mathlib.Core.Path.{_≡_, sym, ap, _∙_}
 use lib.IntN.{pos}
 use lib.Signed.{ltZ}

@@ -1,4 +1,5 @@
--- `test_automaton::flat::same` is safe and ends: it has at most 160 turns. Assumes nothing.
+-- `test_automaton::flat::same` is safe and ends: it has at most 160 turns.
+-- Assumes nothing.
 use borrow.Author.Needs.{needs}
 use Prim.Native.Nat.{_-_}
 use Rattle.test_automaton.proofs.flat.same.Statement.{statement}

@@ -1,4 +1,5 @@
--- `test_containment::cases::entries` is safe and ends: it has 21 turns. Assumes nothing.
+-- `test_containment::cases::entries` is safe and ends: it has 21 turns.
+-- Assumes nothing.
 use borrow.Author.Needs.{needs}
 use Prim.Native.Nat.{_-_}
 use Rattle.test_containment.proofs.cases.entries.Statement.{statement}

@@ -1,5 +1,6 @@
 -- `test_counting::avoiders::avoiders` is safe and ends: the number of permutations that are left
--- falls. Assumes nothing.
+-- falls.
+-- Assumes nothing.
 use borrow.Author.Needs.{needs}
 use Prim.Native.Nat.{_-_}
 use Rattle.test_counting.proofs.avoiders.avoiders.Statement.{statement}

@@ -1,4 +1,5 @@
--- `test_counting::avoiders::avoids` is safe and ends: it has 24 turns at most. Assumes nothing.
+-- `test_counting::avoiders::avoids` is safe and ends: it has 24 turns at most.
+-- Assumes nothing.
 use borrow.Author.Needs.{needs}
 use Prim.Native.Nat.{_-_}
 use Rattle.test_counting.proofs.avoiders.avoids.Statement.{statement}

@@ -1,4 +1,5 @@
--- `test_counting::need::over_entries` is safe and ends: it has 128 turns at most. Assumes nothing.
+-- `test_counting::need::over_entries` is safe and ends: it has 128 turns at most.
+-- Assumes nothing.
 use borrow.Author.Needs.{needs}
 use Prim.Native.Nat.{_-_}
 use Rattle.test_counting.proofs.need.over_entries.Statement.{statement}

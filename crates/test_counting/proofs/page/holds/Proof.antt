@@ -1,4 +1,5 @@
--- `test_counting::page::holds` is safe and ends: what is left of the page falls. Assumes nothing.
+-- `test_counting::page::holds` is safe and ends: what is left of the page falls.
+-- Assumes nothing.
 use borrow.Author.Needs.{needs}
 use Prim.Native.Nat.{_-_}
 use lib.ListN.{length}

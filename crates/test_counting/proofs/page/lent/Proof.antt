@@ -1,4 +1,5 @@
--- `test_counting::page::lent` is safe: the part has the length that was asked for. Assumes nothing.
+-- `test_counting::page::lent` is safe: the part has the length that was asked for.
+-- Assumes nothing.
 use native.Mathlib.Omega.{arith}
 use lib.ListN.{length-take}
 use borrow.Author.Needs.{needs}

@@ -1,4 +1,5 @@
--- `test_counting::tally::counts` is safe and ends: it has eleven turns. Assumes nothing.
+-- `test_counting::tally::counts` is safe and ends: it has eleven turns.
+-- Assumes nothing.
 use borrow.Author.Needs.{needs}
 use Prim.Native.Nat.{_-_}
 use Rattle.test_counting.proofs.tally.counts.Statement.{statement}

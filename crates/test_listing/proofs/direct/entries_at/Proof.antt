@@ -1,4 +1,5 @@
--- `test_listing::direct::entries_at` is safe and ends: it has eight turns. Assumes nothing.
+-- `test_listing::direct::entries_at` is safe and ends: it has eight turns.
+-- Assumes nothing.
 use borrow.Author.Needs.{needs}
 use Prim.Native.Nat.{_≤_, _-_}
 use Rattle.test_listing.proofs.direct.entries_at.Statement.{statement}

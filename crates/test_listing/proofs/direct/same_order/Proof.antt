@@ -1,4 +1,5 @@
--- `test_listing::direct::same_order` is safe and ends: it has 64 turns at most. Assumes nothing.
+-- `test_listing::direct::same_order` is safe and ends: it has 64 turns at most.
+-- Assumes nothing.
 use borrow.Author.Needs.{needs}
 use Prim.Native.Nat.{_-_}
 use Rattle.test_listing.proofs.direct.same_order.Statement.{statement}

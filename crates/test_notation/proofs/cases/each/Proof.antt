@@ -1,4 +1,5 @@
--- `test_notation::cases::each` is safe and ends: what is left of the text falls. Assumes nothing.
+-- `test_notation::cases::each` is safe and ends: what is left of the text falls.
+-- Assumes nothing.
 use borrow.Author.Needs.{needs}
 use Prim.Native.Nat.{_-_}
 use lib.ListN.{length}

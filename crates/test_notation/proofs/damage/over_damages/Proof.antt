@@ -1,4 +1,5 @@
--- `test_notation::damage::over_damages` is safe and ends: it has 3,200 turns. Assumes nothing.
+-- `test_notation::damage::over_damages` is safe and ends: it has 3,200 turns.
+-- Assumes nothing.
 use borrow.Author.Needs.{needs}
 use Prim.Native.Nat.{_-_}
 use Rattle.test_notation.proofs.damage.over_damages.Statement.{statement}

@@ -1,4 +1,5 @@
--- `test_notation::lists::of_patterns` is safe and ends: it has 24 turns. Assumes nothing.
+-- `test_notation::lists::of_patterns` is safe and ends: it has 24 turns.
+-- Assumes nothing.
 use borrow.Author.Needs.{needs}
 use Prim.Native.Nat.{_-_}
 use Rattle.test_notation.proofs.lists.of_patterns.Statement.{statement}

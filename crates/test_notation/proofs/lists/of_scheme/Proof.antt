@@ -1,4 +1,5 @@
--- `test_notation::lists::of_scheme` is safe and ends: it has 1,280 turns at most. Assumes nothing.
+-- `test_notation::lists::of_scheme` is safe and ends: it has 1,280 turns at most.
+-- Assumes nothing.
 use borrow.Author.Needs.{needs}
 use Prim.Native.Nat.{_-_}
 use Rattle.test_notation.proofs.lists.of_scheme.Statement.{statement}

@@ -1,4 +1,5 @@
--- `test_notation::special::cuts` is safe and ends: it has 33 turns. Assumes nothing.
+-- `test_notation::special::cuts` is safe and ends: it has 33 turns.
+-- Assumes nothing.
 use borrow.Author.Needs.{needs}
 use Prim.Native.Nat.{_-_}
 use Rattle.test_notation.proofs.special.cuts.Statement.{statement}

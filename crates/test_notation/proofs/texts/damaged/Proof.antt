@@ -1,4 +1,5 @@
--- `test_notation::texts::damaged` is safe and ends: it has 160 turns. Assumes nothing.
+-- `test_notation::texts::damaged` is safe and ends: it has 160 turns.
+-- Assumes nothing.
 use borrow.Author.Needs.{needs}
 use Prim.Native.Nat.{_-_}
 use Rattle.test_notation.proofs.texts.damaged.Statement.{statement}

@@ -1,4 +1,5 @@
--- `test_support::parts::same` is safe and ends: what is left of the bytes falls. Assumes nothing.
+-- `test_support::parts::same` is safe and ends: what is left of the bytes falls.
+-- Assumes nothing.
 use borrow.Author.Needs.{needs}
 use Prim.Native.Nat.{_-_}
 use lib.ListN.{length}

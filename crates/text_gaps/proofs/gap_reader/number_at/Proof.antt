@@ -1,5 +1,6 @@
 -- `text_gaps::gap_reader::number_at` meets its contract: a run of digits is the number of the run,
--- and nothing else is a number. Assumes nothing.
+-- and nothing else is a number.
+-- Assumes nothing.
 use mathlib.Core.Path.{sym, _∙_}
 use borrow.Author.Tests.{not-true, not-false}
 use Rattle.text_gaps.proofs.GapNumberLaws.{number-other, run-length, number-run}

@@ -1,5 +1,6 @@
 -- `text_gaps::gap_reader::parts_at` meets its contract: what is read in all is what is read from
--- the place on. Assumes nothing.
+-- the place on.
+-- Assumes nothing.
 use Prim.Native.Nat.{_≤_}
 use mathlib.Core.Path.{_≡_, sym, _∙_}
 use native.Mathlib.Omega.{arith}

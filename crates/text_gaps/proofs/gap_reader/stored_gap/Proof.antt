@@ -1,5 +1,6 @@
 -- `text_gaps::gap_reader::stored_gap` meets its contract: within the arrays the vector is stored,
--- behind them only counted. Assumes nothing.
+-- behind them only counted.
+-- Assumes nothing.
 use Prim.Native.Nat.{_*_, _≤_}
 use mathlib.Core.Path.{_≡_}
 use native.Mathlib.Omega.{arith}

@@ -1,5 +1,6 @@
 -- `text_gaps::gap_reader::stored_part` meets its contract: within the array the component is
--- stored, behind it only counted. Assumes nothing.
+-- stored, behind it only counted.
+-- Assumes nothing.
 use mathlib.Core.Path.{_≡_}
 use native.Mathlib.Omega.{arith}
 use lib.ListN.{length}

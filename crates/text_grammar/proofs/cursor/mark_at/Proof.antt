@@ -1,5 +1,6 @@
 -- `text_grammar::cursor::mark_at` meets its contract: each test that was made decides one test of
--- the definition. Assumes nothing.
+-- the definition.
+-- Assumes nothing.
 use mathlib.Core.Path.{sym, _∙_}
 use Rattle.text_grammar.proofs.CursorLaws.{is-epsilon, is-empty, is-left, is-right, is-byte}
 use borrow.Author.Needs.{needs}

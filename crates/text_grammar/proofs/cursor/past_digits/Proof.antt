@@ -1,5 +1,6 @@
 -- `text_grammar::cursor::past_digits` meets its contract: the run ends where the run from the place
--- on ends. Assumes nothing.
+-- on ends.
+-- Assumes nothing.
 use Prim.Native.Nat.{_+_, _-_}
 use mathlib.Core.Path.{_≡_, refl, sym, _∙_}
 use borrow.Author.Needs.{needs}

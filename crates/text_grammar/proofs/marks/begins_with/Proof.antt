@@ -1,5 +1,6 @@
 -- `text_grammar::marks::begins_with` meets its contract: the text begins with the mark if from the
--- index on it begins with the rest. Assumes nothing.
+-- index on it begins with the rest.
+-- Assumes nothing.
 use Prim.Native.Nat.{_-_}
 use mathlib.Core.Path.{_≡_, sym, _∙_}
 use borrow.Author.Needs.{needs}

@@ -1,5 +1,6 @@
 -- `text_page::bytes::put` meets its contract: a byte inside the page is one place set, and one
--- behind its end changes nothing. Assumes nothing.
+-- behind its end changes nothing.
+-- Assumes nothing.
 use borrow.Author.Needs.{needs}
 use Rattle.text_page.specs.PageLaws.{one-inside, one-behind}
 use Rattle.text_page.proofs.bytes.put.Statement.{statement}

@@ -1,5 +1,6 @@
 -- `text_page::bytes::put_bytes` meets its contract: what is still to come are the bytes from the
--- index on. Assumes nothing.
+-- index on.
+-- Assumes nothing.
 use Prim.Native.Nat.{_-_}
 use borrow.Author.Needs.{needs}
 use native.Mathlib.Numerals.{add-one}

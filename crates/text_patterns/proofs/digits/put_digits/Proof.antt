@@ -1,5 +1,6 @@
 -- `text_patterns::digits::put_digits` meets its contract: the digits so far are the front of the
--- run. Assumes nothing.
+-- run.
+-- Assumes nothing.
 use Prim.Native.Nat.{_+_, _-_, _<_}
 use mathlib.Core.Path.{_≡_, refl, _∙_}
 use native.Mathlib.Omega.{arith}

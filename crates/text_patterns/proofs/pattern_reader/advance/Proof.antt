@@ -1,5 +1,6 @@
 -- `text_patterns::pattern_reader::advance` meets its contract: one token more by the laws of the
--- walk. Assumes nothing.
+-- walk.
+-- Assumes nothing.
 use Rattle.text_patterns.proofs.PatternWalkLaws.{storable, advanced-to}
 use borrow.Author.Needs.{needs}
 use Rattle.text_patterns.proofs.pattern_reader.advance.Statement.{statement}

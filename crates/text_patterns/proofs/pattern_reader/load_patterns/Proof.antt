@@ -1,5 +1,6 @@
 -- `text_patterns::pattern_reader::load_patterns` meets its contract: what is read in all is what is
--- read from the place on. Assumes nothing.
+-- read from the place on.
+-- Assumes nothing.
 use mathlib.Core.Path.{sym, _∙_}
 use native.Mathlib.Omega.{arith}
 use borrow.Author.Tests.{not-true, not-false}

@@ -1,5 +1,6 @@
 -- `text_patterns::pattern_reader::stored` meets its contract: within the array the pattern is
--- stored, behind it only counted. Assumes nothing.
+-- stored, behind it only counted.
+-- Assumes nothing.
 use mathlib.Core.Path.{_≡_}
 use native.Mathlib.Omega.{arith}
 use lib.ListN.{length}

@@ -1,5 +1,6 @@
 -- `text_schemes::scheme_reader::all_entries` meets its contract: what is read in all is what is
--- read from the place on. Assumes nothing.
+-- read from the place on.
+-- Assumes nothing.
 use native.Mathlib.Omega.{arith}
 use Prim.Native.Nat.{_-_}
 use lib.ListN.{length}

@@ -1,5 +1,6 @@
 -- `text_schemes::scheme_reader::byte_at` meets its contract: the next token is the byte, or it is
--- not. Assumes nothing.
+-- not.
+-- Assumes nothing.
 use Rattle.text_schemes.proofs.EntryTextLaws.{marked}
 use borrow.Author.Needs.{needs}
 use Rattle.text_schemes.proofs.scheme_reader.byte_at.Statement.{statement}

@@ -1,5 +1,6 @@
 -- `text_schemes::scheme_reader::entry_at` meets its contract: its three parts are read one after
--- the other, each from the tail of the text. Assumes nothing.
+-- the other, each from the tail of the text.
+-- Assumes nothing.
 use native.Mathlib.Omega.{arith}
 use Rattle.text_schemes.proofs.EntryTextLaws.{head-inside, middle-inside, tail-inside, entered-on}
 use borrow.Author.Needs.{needs}

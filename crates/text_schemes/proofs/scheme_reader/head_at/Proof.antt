@@ -1,5 +1,6 @@
 -- `text_schemes::scheme_reader::head_at` meets its contract: a mark, a prefix and a mark are read
--- one after the other. Assumes nothing.
+-- one after the other.
+-- Assumes nothing.
 use Rattle.text_schemes.proofs.EntryTextLaws.{headed}
 use borrow.Author.Needs.{needs}
 use Rattle.text_schemes.proofs.scheme_reader.head_at.Statement.{statement}

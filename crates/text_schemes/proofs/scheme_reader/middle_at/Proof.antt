@@ -1,5 +1,6 @@
 -- `text_schemes::scheme_reader::middle_at` meets its contract: gap vectors and a mark are read one
--- after the other. Assumes nothing.
+-- after the other.
+-- Assumes nothing.
 use Rattle.text_schemes.proofs.EntryTextLaws.{middled}
 use borrow.Author.Needs.{needs}
 use Rattle.text_schemes.proofs.scheme_reader.middle_at.Statement.{statement}

@@ -1,5 +1,6 @@
 -- `text_schemes::scheme_reader::opening_at` meets its contract: the next token is ∅, an opening
--- brace, or neither. Assumes nothing.
+-- brace, or neither.
+-- Assumes nothing.
 use Rattle.text_schemes.proofs.EntryTextLaws.{opened, opened-other}
 use borrow.Author.Needs.{needs}
 use Rattle.text_schemes.proofs.scheme_reader.opening_at.Statement.{statement}

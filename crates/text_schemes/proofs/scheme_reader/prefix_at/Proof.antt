@@ -1,5 +1,6 @@
 -- `text_schemes::scheme_reader::prefix_at` meets its contract: the next token is a run of digits,
--- ε, or neither. Assumes nothing.
+-- ε, or neither.
+-- Assumes nothing.
 use mathlib.Core.Path.{sym, _∙_}
 use Rattle.text_schemes.proofs.EntryTextLaws.{prefixed, prefixed-other}
 use borrow.Author.Needs.{needs}

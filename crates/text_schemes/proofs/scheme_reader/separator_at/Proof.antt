@@ -1,5 +1,6 @@
 -- `text_schemes::scheme_reader::separator_at` meets its contract: the next token is a closing
--- brace, a comma, or neither. Assumes nothing.
+-- brace, a comma, or neither.
+-- Assumes nothing.
 use Rattle.text_schemes.proofs.EntryTextLaws.{closed, closed-other}
 use borrow.Author.Needs.{needs}
 use Rattle.text_schemes.proofs.scheme_reader.separator_at.Statement.{statement}

@@ -1,5 +1,6 @@
 -- `text_schemes::scheme_reader::tail_at` meets its contract: a rule and a mark are read one after
--- the other. Assumes nothing.
+-- the other.
+-- Assumes nothing.
 use Rattle.text_schemes.proofs.EntryTextLaws.{tailed}
 use borrow.Author.Needs.{needs}
 use Rattle.text_schemes.proofs.scheme_reader.tail_at.Statement.{statement}

@@ -1,5 +1,6 @@
 -- `text_writer::writing::put_deleted` meets its contract: an opening brace, the number and a
--- closing brace. Assumes nothing.
+-- closing brace.
+-- Assumes nothing.
 use mathlib.Core.Path.{refl}
 use borrow.Author.Needs.{needs}
 use Rattle.text_page.specs.PageLaws.{start-as, step, finish-by, room-next, room-last}

@@ -1,5 +1,6 @@
 -- `text_writer::writing::put_digits` meets its contract: what is still to come are the digits from
--- the index on. Assumes nothing.
+-- the index on.
+-- Assumes nothing.
 use Prim.Native.Nat.{_-_}
 use borrow.Author.Needs.{needs}
 use native.Mathlib.Omega.{arith}

@@ -1,5 +1,6 @@
 -- `text_writer::writing::put_entry` meets its contract: the seven parts of an entry, one after the
--- other. Assumes nothing.
+-- other.
+-- Assumes nothing.
 use mathlib.Core.Path.{_≡_, refl}
 use native.Mathlib.Omega.{arith}
 use lib.ListN.{length}

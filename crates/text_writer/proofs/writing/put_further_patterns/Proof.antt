@@ -1,5 +1,6 @@
 -- `text_writer::writing::put_further_patterns` meets its contract: what is still to come are the
--- patterns from the index on. Assumes nothing.
+-- patterns from the index on.
+-- Assumes nothing.
 use Prim.Native.Nat.{_+_, _-_}
 use borrow.Author.Needs.{needs}
 use Rattle.text_page.specs.PageLaws.{ToCome, start-as, same-size, room-first, room-rest}

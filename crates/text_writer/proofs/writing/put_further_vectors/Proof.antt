@@ -1,5 +1,6 @@
 -- `text_writer::writing::put_further_vectors` meets its contract: what is still to come are the
--- vectors from the index on. Assumes nothing.
+-- vectors from the index on.
+-- Assumes nothing.
 use Prim.Native.Nat.{_-_}
 use borrow.Author.Needs.{needs}
 use Rattle.text_page.specs.PageLaws.{ToCome, start, same-size, room-first, room-rest}

@@ -1,5 +1,6 @@
 -- `text_writer::writing::put_gaps` meets its contract: no vectors are ∅, and others an opening
--- brace, the first, the further ones and a closing brace. Assumes nothing.
+-- brace, the first, the further ones and a closing brace.
+-- Assumes nothing.
 use mathlib.Core.Path.{refl, sym}
 use borrow.Author.Needs.{needs}
 use Rattle.text_page.specs.PageLaws.{start-as, step, finish-by, room-as, room-next, room-last, writes-as}

@@ -1,5 +1,6 @@
 -- `text_writer::writing::put_permutation` meets its contract: the text of no digits is ε, and that
--- of some digits is theirs. Assumes nothing.
+-- of some digits is theirs.
+-- Assumes nothing.
 use mathlib.Core.Path.{sym}
 use borrow.Author.Needs.{needs}
 use Rattle.text_page.specs.PageLaws.{room-as, writes-as}

@@ -1,5 +1,6 @@
 -- `text_writer::writing::put_vector` meets its contract: a mark, the first component, the further
--- ones and a mark. Assumes nothing.
+-- ones and a mark.
+-- Assumes nothing.
 use mathlib.Core.Path.{_≡_, refl}
 use native.Mathlib.Omega.{arith}
 use lib.ListN.{length}

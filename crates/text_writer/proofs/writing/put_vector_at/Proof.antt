@@ -1,5 +1,6 @@
 -- `text_writer::writing::put_vector_at` meets its contract: the vector that is written is the one
--- with the index. Assumes nothing.
+-- with the index.
+-- Assumes nothing.
 use mathlib.Core.Path.{sym, ap}
 use borrow.Author.Needs.{needs}
 use Rattle.forms.specs.SchemeMemory.{gapIn}

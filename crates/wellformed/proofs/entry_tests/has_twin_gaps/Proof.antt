@@ -1,5 +1,6 @@
 -- `wellformed::entry_tests::has_twin_gaps` meets its contract: a vector stands twice if one from
--- the index on does. Assumes nothing.
+-- the index on does.
+-- Assumes nothing.
 use Prim.Native.Nat.{_+_, _-_, _≤_}
 use mathlib.Core.Path.{_≡_, sym, ap, _∙_}
 use mathlib.Core.List.{map}

@@ -1,5 +1,6 @@
 -- `wellformed::entry_tests::large_entry` meets its contract: the entry passes a ceiling if a vector
--- from the index on does. Assumes nothing.
+-- from the index on does.
+-- Assumes nothing.
 use Prim.Native.Nat.{_-_, _≤_}
 use mathlib.Core.Path.{_≡_, sym, ap, _∙_}
 use borrow.Author.Needs.{needs}

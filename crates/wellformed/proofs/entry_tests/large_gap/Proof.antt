@@ -1,5 +1,6 @@
 -- `wellformed::entry_tests::large_gap` meets its contract: the vector passes a ceiling if the sum
--- so far and the total of what is left do. Assumes nothing.
+-- so far and the total of what is left do.
+-- Assumes nothing.
 use Prim.Native.Nat.{_+_, _-_, _≤_}
 use mathlib.Core.Path.{_≡_, refl, sym, ap, _∙_}
 use borrow.Author.Needs.{needs}

@@ -1,5 +1,6 @@
 -- `wellformed::entry_tests::same_bytes` meets its contract: the lists are the same if what is left
--- of them is. Assumes nothing.
+-- of them is.
+-- Assumes nothing.
 use Prim.Native.Nat.{_-_, _≤_}
 use mathlib.Core.Path.{_≡_, sym, _∙_}
 use borrow.Author.Needs.{needs}

@@ -1,5 +1,6 @@
 -- `wellformed::entry_tests::same_gap` meets its contract: the parts of the two arrays are the
--- vectors. Assumes nothing.
+-- vectors.
+-- Assumes nothing.
 use mathlib.Core.Path.{_≡_, sym, ap₂, _∙_}
 use native.Mathlib.Omega.{arith}
 use lib.ListN.{length}

@@ -1,5 +1,6 @@
 -- `wellformed::entry_tests::stands_from` meets its contract: the vector stands from `start` on if
--- it stands from the index on. Assumes nothing.
+-- it stands from the index on.
+-- Assumes nothing.
 use Prim.Native.Nat.{_-_, _≤_}
 use mathlib.Core.Path.{_≡_, sym, ap, _∙_}
 use borrow.Author.Needs.{needs}

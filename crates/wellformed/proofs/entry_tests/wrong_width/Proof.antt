@@ -1,5 +1,6 @@
 -- `wellformed::entry_tests::wrong_width` meets its contract: a vector has another width if one from
--- the index on has. Assumes nothing.
+-- the index on has.
+-- Assumes nothing.
 use Prim.Native.Nat.{_-_, _≤_}
 use mathlib.Core.Path.{_≡_, sym, _∙_}
 use borrow.Author.Needs.{needs}

@@ -1,5 +1,6 @@
 -- `wellformed::pattern_tests::first_long` meets its contract: the first long item is the first from
--- the index on. Assumes nothing.
+-- the index on.
+-- Assumes nothing.
 use Prim.Native.Nat.{_-_}
 use mathlib.Core.Path.{_≡_, sym, ap, _∙_}
 use borrow.Author.Needs.{needs}

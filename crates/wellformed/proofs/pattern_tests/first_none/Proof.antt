@@ -1,5 +1,6 @@
 -- `wellformed::pattern_tests::first_none` meets its contract: the first item that is no pattern is
--- the first from the index on. Assumes nothing.
+-- the first from the index on.
+-- Assumes nothing.
 use Prim.Native.Nat.{_-_}
 use mathlib.Core.Path.{_≡_, sym, ap, _∙_}
 use mathlib.Core.Bool.{not}

@@ -1,5 +1,6 @@
 -- `wellformed::pattern_tests::first_twin` meets its contract: the first item that an earlier one
--- equals is the first from the index on. Assumes nothing.
+-- equals is the first from the index on.
+-- Assumes nothing.
 use Prim.Native.Nat.{ℕ, _-_}
 use mathlib.Core.Path.{_≡_, sym, ap, _∙_}
 use mathlib.Core.List.{[]}

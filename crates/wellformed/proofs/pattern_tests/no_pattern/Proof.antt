@@ -1,5 +1,6 @@
 -- `wellformed::pattern_tests::no_pattern` meets its contract: a pattern has a digit, none behind
--- the array, and is a permutation. Assumes nothing.
+-- the array, and is a permutation.
+-- Assumes nothing.
 use mathlib.Core.Path.{_≡_, sym, ap, _∙_}
 use mathlib.Core.Bool.{not}
 use native.Mathlib.Omega.{arith}

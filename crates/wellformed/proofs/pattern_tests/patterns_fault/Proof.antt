@@ -1,5 +1,6 @@
 -- `wellformed::pattern_tests::patterns_fault` meets its contract: the number of patterns decides,
--- or the findings of the three tests of the items in their order. Assumes nothing.
+-- or the findings of the three tests of the items in their order.
+-- Assumes nothing.
 use mathlib.Core.Path.{sym, ap₂, _∙_}
 use Rattle.forms.specs.SchemeMemory.{orElse}
 use Rattle.wellformed.proofs.PatternLaws.{many-patterns, few-patterns}

@@ -1,5 +1,6 @@
 -- `wellformed::pattern_tests::same_digits` meets its contract: the digits are the same if they are
--- from the index on. Assumes nothing.
+-- from the index on.
+-- Assumes nothing.
 use Prim.Native.Nat.{ℕ, _-_}
 use mathlib.Core.Path.{_≡_, sym, ap, _∙_}
 use borrow.Author.Needs.{needs}

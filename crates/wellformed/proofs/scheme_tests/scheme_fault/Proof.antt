@@ -1,5 +1,6 @@
 -- `wellformed::scheme_tests::scheme_fault` meets its contract: the parts of the tests in their
--- order. Assumes nothing.
+-- order.
+-- Assumes nothing.
 use Prim.Native.Nat.{_≤_}
 use mathlib.Core.Path.{_≡_, sym, ap, ap₂, _∙_}
 use native.Mathlib.Omega.{arith}

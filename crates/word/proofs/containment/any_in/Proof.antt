@@ -1,5 +1,6 @@
 -- `word::containment::any_in` meets its contract: a pattern of the set stands in the word if one
--- from the index on does. Assumes nothing.
+-- from the index on does.
+-- Assumes nothing.
 use Prim.Native.Nat.{_-_}
 use mathlib.Core.Path.{_≡_, sym, _∙_}
 use mathlib.Core.Bool.{not}

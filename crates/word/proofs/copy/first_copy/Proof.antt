@@ -1,5 +1,6 @@
 -- `word::copy::first_copy` meets its contract: the walk keeps the first copy among what is left to
--- try, and what is left falls. Assumes nothing.
+-- try, and what is left falls.
+-- Assumes nothing.
 use Prim.Native.Nat.{_-_, _≤_, _<_}
 use mathlib.Core.Path.{_≡_, sym, ap, _∙_}
 use mathlib.Core.Bool.{true, false}

@@ -1,5 +1,6 @@
 -- `word::permutation::is_permutation` meets its contract: the list is a permutation if what is left
--- of it is listed. Assumes nothing.
+-- of it is listed.
+-- Assumes nothing.
 use Prim.Native.Nat.{_-_, _<_, _≤_}
 use mathlib.Core.Path.{_≡_, sym, _∙_}
 use borrow.Author.Needs.{needs}

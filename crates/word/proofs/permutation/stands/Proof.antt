@@ -1,5 +1,6 @@
 -- `word::permutation::stands` meets its contract: what stands from `from` on is what stands from
--- the index on. Assumes nothing.
+-- the index on.
+-- Assumes nothing.
 use Prim.Native.Nat.{_-_}
 use mathlib.Core.Path.{_≡_, sym, _∙_}
 use borrow.Author.Needs.{needs}

@@ -1,5 +1,6 @@
 -- `text_grammar::cursor::Cursor::past_spaces` meets its contract: the tokens from the cursor on are
--- those from the place on. Assumes nothing.
+-- those from the place on.
+-- Assumes nothing.
 use Prim.Native.Nat.{_-_, _≤_}
 use mathlib.Core.Path.{_≡_, refl, _∙_}
 use borrow.Author.Needs.{needs}

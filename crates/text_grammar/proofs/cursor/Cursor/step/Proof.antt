@@ -1,5 +1,6 @@
 -- `text_grammar::cursor::Cursor::step` meets its contract: past the spaces the end, a run of
--- digits, or a mark. Assumes nothing.
+-- digits, or a mark.
+-- Assumes nothing.
 use Prim.Native.Nat.{ℕ, _+_}
 use mathlib.Core.Path.{_≡_, sym, ap, _∙_}
 use mathlib.Core.List.{List}
