@@ -18,16 +18,26 @@ pub struct TextsJudged {
 }
 
 // Judges the scheme that one text spells for the patterns that another spells. The texts may have
-// any length and content.
+// any length and content. The lists went through their tests while they were read, so only their
+// claims are judged.
 pub fn judge_texts(patterns: &[u8], scheme: &[u8]) -> Verdict
     ensures { λ r. ⌜ JudgesTexts (now (patterns .entry)) (now (scheme .entry)) r ⌝ }
 {
-    let judged = read_and_judge(patterns, scheme);
-    judged.verdict
+    let p = read_patterns(patterns);
+    let s = read_scheme(scheme);
+    let first = p.fault;
+    let second = s.fault;
+    let fault = earlier(first, second);
+    if is_fault(fault) {
+        return answer(fault, 0);
+    }
+    let set = p.patterns;
+    let list = s.scheme;
+    judge_claims(set, list)
 }
 
-// The same, with the lists that were read. They went through their tests while they were read, so
-// only their claims are judged.
+// The same, with the lists that were read. A caller who needs the verdict alone is spared a copy of
+// the scheme by judge_texts.
 pub fn read_and_judge(patterns: &[u8], scheme: &[u8]) -> TextsJudged
     ensures { λ r. ⌜ JudgesAndReads (now (patterns .entry)) (now (scheme .entry)) r ⌝ }
 {

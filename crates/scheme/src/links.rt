@@ -59,7 +59,7 @@ pub fn codes_of(s: Scheme) -> [u64; ENTRIES]
 }
 
 // The code of the prefix of an entry.
-fn entry_code(e: Entry) -> u64
+pub fn entry_code(e: Entry) -> u64
     requires { ⌜ e .length ≤ PREFIX ⌝ }
     ensures { λ r. ⌜ IsCode (padded (e .length) (e .prefix)) r ⌝ }
 {

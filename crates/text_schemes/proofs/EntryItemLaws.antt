@@ -20,7 +20,6 @@ use Rattle.text_schemes.specs.declared.parts.EntryRead.{EntryRead}
 use Rattle.text_schemes.specs.declared.parts.ItemRead.{ItemRead}
 use Rattle.text_schemes.specs.declared.parts.SchemeText.{SchemeText}
 use Rattle.text_schemes.specs.declared.scheme_reader.Choice.{Choice}
-use Rattle.text_schemes.specs.declared.scheme_reader.EntriesRead.{EntriesRead}
 use Rattle.text_grammar.specs.Spelling.{Token, empty, byte, comma, entryPieces, writableEntry}
 use Rattle.text_grammar.specs.Tokens.{tokens}
 use Rattle.text_grammar.specs.Cursor.{Stepped, tokensBy}
@@ -195,20 +194,21 @@ text-more true m (Byte b) t ts h = refl
 abbrev text-with : Bool → Scheme → SchemeText
 text-with b m = record { spelt = b; scheme = m }
 
-module _ (s : List ℕ) (m : EntriesRead) (t : Step) (w : Stepped s (m .next .at) t) (a b : Bool) (e : a ≡ isEnd (t .kind)) (f : b ≡ (m .spelt && a)) where
-  ends : b ≡ (m .spelt && isEnd (t .kind))
-  ends = f ∙ ap (λ (x : Bool). m .spelt && x) e
+-- what was read up to the place `at`, behind which the token t comes
+module _ (s : List ℕ) (m : Scheme) (at : ℕ) (spelt : Bool) (t : Step) (w : Stepped s at t) (a b : Bool) (e : a ≡ isEnd (t .kind)) (f : b ≡ (spelt && a)) where
+  ends : b ≡ (spelt && isEnd (t .kind))
+  ends = f ∙ ap (λ (x : Bool). spelt && x) e
 
-  pub text-spelt : b ≡ true → text-with true (m .scheme) ≡ schemeOf (found (m .spelt) (m .scheme) (tokens (drop (m .next .at) s)))
+  pub text-spelt : b ≡ true → text-with true m ≡ schemeOf (found spelt m (tokens (drop at s)))
   text-spelt h =
-      text-end (m .spelt) (m .scheme) (t .kind) (drop (t .from) s) (tokens (drop (t .next .at) s)) (sym ends ∙ h)
-      ∙ ap (λ (ts : List Token). schemeOf (found (m .spelt) (m .scheme) ts)) (sym (w .gives))
+      text-end spelt m (t .kind) (drop (t .from) s) (tokens (drop (t .next .at) s)) (sym ends ∙ h)
+      ∙ ap (λ (ts : List Token). schemeOf (found spelt m ts)) (sym (w .gives))
 
-  pub text-misspelt : (x : Scheme) → x ≡ loadedScheme [] → b ≡ false → text-with false x ≡ schemeOf (found (m .spelt) (m .scheme) (tokens (drop (m .next .at) s)))
+  pub text-misspelt : (x : Scheme) → x ≡ loadedScheme [] → b ≡ false → text-with false x ≡ schemeOf (found spelt m (tokens (drop at s)))
   text-misspelt x g h =
       ap (text-with false) g
-      ∙ text-more (m .spelt) (m .scheme) (t .kind) (drop (t .from) s) (tokens (drop (t .next .at) s)) (sym ends ∙ h)
-      ∙ ap (λ (ts : List Token). schemeOf (found (m .spelt) (m .scheme) ts)) (sym (w .gives))
+      ∙ text-more spelt m (t .kind) (drop (t .from) s) (tokens (drop (t .next .at) s)) (sym ends ∙ h)
+      ∙ ap (λ (ts : List Token). schemeOf (found spelt m ts)) (sym (w .gives))
 
 -- from the start
 
@@ -224,13 +224,10 @@ start-going true true ts = refl
 start-going true false ts = onto-none (entries ts)
 
 pub start-read : (s : List ℕ) (o : Choice) → ChoiceAt empty (byte 0x7B) s 0 o → (x : Scheme) (b : Bool) → x ≡ loadedScheme [] → b ≡ (o .spelt && not (o .first))
-    → ReadTo s (made (x .entries) 0) (o .next .at) b (o .spelt)
+    → ReadTo s x (o .next .at) b (o .spelt)
 unfolding loadedScheme
-start-read s o w x b e f = rw (f, none-made) (record { same = from-start; inside = w .moved .inside (omega arith); counted = none-counted; sized = length-filled 128 (entryOf plainEntry) [] })
+start-read s o w x b e f = rw (f, e) (record { same = from-start; inside = w .moved .inside (omega arith); counted = none-counted; sized = length-filled 128 (entryOf plainEntry) [] })
   where
-    none-made : made (x .entries) 0 ≡ loadedScheme []
-    none-made = ap (λ (y : Scheme). made (y .entries) 0) e
-
     none-counted : (o .spelt && not (o .first)) ≡ true → loadedScheme [] .count < o .next .at
     none-counted h = let k = w .moved .onward (spelt-on (o .spelt) (o .first) h) in omega arith
 

@@ -62,13 +62,6 @@ pub struct PrefixRead {
     pub next: Cursor,
 }
 
-// Entries, one after the other, and the mark behind the last of them.
-pub struct EntriesRead {
-    pub spelt: bool,
-    pub scheme: Scheme,
-    pub next: Cursor,
-}
-
 // Whether both hold.
 fn both(a: bool, b: bool) -> bool
     ensures { λ r. ⌜ r ≡ a && b ⌝ }
@@ -320,53 +313,32 @@ fn item_at(s: &[u8]) -> ItemRead
     }
 }
 
-// The entries after the first mark, to the last of them or to one that is misspelt. All are
-// counted, the first 128 are kept.
-fn all_entries(s: &[u8], mark: Choice) -> EntriesRead
+// The scheme that a text spells behind its first mark, where nothing comes after the last: the
+// entries are read up to one that is the last or misspelt. All are counted, the first 128 kept.
+fn all_entries(s: &[u8], mark: Choice) -> SchemeText
     requires { ⌜ ChoiceAt empty (byte 0x7B) (now s) 0 mark ⌝ }
-    ensures { λ r. ⌜ found (r .spelt) (r .scheme) (tokens (drop (r .next .at) (now (s .entry)))) ≡ kept loadedScheme (inBraces readEntry (tokens (now (s .entry)))) ⌝ }
+    ensures { λ r. ⌜ r ≡ schemeText (readEntries (tokens (now (s .entry)))) ⌝ }
 {
-    let none = no_entries();
-    let mut entries = none.entries;
-    let mut count: usize = 0;
+    let mut scheme = no_entries();
     let mut at = mark.next.at;
     let mut spelt = mark.spelt;
     let mut more = goes_on(mark);
     while more {
         let item = item_at(&s[at..]);
         let entry = item.entry;
+        let count = scheme.count;
         at += item.bytes;
         spelt = item.spelt;
         more = item.more;
-        if ENTRIES <= count {
-            count += 1;
-            continue;
+        scheme.count = count + 1;
+        if count < ENTRIES {
+            scheme.entries[count] = entry;
         }
-        entries[count] = entry;
-        count += 1;
     }
-    let scheme = Scheme { entries, count };
-    let next = Cursor { at };
-    EntriesRead {
-        spelt,
-        scheme,
-        next,
-    }
-}
-
-// The scheme that a text spells, where nothing comes after it. The count is the true number of
-// entries; the first 128 are kept.
-pub fn load_scheme(s: &[u8]) -> SchemeText
-    ensures { λ r. ⌜ r ≡ schemeText (readEntries (tokens (now (s .entry)))) ⌝ }
-{
-    let c = Cursor { at: 0 };
-    let open = opening_at(s, c);
-    let m = all_entries(s, open);
-    let behind = m.next;
+    let behind = Cursor { at };
     let t = behind.step(s);
     let kind = t.kind;
-    if both(m.spelt, is_end(kind)) {
-        let scheme = m.scheme;
+    if both(spelt, is_end(kind)) {
         return SchemeText {
             spelt: true,
             scheme,
@@ -377,4 +349,14 @@ pub fn load_scheme(s: &[u8]) -> SchemeText
         spelt: false,
         scheme: nothing,
     }
+}
+
+// The scheme that a text spells, where nothing comes after it. The count is the true number of
+// entries; the first 128 are kept.
+pub fn load_scheme(s: &[u8]) -> SchemeText
+    ensures { λ r. ⌜ r ≡ schemeText (readEntries (tokens (now (s .entry)))) ⌝ }
+{
+    let c = Cursor { at: 0 };
+    let open = opening_at(s, c);
+    all_entries(s, open)
 }

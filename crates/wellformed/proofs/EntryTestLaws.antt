@@ -134,7 +134,8 @@ clean-test : (b : Bool) (x : Finding) → firstFault (test Oversize b ∷ x ∷ 
 clean-test true x e = let z : _≡_ {A = ℕ} 0 1 = cc in absurd (omega arith)
 clean-test false x e = (refl, sym (single x) ∙ e)
 
-sized-entry : (e : Entry) → largeEntry (entryIn e) ≡ false → SizedEntry e
+-- an entry in which test 2 finds nothing
+pub sized-entry : (e : Entry) → largeEntry (entryIn e) ≡ false → SizedEntry e
 sized-entry e h =
     let n = e .«gap_count» in
     let long = ltb PREFIX (length (padded (e .length) (e .prefix))) in

@@ -14,6 +14,7 @@ use Rattle.forms.specs.SchemeList.{EntryList}
 use Rattle.forms.specs.SchemeMemory.{faultOf, orElse, faultIf}
 use Rattle.forms.specs.Codes.{Codes}
 use Rattle.forms.specs.declared.memory.Fault.{Fault}
+use Rattle.forms.specs.declared.memory.Fault.the-variants.{Clean}
 use Rattle.scheme.specs.WellFormed.{listed, repeats, wrongWidth, outside}
 use Rattle.scheme.specs.TestOrder.{seen}
 use Rattle.scheme.specs.WellFormed.{permutationTest, twinTest, widthTest, positionTest}
@@ -32,6 +33,10 @@ twinBy codes i e = earlierCode codes i || repeats (e .gaps)
 
 abbrev pub misplaced : EntryList → Bool
 misplaced e = outside (length (e .prefix)) (e .rule)
+
+-- no findings
+abbrev pub noFaults : EntryFaults
+noFaults = record { none = Clean; twin = Clean; width = Clean; position = Clean }
 
 -- the findings with those of one entry more
 pub record WithEntry (f : EntryFaults) (codes : List ℕ) (e : EntryList) (i : ℕ) (r : EntryFaults) : Type 0 where

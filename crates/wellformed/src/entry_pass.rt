@@ -1,11 +1,10 @@
-// The tests 3, 4, 6 and 7 of a scheme list in memory, over all entries in one pass, and test 5.
+// The findings of the tests 3, 4, 6 and 7 with those of one entry more, and test 5.
 use crate::entry_tests::has_twin_gaps;
 use crate::entry_tests::is_outside;
 use crate::entry_tests::is_permuted;
 use crate::entry_tests::wrong_width;
 use forms::memory::Entry;
 use forms::memory::Fault;
-use forms::memory::Scheme;
 use forms::order::noted;
 use scheme::links::has_entry;
 use word::limits::PREFIX;
@@ -13,11 +12,9 @@ use word::refusal::Refusal;
 ghost use Prim.Native.Nat.{_<_};
 ghost use mathlib.Core.Path.{_≡_};
 ghost use lib.ListN.{length};
-ghost use Rattle.forms.specs.Codes.{Codes};
-ghost use Rattle.forms.specs.SchemeMemory.{entryIn, schemeIn};
-ghost use Rattle.scheme.specs.Links.{prefixesIn};
-ghost use Rattle.scheme.specs.Sized.{SizedEntry, Sized};
-ghost use Rattle.wellformed.specs.EntryPass.{earlierCode, twinBy, WithEntry, EntryFindings, RootFault};
+ghost use Rattle.forms.specs.SchemeMemory.{entryIn};
+ghost use Rattle.scheme.specs.Sized.{SizedEntry};
+ghost use Rattle.wellformed.specs.EntryPass.{noFaults, earlierCode, twinBy, WithEntry, RootFault};
 
 // What the tests 3, 4, 6 and 7 find: the first entry at fault of each.
 pub struct EntryFaults {
@@ -27,30 +24,20 @@ pub struct EntryFaults {
     pub position: Fault,
 }
 
-// The tests 3, 4, 6 and 7 over all entries, which are looked at once.
-pub fn entry_faults(s: Scheme, codes: &[u64]) -> EntryFaults
-    requires { ⌜ Sized s × Codes (prefixesIn s) (now codes) ⌝ }
-    ensures { λ r. ⌜ EntryFindings (schemeIn s) r ⌝ }
+// No findings.
+pub fn no_faults() -> EntryFaults
+    ensures { λ r. ⌜ r ≡ noFaults ⌝ }
 {
-    let n = s.count;
-    let mut found = EntryFaults {
+    EntryFaults {
         none: Fault::Clean,
         twin: Fault::Clean,
         width: Fault::Clean,
         position: Fault::Clean,
-    };
-    let mut i: usize = 0;
-    while i < n {
-        let e = s.entries[i];
-        let next = with_entry(found, codes, e, i);
-        found = next;
-        i += 1;
     }
-    found
 }
 
 // The findings with those of one entry more, which has the index i.
-fn with_entry(found: EntryFaults, codes: &[u64], e: Entry, i: usize) -> EntryFaults
+pub fn with_entry(found: EntryFaults, codes: &[u64], e: Entry, i: usize) -> EntryFaults
     requires { ⌜ SizedEntry e × (i < length (now codes)) ⌝ }
     ensures { λ r. ⌜ WithEntry found (now (codes .entry)) (entryIn e) i r ⌝ }
 {

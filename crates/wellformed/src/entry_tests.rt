@@ -1,54 +1,27 @@
-// The tests 2, 3, 4, 6 and 7 of one entry in memory, and test 2 over the whole list.
+// The tests 2, 3, 4, 6 and 7 of one entry in memory.
 use forms::gaps::entry_gap;
 use forms::memory::Entry;
-use forms::memory::Fault;
 use forms::memory::Gap;
 use forms::memory::Rule;
-use forms::memory::Scheme;
 use word::bytes::wide;
 use word::limits::COMPONENTS;
-use word::limits::ENTRIES;
 use word::limits::GAPS;
 use word::limits::PREFIX;
 use word::limits::TOTAL;
 use word::permutation::is_permutation;
-use word::refusal::Refusal;
 ghost use Prim.Native.Nat.{_+_, _-_, _≤_, _<_};
 ghost use mathlib.Core.Path.{_≡_};
-ghost use mathlib.Core.List.{[], _∷_, map};
-ghost use lib.Dec.{ltb};
-ghost use lib.ListN.{length, getD};
-ghost use Rattle.word.specs.Ceilings.{ENTRIES, COMPONENTS};
+ghost use mathlib.Core.List.{map};
+ghost use Rattle.word.specs.Ceilings.{COMPONENTS};
 ghost use Rattle.word.specs.Lists.{row};
 ghost use Rattle.word.specs.Word.{isPerm};
-ghost use Rattle.word.specs.Finding.{test, firstFault};
-ghost use Rattle.word.specs.declared.refusal.Refusal.the-variants.{Oversize};
 ghost use Rattle.cell.specs.Cell.{same};
-ghost use Rattle.scheme.specs.WellFormed.{firstAt, listed, repeats, largeGap, largeEntry, wrongWidth, outside};
-ghost use Rattle.forms.specs.SchemeMemory.{padded, gapIn, gapAt, doesOf, entryIn, schemeIn, faultOf};
+ghost use Rattle.scheme.specs.WellFormed.{listed, repeats, largeGap, largeEntry, wrongWidth, outside};
+ghost use Rattle.forms.specs.SchemeMemory.{padded, gapIn, gapAt, doesOf, entryIn};
 ghost use Rattle.scheme.specs.Sized.{SizedEntry};
 
-// Test 2: too many entries, and then the first entry that passes a ceiling.
-pub fn large_fault(s: Scheme) -> Fault
-    ensures { λ r. ⌜ r ≡ faultOf (firstFault (test Oversize (ltb ENTRIES (length (schemeIn s))) ∷ firstAt Oversize largeEntry 0 (schemeIn s) ∷ [])) ⌝ }
-{
-    let n = s.count;
-    if ENTRIES < n {
-        return Fault::At(Refusal::Oversize, 0);
-    }
-    let mut i: usize = 0;
-    while i < n {
-        let e = s.entries[i];
-        if large_entry(e) {
-            return Fault::At(Refusal::Oversize, i);
-        }
-        i += 1;
-    }
-    Fault::Clean
-}
-
 // Whether the entry has too long a prefix, too many vectors, or a vector that passes a ceiling.
-fn large_entry(e: Entry) -> bool
+pub fn large_entry(e: Entry) -> bool
     ensures { λ r. ⌜ r ≡ largeEntry (entryIn e) ⌝ }
 {
     let k = e.length;

@@ -1,139 +1,195 @@
 -- `wellformed::scheme_tests::scheme_fault` meets its contract: the parts of the tests in their
--- order.
+-- order. The pass over the entries ends at one that is too large; else it leaves the findings of
+-- the tests 3, 4, 6 and 7, and the codes.
 -- Assumes nothing.
-use Prim.Native.Nat.{_≤_}
-use mathlib.Core.Path.{_≡_, sym, ap, ap₂, _∙_}
+use Prim.Native.Nat.{_-_, _≤_}
+use mathlib.Core.Path.{_≡_, refl, sym, ap, ap₂, _∙_}
 use native.Mathlib.Omega.{arith}
 use borrow.Author.Needs.{needs}
-use lib.ListN.{length}
+use lib.ListN.{length, getD, take, length-set}
 use lib.Seq.{length-take-le}
-use Rattle.word.specs.Ceilings.{ENTRIES}
 use Rattle.word.specs.Finding.{firstFault}
-use Rattle.forms.specs.SchemeMemory.{schemeIn, faultOf, orElse}
-use Rattle.scheme.specs.Sized.{Sized}
+use Rattle.word.specs.declared.refusal.Refusal.the-variants.{Oversize}
+use Rattle.forms.specs.SchemeMemory.{noEntry, schemeIn, faultOf, orElse}
+use Rattle.forms.specs.declared.memory.Fault.the-variants.{Clean, At}
+use Rattle.forms.specs.Codes.{Codes}
 use Rattle.scheme.specs.Links.{prefixesIn}
-use Rattle.scheme.specs.TestOrder.{entryTests, linkTests}
+use Rattle.scheme.specs.TestOrder.{entryTests}
 use Rattle.scheme.specs.WellFormed.{permutationTest, twinTest, rootTest, widthTest, positionTest, childTest, targetTest}
-use Rattle.wellformed.proofs.EntryTestLaws.{sized-of-clean}
+use Rattle.wellformed.proofs.EntryTestLaws.{largeFinding, scheme-many, sized-entry, sized-of-clean}
 use Rattle.wellformed.proofs.OrderLaws.{scheme-by-size, scheme-by-entry, scheme-by-links, not-faulty, linked-of-clean, five-faults, two-faults}
-use Rattle.wellformed.proofs.PassLaws.{sized-short}
+use Rattle.wellformed.proofs.PassLaws.{Pass, pass-start, pass-large, pass-more, pass-sized, pass-codes, pass-findings}
 use Rattle.wellformed.proofs.scheme_tests.scheme_fault.Statement.{statement}
 use Rattle.wellformed.proofs.scheme_tests.scheme_fault.Tie as tie
 
--- test 2 found nothing
-sized : (o : tie.Else1) → Sized (o .before .before .before .args .s)
-sized o =
-    let large = o .before .before in
-    sized-of-clean (large .before .args .s)
-    (sym (not-faulty (large .large-fault .result) (sym (o .before .is-fault .ensures) ∙ o .if1 .left)) ∙ large .large-fault .ensures)
+abbrev Inv-loop : tie.InvT-loop
+Inv-loop s n codes₀ found₀ i₀ codes found i = Pass s found codes i
 
--- the codes are those of all entries
-room : (k : tie.After-codes-of) → k .before .before .before .before .args .s .count ≤ length (k .codes-of .result)
-room k = omega (arith, k .codes-of .ensures .0, sized (k .before) .few)
+abbrev μ-loop : tie.MeasureT-loop
+μ-loop s n codes₀ found₀ i₀ codes found i = n - i
+
+returns : tie.Need-returns Inv-loop μ-loop
+returns c =
+    let s = c .before .args .t1 in
+    let many = ap faultOf (scheme-many s (c .if1 .taken)) in
+    sym (scheme-by-size (schemeIn s) (At Oversize 0) (sym many) refl ∙ many)
+
+loop-holds : tie.Need-loop-holds Inv-loop μ-loop
+loop-holds c = pass-start (c .before .before .args .t1) (c .no-faults .result) _ (c .before .if1 .left) refl (c .no-faults .ensures)
+
+element-copy-out-e : tie.Need-element-copy-out-e Inv-loop μ-loop
+element-copy-out-e c = let few = c .before .loop .inv .few in omega arith
+
+returns-2 : tie.Need-returns-2 Inv-loop μ-loop
+returns-2 c =
+    let test = c .before in
+    let turn = test .before .before in
+    let l = turn .before .loop in
+    let s = turn .before .before .before .before .args .t1 in
+    let large = ap faultOf (pass-large s (l .found) (l .codes) (l .i) (l .inv) (turn .loop-test .taken) (sym (test .large-entry .ensures) ∙ c .if2 .taken)) in
+    large ∙ sym (scheme-by-size (schemeIn s) (At Oversize (l .i)) large refl)
+
+entry-code-requires : tie.Need-entry-code-requires Inv-loop μ-loop
+entry-code-requires c κs =
+    let turn = c .before .before .before in
+    sized-entry (getD (turn .before .before .before .before .args .t1 .entries) (turn .before .loop .i) noEntry)
+    (sym (c .before .large-entry .ensures) ∙ c .if2 .left) .short
+
+array-write-codes : tie.Need-array-write-codes Inv-loop μ-loop
+array-write-codes c =
+    let turn = c .before .before .before .before in
+    let w = turn .before .loop .inv in
+    let few = w .few in
+    let room = w .room in
+    omega arith
+
+with-entry-requires : tie.Need-with-entry-requires Inv-loop μ-loop
+with-entry-requires c κs =
+    let kept = c .before .before in
+    let turn = kept .before .before .before in
+    let l = turn .before .loop in
+    let few = l .inv .few in
+    let room = length-set (l .codes) (l .i) (c .before .entry-code .result) ∙ l .inv .room in (
+      sized-entry (getD (turn .before .before .before .before .args .t1 .entries) (l .i) noEntry)
+          (sym (kept .before .large-entry .ensures) ∙ kept .if2 .left),
+      omega (arith, room),
+    )
+
+loop-again : tie.Need-loop-again Inv-loop μ-loop
+loop-again c =
+    let code = c .before .before in
+    let kept = code .before in
+    let turn = kept .before .before .before in
+    let l = turn .before .loop in
+    let s = turn .before .before .before .before .args .t1 in
+    pass-more s (l .found) (l .codes) (l .i) (l .inv) (turn .loop-test .taken) (code .entry-code .result) (code .entry-code .ensures) (c .with-entry .result)
+    (sym (kept .before .large-entry .ensures) ∙ kept .if2 .left) (c .with-entry .ensures)
+
+-- behind the loop: test 2 found nothing, and the codes are those of all entries
+size-clean : (o : tie.After-loop Inv-loop μ-loop) → Clean ≡ faultOf (largeFinding (schemeIn (o .before .before .before .before .args .t1)))
+size-clean o =
+    let l = o .before .loop in
+    ap faultOf (pass-sized (o .before .before .before .before .args .t1) (l .found) (l .codes) (l .i) (l .inv) (o .loop-test .left))
+
+room : (o : tie.After-loop Inv-loop μ-loop) → o .before .before .before .before .args .t1 .count ≤ length (o .before .loop .codes)
+room o =
+    let w = o .before .loop .inv in
+    let few = w .few in
+    let all = w .room in
+    omega arith
+
+codes : (o : tie.After-loop Inv-loop μ-loop) →
+    let s = o .before .before .before .before .args .t1 in
+    Codes (prefixesIn s) (take (s .count) (o .before .loop .codes))
+codes o =
+    let l = o .before .loop in
+    pass-codes (o .before .before .before .before .args .t1) (l .found) (l .codes) (l .i) (l .inv) (o .loop-test .left)
 
 -- what the tests 3 to 7 find
-entries : (f : tie.After-entry-fault) →
-    f .entry-fault .result ≡ faultOf (firstFault (entryTests (schemeIn (f .before .before .before .before .before .before .before .before .args .s))))
+entries : (f : tie.After-entry-fault Inv-loop μ-loop) →
+    f .entry-fault .result ≡ faultOf (firstFault (entryTests (schemeIn (f .before .before .before .before .before .before .args .t1))))
 entries f =
-    let e = f .before .before in
-    let k = e .before .before in
-    let s = k .before .before .before .before .args .s in
+    let o = f .before .before in
+    let l = o .before .loop in
+    let s = o .before .before .before .before .args .t1 in
     let E = schemeIn s in
-    let found = e .entry-faults .ensures in
-    f .entry-fault .ensures (prefixesIn s) (k .codes-of .ensures .1) ∙
+    let found = pass-findings s (l .found) (l .codes) (l .i) (l .inv) (o .loop-test .left) in
+    f .entry-fault .ensures (prefixesIn s) (codes o) ∙
     ap₂ orElse (found .none) (ap₂ orElse (found .twin) (ap (orElse (faultOf (rootTest E))) (ap₂ orElse (found .width) (found .position)))) ∙
     sym (five-faults (permutationTest E) (twinTest E) (rootTest E) (widthTest E) (positionTest E))
 
-returns : tie.Need-returns
-returns c =
-    let large = c .before .before in
-    let s = large .before .args .s in
-    large .large-fault .ensures ∙
-    sym (scheme-by-size (schemeIn s) (large .large-fault .result) (large .large-fault .ensures) (sym (c .before .is-fault .ensures) ∙ c .if1 .taken))
-
-codes-of-requires : tie.Need-codes-of-requires
-codes-of-requires c κs = sized-short (c .before .before .before .args .s) (sized c)
-
-array-share-prefix-codes : tie.Need-array-share-prefix-codes
+array-share-prefix-codes : tie.Need-array-share-prefix-codes Inv-loop μ-loop
 array-share-prefix-codes c = room c
 
-slice-aggregate-entry-faults : tie.Need-slice-aggregate-entry-faults
-slice-aggregate-entry-faults c = sym (length-take-le (c .before .before .before .before .before .args .s .count) (c .before .codes-of .result) (room (c .before)))
-
-entry-faults-requires : tie.Need-entry-faults-requires
-entry-faults-requires c κs = (sized (c .before .before), c .before .codes-of .ensures .1)
-
-array-share-prefix-codes-2 : tie.Need-array-share-prefix-codes-2
-array-share-prefix-codes-2 c = room (c .before .before)
-
-slice-aggregate-entry-fault : tie.Need-slice-aggregate-entry-fault
+slice-aggregate-entry-fault : tie.Need-slice-aggregate-entry-fault Inv-loop μ-loop
 slice-aggregate-entry-fault c =
-    let k = c .before .before .before in
-    sym (length-take-le (k .before .before .before .before .args .s .count) (k .codes-of .result) (room k))
+    let o = c .before in
+    sym (length-take-le (o .before .before .before .before .args .t1 .count) (o .before .loop .codes) (room o))
 
-returns-2 : tie.Need-returns-2
-returns-2 c =
+returns-3 : tie.Need-returns-3 Inv-loop μ-loop
+returns-3 c =
     let f = c .before .before in
-    let o = f .before .before .before .before .before in
-    let large = o .before .before in
-    let s = large .before .args .s in
-    let none = sym (o .before .is-fault .ensures) ∙ o .if1 .left in
-    let fault = sym (c .before .is-fault2 .ensures) ∙ c .if2 .taken in
-    entries f ∙
-    sym (scheme-by-entry (schemeIn s) (large .large-fault .result) (large .large-fault .ensures) none (f .entry-fault .result) (entries f) fault)
+    let o = f .before .before in
+    let E = schemeIn (o .before .before .before .before .args .t1) in
+    let fault = sym (c .before .is-fault .ensures) ∙ c .if3 .taken in
+    entries f ∙ sym (scheme-by-entry E Clean (size-clean o) refl (f .entry-fault .result) (entries f) fault)
 
-array-share-prefix-codes-3 : tie.Need-array-share-prefix-codes-3
-array-share-prefix-codes-3 c = room (c .before .before .before .before .before .before)
+array-share-prefix-codes-2 : tie.Need-array-share-prefix-codes-2 Inv-loop μ-loop
+array-share-prefix-codes-2 c = room (c .before .before .before .before)
 
-slice-aggregate-link-faults : tie.Need-slice-aggregate-link-faults
+slice-aggregate-link-faults : tie.Need-slice-aggregate-link-faults Inv-loop μ-loop
 slice-aggregate-link-faults c =
-    let k = c .before .before .before .before .before .before .before in
-    sym (length-take-le (k .before .before .before .before .args .s .count) (k .codes-of .result) (room k))
+    let o = c .before .before .before .before .before in
+    sym (length-take-le (o .before .before .before .before .args .t1 .count) (o .before .loop .codes) (room o))
 
-link-faults-requires : tie.Need-link-faults-requires
+link-faults-requires : tie.Need-link-faults-requires Inv-loop μ-loop
 link-faults-requires c κs =
     let q = c .before in
     let f = q .before .before in
-    let k = f .before .before .before .before in
-    let o = k .before in
-    let large = o .before .before in
-    let s = large .before .args .s in
-    let none = not-faulty (large .large-fault .result) (sym (o .before .is-fault .ensures) ∙ o .if1 .left) in
-    let clean = not-faulty (f .entry-fault .result) (sym (q .before .is-fault2 .ensures) ∙ q .if2 .left) in
-    (linked-of-clean s (sized o) (sym (large .large-fault .ensures) ∙ none) (sym (entries f) ∙ clean), k .codes-of .ensures .1)
+    let o = f .before .before in
+    let s = o .before .before .before .before .args .t1 in
+    let clean = not-faulty (f .entry-fault .result) (sym (q .before .is-fault .ensures) ∙ q .if3 .left) in
+    (linked-of-clean s (sized-of-clean s (size-clean o)) (sym (size-clean o)) (sym (entries f) ∙ clean), codes o)
 
-returns-3 : tie.Need-returns-3
-returns-3 c =
+returns-4 : tie.Need-returns-4 Inv-loop μ-loop
+returns-4 c =
     let links = c .before in
     let q = links .before .before in
     let f = q .before .before in
-    let o = f .before .before .before .before .before in
-    let large = o .before .before in
-    let s = large .before .args .s in
-    let E = schemeIn s in
-    let none = sym (o .before .is-fault .ensures) ∙ o .if1 .left in
-    let clean = sym (q .before .is-fault2 .ensures) ∙ q .if2 .left in
+    let o = f .before .before in
+    let E = schemeIn (o .before .before .before .before .args .t1) in
+    let clean = sym (q .before .is-fault .ensures) ∙ q .if3 .left in
     c .link-fault .ensures ∙ ap₂ orElse (links .link-faults .ensures .0) (links .link-faults .ensures .1) ∙ sym (two-faults (childTest E) (targetTest E)) ∙
-    sym (scheme-by-links E (large .large-fault .result) (large .large-fault .ensures) none (f .entry-fault .result) (entries f) clean)
+    sym (scheme-by-links E Clean (size-clean o) refl (f .entry-fault .result) (entries f) clean)
 
 pub scheme-fault-spec : {M : Type 1} → statement M
 scheme-fault-spec =
     tie.close
     (tie.spec
-    (λ c κs. search needs)
-    (λ c κs. search needs)
+    Inv-loop
+    μ-loop
     returns
-    codes-of-requires
+    (λ c κs. search needs)
+    loop-holds
+    (λ c. search needs)
+    element-copy-out-e
+    (λ c κs. search needs)
+    returns-2
+    entry-code-requires
+    (λ c. search needs)
+    array-write-codes
+    (λ c. search needs)
+    with-entry-requires
+    (λ c. search needs)
+    (λ c. search needs)
+    loop-again
     array-share-prefix-codes
-    slice-aggregate-entry-faults
-    entry-faults-requires
-    array-share-prefix-codes-2
     slice-aggregate-entry-fault
     (λ c κs. search needs)
     (λ c κs. search needs)
-    returns-2
-    array-share-prefix-codes-3
+    returns-3
+    array-share-prefix-codes-2
     slice-aggregate-link-faults
     link-faults-requires
     (λ c κs. search needs)
-    returns-3)
+    returns-4)
