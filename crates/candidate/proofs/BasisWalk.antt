@@ -1,5 +1,4 @@
--- Two digit rows compared from a place on, the patterns of a set in memory from a place on, and the
--- basis as it is gathered.
+-- The patterns of a set in memory from a place on, and the basis as it is gathered.
 -- Assumes nothing.
 use Prim.Native.Nat.{ℕ, zero, suc, _+_, _-_, _≤_, _<_, max}
 use mathlib.Core.Path.{_≡_, refl, sym, ap, ap₂, _∙_}
@@ -11,13 +10,12 @@ use native.Mathlib.Numerals.{add-one}
 use native.Mathlib.Omega.{arith}
 use lib.ListN.{length, getD, take, drop, length-set, length-take, drop-of-length-le}
 use lib.ListN.{set as set-at}
-use lib.Dec.{leb}
-use lib.Seq.{drop-cons, getD-take, getD-set-same, getD-set-other}
-use borrow.Author.Tests.{le-leb, lt-leb, eq-eqb, ne-eqb, not-true, not-false}
+use lib.Seq.{drop-cons, getD-set-same, getD-set-other}
+use borrow.Author.Tests.{not-true, not-false}
 use Rattle.word.specs.Lists.{keep, row}
 use Rattle.word.specs.Word.{contains, longest}
 use Rattle.word.specs.Containment.{patternsOf}
-use Rattle.word.specs.ListLaws.{below-or-not, same-or-not}
+use Rattle.word.specs.ListLaws.{same-or-not}
 use Rattle.cell.specs.Cell.{same}
 use Rattle.cell.specs.Basis.{basic, basis}
 use Rattle.forms.specs.SchemeMemory.{padded, noPattern, patternIn}
@@ -30,44 +28,6 @@ pub take-again : (n : ℕ) (l : List ℕ) → take (length (take n l)) l ≡ tak
 take-again zero l = refl
 take-again (suc n) [] = refl
 take-again (suc n) (x ∷ l) = ap {B = List ℕ} (λ r. x ∷ r) (take-again n l)
-
--- a digit row, past its end and before it
-cut-ended : (p : List ℕ) (a k : ℕ) → a ≤ k → drop k (take a p) ≡ []
-cut-ended p a k h = let short : length (take a p) ≤ k = omega (arith, length-take a p) in drop-of-length-le (take a p) short
-
-cut-done : (p : List ℕ) (a k : ℕ) → length p ≤ k → drop k (take a p) ≡ []
-cut-done p a k h = let short : length (take a p) ≤ k = omega (arith, length-take a p) in drop-of-length-le (take a p) short
-
-cut-cons : (p : List ℕ) (a k : ℕ) → k < length p → k < a → drop k (take a p) ≡ getD p k 0 ∷ drop (suc k) (take a p)
-cut-cons p a k h l =
-    drop-cons (take a p) k 0 (omega (arith, length-take a p)) ∙ rw (getD-take a p k 0 l) refl
-
-module _ (p q : List ℕ) (a b k : ℕ) where
-  pub same-done : length p ≤ k → length q ≤ k → same (drop k (take a p)) (drop k (take b q)) ≡ true
-  unfolding same
-  same-done h l = rw (cut-done p a k h, cut-done q b k l) refl
-
-  module _ (h : k < length p) (l : k < length q) where
-    pub same-ended : a ≤ k → same (drop k (take a p)) (drop k (take b q)) ≡ leb b k
-    unfolding same
-    same-ended e = rw (cut-ended p a k e) (go (below-or-not k b))
-      where
-        go : (k < b) ⊎ (b ≤ k) → same [] (drop k (take b q)) ≡ leb b k
-        go (inl f) = rw (cut-cons q b k l f) (sym (lt-leb b k f))
-        go (inr f) = rw (cut-ended q b k f) (sym (le-leb b k f))
-
-    pub same-longer : k < a → b ≤ k → same (drop k (take a p)) (drop k (take b q)) ≡ false
-    unfolding same
-    same-longer e f = rw (cut-cons p a k h e, cut-ended q b k f) refl
-
-    module _ (e : k < a) (f : k < b) where
-      pub same-apart : (getD p k 0 ≡ getD q k 0 → ⊥) → same (drop k (take a p)) (drop k (take b q)) ≡ false
-      unfolding same
-      same-apart n = rw (cut-cons p a k h e, cut-cons q b k l f, ne-eqb (getD p k 0) (getD q k 0) n) refl
-
-      pub same-next : getD p k 0 ≡ getD q k 0 → same (drop k (take a p)) (drop k (take b q)) ≡ same (drop (k + 1) (take a p)) (drop (k + 1) (take b q))
-      unfolding same
-      same-next n = rw (add-one k, cut-cons p a k h e, cut-cons q b k l f, eq-eqb (getD p k 0) (getD q k 0) n) refl
 
 -- the patterns of a set in memory from place j on
 unfoldable pub from : List (List ℕ) → List ℕ → ℕ → ℕ → List (List ℕ)

@@ -3,7 +3,7 @@
 -- Assumes nothing.
 use Prim.Native.Nat.{ℕ, zero, suc, _+_, _-_, _≤_, _<_}
 use mathlib.Core.Path.{_≡_, refl, sym, ap, _∙_}
-use mathlib.Core.Bool.{Bool, true, false, not, cond, _&&_, _||_}
+use mathlib.Core.Bool.{Bool, true, false, cond, _&&_, _||_}
 use mathlib.Core.List.{List, [], _∷_, _++_, map, List·Memᴰ, List·Memᴰ·head, List·Memᴰ·tail, List·Memᴰ·not-nil}
 use mathlib.Core.Logic.{_↔_}
 use native.Mathlib.Nat.{sub-zero}
@@ -19,7 +19,7 @@ use Rattle.candidate.specs.Tabled.{Tabled, IsCandidate}
 use Rattle.word.specs.Containment.{patternsOf}
 use Rattle.word.specs.ListLaws.{true-not-false}
 use Rattle.word.specs.ContainsLaws.{avoids-none}
-use Rattle.cell.specs.Cell.{total, without, free, vectors, mOf, compared}
+use Rattle.cell.specs.Cell.{total, without, free, vectors}
 use Rattle.cell.specs.Built.{level, built}
 use Rattle.cell.specs.Candidate.{headLength, hit, violates, violated, irreversible}
 use Rattle.candidate.specs.Lookup.{needAt, Says, Flags}

@@ -2,16 +2,16 @@
 -- Assumes nothing.
 use Prim.Native.Nat.{ℕ, _+_, _*_, _-_, _/_, _%_, _≤_, _<_}
 use native.Mathlib.Omega.{arith}
-use mathlib.Core.Path.{_≡_, sym, ap, _∙_}
+use mathlib.Core.Path.{_≡_, ap, _∙_}
 use mathlib.Core.Logic.{_⊎_, inl, inr}
 use mathlib.Core.List.{List}
 use lib.ListN.{length, getD, take, drop, set}
 use lib.Seq.{getD-take, getD-drop, getD-set-same, getD-set-other}
-use Rattle.word.specs.Ceilings.{DIGITS, PATTERNS}
+use Rattle.word.specs.Ceilings.{DIGITS}
 use Rattle.word.specs.Word.{under}
 use Rattle.word.specs.ListLaws.{same-or-not}
 use Rattle.cell.specs.Candidate.{headLength}
-use Rattle.candidate.specs.Lookup.{VALUES, NEEDS, needAt}
+use Rattle.candidate.specs.Lookup.{VALUES, NEEDS}
 use Rattle.candidate.specs.Ready.{patternAt, Needs, AllNeeds}
 use Rattle.candidate.proofs.BasisWalk.{take-again}
 

@@ -1,5 +1,6 @@
 // The basis of a pattern set in memory: the patterns that contain no other pattern of the set; and
 // the length of the longest pattern.
+use forms::lists::same_bytes;
 use forms::memory::Pattern;
 use forms::memory::Patterns;
 use word::copy::first_copy;
@@ -20,20 +21,9 @@ ghost use Rattle.candidate.specs.BasisSet.{IsBasis};
 fn same_digits(p: [u8; DIGITS], a: usize, q: [u8; DIGITS], b: usize) -> bool
     ensures { λ r. ⌜ r ≡ same (take a p) (take b q) ⌝ }
 {
-    let mut k: usize = 0;
-    while k < DIGITS {
-        if a <= k {
-            return b <= k;
-        }
-        if b <= k {
-            return false;
-        }
-        if p[k] != q[k] {
-            return false;
-        }
-        k += 1;
-    }
-    true
+    let m = digits(p, a);
+    let n = digits(q, b);
+    same_bytes(&p[..m], &q[..n])
 }
 
 // Whether the first `a` digits of p stand as a pattern in the first `b` digits of q.

@@ -1,17 +1,16 @@
 -- How the entries of a built member of a cell compare.
 use Prim.Native.Nat.{ℕ, zero, suc, _+_, _-_, _≤_, _<_}
 use mathlib.Core.Path.{_≡_, refl, sym, ap, _∙_}
-use mathlib.Core.Bool.{Bool, true, false, cond, _&&_, Bool·beq}
+use mathlib.Core.Bool.{true, Bool·beq}
 use mathlib.Core.List.{List, [], _∷_, _++_, map}
 use mathlib.Core.Logic.{_⊎_, inl, inr}
 use native.Mathlib.Omega.{arith}
-use lib.ListN.{length, getD, take, length-map}
-use lib.Dec.{leb, ltb}
+use lib.ListN.{length, getD, length-map}
+use lib.Dec.{ltb}
 use borrow.Author.Tests.{lt-ltb, le-ltb, le-leb, lt-leb}
 use Rattle.word.specs.Word.{alike, iso}
 use Rattle.word.specs.ListLaws.{below-or-not, true-not-false, and-in, and-left, and-right, beq-refl}
 use Rattle.word.specs.IsoLaws.{iso-length, iso-sym, iso-map}
-use Rattle.cell.specs.Cell.{total}
 use Rattle.cell.specs.Built.{level, val, lift, built}
 
 -- the value of a rest value lies in the first component or above it

@@ -5,14 +5,14 @@ use native.Mathlib.Omega.{arith}
 use mathlib.Core.Path.{_≡_, refl, sym, ap, ap₂, _∙_, fun-ext}
 use mathlib.Core.Logic.{_⊎_, inl, inr}
 use mathlib.Core.Bool.{Bool, true, false, not, _&&_, _||_, cond}
-use mathlib.Core.List.{List, [], _∷_, _++_, map, map-append, map-map, map-id, append-assoc, append-nil, List·Memᴰ, List·Memᴰ·head, List·Memᴰ·tail, Memᴰ·of-map}
+use mathlib.Core.List.{List, [], _∷_, _++_, map, map-append, map-map, map-id, append-assoc, append-nil, List·Memᴰ, Memᴰ·of-map}
 use lib.ListN.{length, getD, take, length-append, length-map}
 use lib.Seq.{take-all, take-at, take-suc, length-take-le, getD-at}
-use lib.Dec.{leb, eqb}
+use lib.Dec.{eqb}
 use borrow.Author.Tests.{le-leb, lt-leb, eqb-true, eq-eqb}
 use Rattle.word.specs.Lists.{all, keep, each, oneTo}
 use Rattle.word.specs.Word.{avoids, under, reduce, has, distinct, within, isPerm, bump, perms}
-use Rattle.word.specs.ListLaws.{true-not-false, and-left, and-right, and-in, same-test, below-or-not, keep-out, keep-in, map-same, row-out}
+use Rattle.word.specs.ListLaws.{same-test, below-or-not, keep-out, keep-in, map-same, row-out}
 use Rattle.word.specs.BumpLaws.{Bumped, stays, moves, bumped, bump-below, bump-above}
 use Rattle.word.specs.PermLaws.{perm-cons, perm-uncons, perms-are, perms-all, under-bump-below, under-bump-above, reduce-perm}
 use Rattle.cell.specs.Cell.{same, total, cell, children}

@@ -1,6 +1,6 @@
 -- Laws of deletion: a built word without some positions of its prefix is, reduced, the built word
 -- of the shorter prefix at the merged spacing.
-use Prim.Native.Nat.{ℕ, zero, suc, _<_}
+use Prim.Native.Nat.{ℕ, suc, _<_}
 use native.Mathlib.Omega.{arith}
 use mathlib.Core.Path.{_≡_, refl, sym, ap, ap₂, _∙_}
 use mathlib.Core.Bool.{Bool, true, false, cond, Bool·beq}

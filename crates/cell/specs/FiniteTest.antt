@@ -6,7 +6,7 @@ use mathlib.Core.Bool.{Bool, true, false}
 use mathlib.Core.Logic.{_↔_}
 use mathlib.Core.List.{List, [], _∷_, _++_, map, List·Memᴰ, Sublistᴰ, Sublistᴰ·refl, Sublistᴰ·nil-sublist}
 use native.Mathlib.Omega.{arith}
-use lib.ListN.{length, length-append, length-map}
+use lib.ListN.{length, length-map}
 use Rattle.word.specs.Word.{iso, avoids, isPerm, bump, longest}
 use Rattle.word.specs.ListLaws.{true-not-false}
 use Rattle.word.specs.IsoLaws.{iso-length}

@@ -9,9 +9,9 @@ use mathlib.Core.List.{Memᴰ·append-right, Sublistᴰ, Sublistᴰ·refl, Subli
 use native.Mathlib.Omega.{arith}
 use lib.ListN.{length, getD, length-append, List·getD-map}
 use lib.Dec.{leb, ltb}
-use borrow.Author.Tests.{leb-true, lt-ltb, le-ltb, le-leb, lt-leb}
+use borrow.Author.Tests.{lt-ltb, le-ltb, le-leb, lt-leb}
 use Rattle.word.specs.Word.{iso, contains, avoids, distinct, isPerm, bump}
-use Rattle.word.specs.ListLaws.{below-or-not, and-in, and-left, and-right, getD-mem, true-not-false}
+use Rattle.word.specs.ListLaws.{below-or-not, and-in, getD-mem}
 use Rattle.word.specs.IsoLaws.{iso-refl, iso-sym, iso-trans, iso-map}
 use Rattle.word.specs.ContainsLaws.{contains-word-iso, avoids-word-iso, avoids-sublist}
 use Rattle.word.specs.BumpLaws.{Bumped, stays, moves, bumped, bump-below, bump-keeps}

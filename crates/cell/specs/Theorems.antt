@@ -1,5 +1,5 @@
 -- The theorems on cells: the gap law, the finite test, removal, and the least violation.
-use Prim.Native.Nat.{ℕ, suc, _≤_, _<_}
+use Prim.Native.Nat.{ℕ, suc, _<_}
 use mathlib.Core.Path.{_≡_, refl, sym, ap, _∙_}
 use mathlib.Core.Bool.{Bool, true, false}
 use mathlib.Core.List.{List, [], _∷_, List·Memᴰ, List·Memᴰ·head, List·Memᴰ·not-nil}
@@ -10,7 +10,7 @@ use Rattle.word.specs.Lists.{all, keep}
 use Rattle.word.specs.Word.{avoids, longest, within, isPerm, perms}
 use Rattle.word.specs.ListLaws.{same-test, same-or-not}
 use Rattle.word.specs.PermLaws.{perm-bounds, perms-are, perms-all}
-use Rattle.cell.specs.Cell.{cell, without, deleted, merged, atLeast, free, mOf, compared, total}
+use Rattle.cell.specs.Cell.{cell, without, deleted, merged, atLeast, free, mOf, total}
 use Rattle.cell.specs.Claim.{GapClaim, Carries, DeletionClaim, SizesAgree}
 use Rattle.cell.specs.Built.{built}
 use Rattle.cell.specs.SpacingWalk.{atLeast-refl, atLeast-length, free-down, compared-are, compared-all, keep-sizes, keep-same}

@@ -1,27 +1,25 @@
 -- The rule of an entry: the deletion that the candidate search decides, and the number of compared
 -- cells.
 -- Assumes nothing.
-use Prim.Native.Nat.{ℕ, zero, suc, _+_, _≤_, _<_}
-use native.Mathlib.Numerals.{add-one}
+use Prim.Native.Nat.{ℕ, suc, _+_, _≤_, _<_}
 use native.Mathlib.Omega.{arith}
 use mathlib.Core.Path.{_≡_, refl, sym, ap, ap₂, _∙_}
 use mathlib.Core.Bool.{Bool, true, false}
-use mathlib.Core.List.{List, [], _∷_, map, List·Memᴰ, List·Memᴰ·head, List·Memᴰ·tail}
+use mathlib.Core.List.{List, [], _∷_}
 use mathlib.Core.Logic.{_↔_}
-use lib.ListN.{length, getD, take, set}
+use lib.ListN.{length, take, set}
 use lib.Seq.{length-take-le}
-use Rattle.word.specs.Ceilings.{DIGITS, PATTERNS, PREFIX, GAPS, PARTS}
+use Rattle.word.specs.Ceilings.{DIGITS, PATTERNS, PREFIX, PARTS}
 use Rattle.word.specs.Lists.{all, keep, each, row}
-use Rattle.word.specs.Word.{isPerm, within}
+use Rattle.word.specs.Word.{within}
 use Rattle.word.specs.ListLaws.{and-left}
 use Rattle.word.specs.PermLaws.{within-out}
-use Rattle.word.specs.Containment.{patternsOf}
 use Rattle.cell.specs.Cell.{free, vectors, mOf, compared}
 use Rattle.cell.specs.Claim.{DeletionClaim}
 use Rattle.forms.specs.GapRows.{gapsOf}
 use Rattle.candidate.specs.Ready.{patternAt, Given, EntryAnswer}
 use Rattle.candidate.specs.BasisMemory.{pattern-member}
-use Rattle.forms.specs.SchemeList.{Does, expands, deletes, EntryList}
+use Rattle.forms.specs.SchemeList.{deletes}
 use Rattle.scheme.specs.WellFormed.{outside}
 use Rattle.forms.specs.SchemeMemory.{doesOf, entryIn}
 use Rattle.forms.specs.MemoryLaws.{length-padded}
@@ -29,7 +27,6 @@ use Rattle.forms.specs.declared.memory.Entry.{Entry}
 use Rattle.forms.specs.declared.memory.Rule.{Rule}
 use Rattle.forms.specs.declared.memory.Rule.the-variants.{Expand, Delete}
 use Rattle.verdict.specs.Verdict.{differs, comparedWith}
-use Rattle.verdict.specs.Truth.{RuleClaim}
 use Rattle.scheme.specs.FindingLaws.{same-failure}
 use Rattle.scheme.specs.Proper.{ProperEntry}
 use Rattle.scheme.specs.ProperLaws.{position-inside}

@@ -1,15 +1,13 @@
 -- What the code that judges an entry has in hand. Definitions only.
-use Prim.Native.Nat.{ℕ, _≤_, _<_}
+use Prim.Native.Nat.{ℕ, _≤_}
 use mathlib.Core.Path.{_≡_}
 use mathlib.Core.Bool.{true}
-use mathlib.Core.List.{List, [], List·Memᴰ}
-use lib.ListN.{length, getD}
-use Rattle.word.specs.Ceilings.{PATTERNS, COMPONENTS, GAPS}
+use mathlib.Core.List.{List, List·Memᴰ}
+use Rattle.word.specs.Ceilings.{PATTERNS}
 use Rattle.word.specs.Word.{isPerm}
 use Rattle.word.specs.Containment.{patternsOf}
 use Rattle.cell.specs.Cell.{mOf}
 use Rattle.forms.specs.SchemeList.{EntryList}
-use Rattle.forms.specs.declared.memory.Gap.{Gap}
 use Rattle.forms.specs.declared.memory.Rule.the-variants.{Delete}
 use Rattle.forms.specs.declared.memory.Entry.{Entry}
 use Rattle.verdict.specs.Verdict.{comparedWith}

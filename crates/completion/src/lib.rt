@@ -5,6 +5,7 @@ use word::containment::any_in;
 use word::limits::DIGITS;
 use word::limits::PATTERNS;
 use word::limits::WORD;
+use word::permutation::stands_from;
 ghost use mathlib.Core.Path.{_≡_};
 ghost use mathlib.Core.Bool.{true, not};
 ghost use mathlib.Core.List.{[], _∷_, _++_};
@@ -63,14 +64,7 @@ fn stands(word: [u8; WORD], len: usize, v: u8) -> bool
     requires { ⌜ len ≤ WORD ⌝ }
     ensures { λ r. ⌜ r ≡ has v (take len word) ⌝ }
 {
-    let mut i: usize = 0;
-    while i < len {
-        if word[i] == v {
-            return true;
-        }
-        i += 1;
-    }
-    false
+    stands_from(&word[..len], 0, v)
 }
 
 // The search: where every value that does not stand in the word can follow it, each of them is

@@ -1,5 +1,5 @@
 // The spacings of a child and of a target.
-use spacing::walk::wide;
+use word::bytes::wide;
 use word::limits::COMPONENTS;
 ghost use mathlib.Core.Path.{_≡_};
 ghost use mathlib.Core.List.{[], _∷_};

@@ -5,7 +5,7 @@ use native.Mathlib.Numerals.{add-one}
 use native.Mathlib.Omega.{arith}
 use mathlib.Core.Path.{_≡_, refl, sym, ap, _∙_, subst}
 use mathlib.Core.Bool.{Bool, true, false, cond}
-use mathlib.Core.List.{List, [], map}
+use mathlib.Core.List.{List, map}
 use mathlib.Core.Option.{Option, none, some}
 use lib.ListN.{length, getD, set, take, length-set}
 use lib.Dec.{eqb, ltb}
@@ -28,7 +28,7 @@ use Rattle.forms.specs.declared.memory.Scheme.{Scheme}
 use Rattle.scheme.proofs.LookupLaws.{listed-found, prefixes-at}
 use Rattle.scheme.specs.TestLaws.{or-left, or-right}
 use Rattle.count_plan.specs.Layout.{entryAt, prefixAt, lengthAt}
-use Rattle.count_plan.specs.LayoutLaws.{prefix-length, entry-member, entry-proper, entry-short}
+use Rattle.count_plan.specs.LayoutLaws.{prefix-length, entry-proper, entry-short}
 use Rattle.scheme.specs.Proper.{Proper}
 use Rattle.count_plan.specs.Cards.{indexFound, indexIn, ChildLinks, Expands, Deletes, RuleCard}
 use Rattle.count_plan.specs.SheetRows.{Names}

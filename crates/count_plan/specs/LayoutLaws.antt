@@ -5,11 +5,11 @@ use native.Mathlib.Omega.{arith}
 use mathlib.Core.Path.{_≡_, refl, sym, ap, _∙_, fun-ext}
 use mathlib.Core.Logic.{_⊎_, inl, inr}
 use mathlib.Core.List.{List, [], _∷_, map, map-append, map-map, List·Memᴰ, Memᴰ·map}
-use lib.ListN.{length, getD, set, replicate, length-map, length-set, length-replicate}
+use lib.ListN.{length, getD, set, replicate, length-set, length-replicate}
 use lib.Seq.{getD-set-same, getD-set-other}
 use Rattle.word.specs.Ceilings.{ENTRIES, PREFIX, GAPS, LENGTH}
 use Rattle.word.specs.Lists.{row}
-use Rattle.word.specs.ListLaws.{same-or-not, length-row, row-in}
+use Rattle.word.specs.ListLaws.{same-or-not, row-in}
 use Rattle.cell.specs.Cell.{total}
 use Rattle.cell.specs.Binomial.{binomial}
 use Rattle.spacing.specs.Sizes.{CHOICES, NEAR}

@@ -5,7 +5,7 @@ use scheme::links::Found;
 use scheme::links::child;
 use scheme::links::find_prefix;
 use scheme::links::shorter;
-use spacing::walk::wide;
+use word::bytes::wide;
 use word::containment::any_in;
 use word::limits::DIGITS;
 use word::limits::LINKS;

@@ -1,7 +1,7 @@
 // Reading the sheet.
 use crate::sheet::CARD;
 use crate::sheet::HEAD;
-use spacing::walk::wide;
+use word::bytes::wide;
 use word::limits::PARTS;
 ghost use mathlib.Core.Path.{_≡_};
 ghost use Prim.Native.Nat.{_<_};

@@ -3,7 +3,7 @@ use crate::sums::capped_sum;
 use spacing::binomials::choose;
 use spacing::is_free;
 use spacing::walk::rank_without;
-use spacing::walk::wide;
+use word::bytes::wide;
 use word::limits::COMPONENTS;
 use word::limits::LINKS;
 ghost use mathlib.Core.Path.{_≡_};

@@ -10,7 +10,7 @@ use borrow.Author.Tests.{lt-ltb, le-ltb}
 use Rattle.word.specs.Ceilings.{LENGTH, PLAIN_LENGTH as PLAIN}
 use Rattle.word.specs.Word.{avoiders}
 use Rattle.word.specs.ListLaws.{true-not-false}
-use Rattle.word.specs.Finding.{Finding, clean, fault, test, firstFault}
+use Rattle.word.specs.Finding.{Finding, test, firstFault}
 use Rattle.word.specs.Told.{toldBy}
 use Rattle.word.specs.declared.refusal.Refusal.the-variants.{Oversize, ShortTable}
 use Rattle.forms.specs.SchemeList.{EntryList}
@@ -20,7 +20,6 @@ use Rattle.forms.specs.declared.memory.Fault.{Fault}
 use Rattle.forms.specs.declared.memory.Fault.the-variants.{Clean, At}
 use Rattle.wellformed.proofs.OrderLaws.{or-else-fault, or-else-clean, not-faulty, faults-append}
 use Rattle.verdict.specs.Verdict.{comparedCells, judgeTests, answered, verdictOf, accepted}
-use Rattle.verdict.specs.Truth.{WellFormed, AllTrue}
 use Rattle.verdict.specs.VerdictLaws.{accepted-clean, accepted-exactly}
 use Rattle.verdict.specs.declared.answer.Verdict.{Verdict}
 use Rattle.count_plan.specs.Layout.{needOf}

@@ -1,2 +1,3 @@
 -- The laws that the proofs of the crate forms cite.
 pub mod CodeWalk
+pub mod SameWalk

@@ -2,16 +2,14 @@
 -- are written place by place.
 -- Assumes nothing.
 use Prim.Native.Nat.{ℕ, zero, suc, _+_, _≤_, _<_}
-use native.Mathlib.Numerals.{add-one}
 use native.Mathlib.Omega.{arith}
 use mathlib.Core.Path.{_≡_, refl, ap, _∙_}
-use mathlib.Core.Bool.{Bool, true, false, _&&_, and-false}
+use mathlib.Core.Bool.{Bool, false, _&&_, and-false}
 use mathlib.Core.List.{List, [], _∷_, _++_, map}
 use mathlib.Core.Logic.{_⊎_, inl, inr}
-use lib.ListN.{length, getD, take, drop, set, replicate, length-append, length-replicate, drop-of-length-le, List·getD-append}
+use lib.ListN.{length, getD, take, set, replicate, length-append, length-replicate, List·getD-append}
 use lib.Dec.{eqb}
-use lib.Seq.{take-append-le, length-take-le, drop-cons, getD-take, getD-set-same, getD-set-other}
-use borrow.Author.Tests.{eq-eqb, ne-eqb}
+use lib.Seq.{take-append-le, length-take-le, getD-take, getD-set-same, getD-set-other}
 use Rattle.word.specs.Lists.{all, row}
 use Rattle.word.specs.ListLaws.{same-or-not}
 use Rattle.word.specs.Word.{isPerm, within}
@@ -43,19 +41,6 @@ pub padded-no-perm : (n : ℕ) (l : List ℕ) → length l < n → isPerm (padde
 unfolding isPerm within
 padded-no-perm n l h = rw (padded-zero (within (length (padded n l))) n l refl h) refl
 
--- behind the ends of two arrays of one length the numbers are the same
-pub padded-behind : (n : ℕ) (a b : List ℕ) (k : ℕ) → length a ≡ length b → length a ≤ k → drop k (padded n a) ≡ drop k (padded n b)
-padded-behind n a b k p q = go n a b k p q
-  where
-    go : (m : ℕ) (a b : List ℕ) (k : ℕ) → length a ≡ length b → length a ≤ k →
-        drop k (take m (a ++ replicate n 0)) ≡ drop k (take m (b ++ replicate n 0))
-    go zero a b k p q = refl
-    go (suc m) [] [] k p q = refl
-    go (suc m) [] (y ∷ b) k p q = absurd (omega arith)
-    go (suc m) (x ∷ a) [] k p q = absurd (omega arith)
-    go (suc m) (x ∷ a) (y ∷ b) zero p q = absurd (omega arith)
-    go (suc m) (x ∷ a) (y ∷ b) (suc k) p q = go m a b k (omega arith) (omega arith)
-
 -- two lists have the same numbers
 pub same-lengths : (u v : List ℕ) → (length u ≡ length v → ⊥) → same u v ≡ false
 unfolding same
@@ -64,40 +49,17 @@ same-lengths [] (y ∷ v) h = refl
 same-lengths (x ∷ u) [] h = refl
 same-lengths (x ∷ u) (y ∷ v) h = rw (same-lengths u v (λ e. h (ap suc e))) (and-false (eqb x y))
 
--- the first n numbers of two arrays are the same from place i on
-unfoldable pub same-from : ℕ → List ℕ → List ℕ → ℕ → Bool
-same-from n a b i = same (drop i (padded n a)) (drop i (padded n b))
-
-module _ (n : ℕ) (a b : List ℕ) where
-  pub same-start : same (padded n a) (padded n b) ≡ same-from n a b 0
-  unfolding same-from
-  same-start = refl
-
-  module _ (i : ℕ) where
-    module _ (h : i < n) (k : i < length a) (m : i < length b) where
-      same-cons : same-from n a b i ≡ eqb (getD a i 0) (getD b i 0) && same-from n a b (suc i)
-      unfolding same-from same
-      same-cons =
-          let p : i < length (padded n a) = omega (arith, length-padded n a) in
-          let q : i < length (padded n b) = omega (arith, length-padded n b) in
-          rw (drop-cons (padded n a) i 0 p, drop-cons (padded n b) i 0 q, getD-padded n a i h k, getD-padded n b i h m) refl
-
-      pub same-later : getD a i 0 ≡ getD b i 0 → same-from n a b i ≡ same-from n a b (i + 1)
-      same-later e = same-cons ∙ rw (add-one i, eq-eqb (getD a i 0) (getD b i 0) e) refl
-
-      pub same-differs : (getD a i 0 ≡ getD b i 0 → ⊥) → same-from n a b i ≡ false
-      same-differs e = same-cons ∙ rw (ne-eqb (getD a i 0) (getD b i 0) e) refl
-
-    pub same-counted : n ≤ i → same-from n a b i ≡ true
-    unfolding same-from same
-    same-counted h =
-        let p : length (padded n a) ≤ i = omega (arith, length-padded n a) in
-        let q : length (padded n b) ≤ i = omega (arith, length-padded n b) in
-        rw (drop-of-length-le (padded n a) p, drop-of-length-le (padded n b) q) refl
-
-    pub same-end : length a ≡ length b → length a ≤ i → same-from n a b i ≡ true
-    unfolding same-from
-    same-end e h = rw (padded-behind n a b i e h) (same-refl (drop i (padded n b)))
+-- arrays of one length that are taken whole, with zeros behind them, are the same if they are
+pub same-padded : (n : ℕ) (a b : List ℕ) → length a ≡ length b → length a ≤ n → same (padded n a) (padded n b) ≡ same a b
+unfolding same
+same-padded n a b e h = go n a b e h
+  where
+    go : (m : ℕ) (a b : List ℕ) → length a ≡ length b → length a ≤ m → same (take m (a ++ replicate n 0)) (take m (b ++ replicate n 0)) ≡ same a b
+    go m [] [] e h = same-refl (take m (replicate n 0))
+    go m [] (y ∷ b) e h = absurd (omega arith)
+    go m (x ∷ a) [] e h = absurd (omega arith)
+    go zero (x ∷ a) (y ∷ b) e h = absurd (omega arith)
+    go (suc m) (x ∷ a) (y ∷ b) e h = ap (λ (r : Bool). eqb x y && r) (go m a b (omega arith) (omega arith))
 
 -- elements written one after the other
 pub rows-more : {A : Type 0} (Q : ℕ → A → Type 0) (rows : List A) (d : A) (n : ℕ) (x : A) → n < length rows → Q n x →

@@ -2,6 +2,7 @@
 // prefix as one number.
 pub mod codes;
 pub mod gaps;
+pub mod lists;
 pub mod memory;
 pub mod order;
 pub mod sets;

@@ -1,14 +1,14 @@
 -- The parts of the verdict in their order, as the code has them in hand.
 -- Assumes nothing.
-use Prim.Native.Nat.{ℕ, zero, suc, _≤_, _<_}
+use Prim.Native.Nat.{ℕ}
 use native.Mathlib.Omega.{arith}
 use mathlib.Core.Path.{_≡_, refl, sym, ap, ap₂, _∙_}
-use mathlib.Core.Bool.{Bool, true, false}
-use mathlib.Core.List.{List, [], _∷_, _++_, List·Memᴰ}
+use mathlib.Core.Bool.{true, false}
+use mathlib.Core.List.{List, List·Memᴰ}
 use lib.ListN.{length}
 use Rattle.word.specs.Ceilings.{PATTERNS}
-use Rattle.word.specs.Word.{isPerm, longest}
-use Rattle.word.specs.Finding.{Finding, clean, firstFault}
+use Rattle.word.specs.Word.{longest}
+use Rattle.word.specs.Finding.{firstFault}
 use Rattle.word.specs.declared.refusal.Refusal.the-variants.{LiveGap, Irreversible}
 use Rattle.word.specs.Containment.{patternsOf}
 use Rattle.cell.specs.Cell.{mOf}

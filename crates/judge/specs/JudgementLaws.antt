@@ -1,20 +1,18 @@
 -- Laws of judging: the tests on the basis are those on the set, and the parts of the verdict.
-use Prim.Native.Nat.{ℕ, suc, _≤_, _<_}
+use Prim.Native.Nat.{ℕ, suc}
 use native.Mathlib.Omega.{arith}
 use mathlib.Core.Path.{_≡_, refl, sym, ap, ap₂, _∙_, fun-ext}
 use mathlib.Core.Bool.{Bool, true, false, not, cond}
-use mathlib.Core.List.{List, [], _∷_, _++_, map, List·Memᴰ, List·Memᴰ·head, List·Memᴰ·tail}
+use mathlib.Core.List.{List, [], _∷_, _++_, List·Memᴰ, List·Memᴰ·head, List·Memᴰ·tail}
 use mathlib.Core.Logic.{_↔_}
 use lib.ListN.{length}
-use Rattle.word.specs.Lists.{any, row}
+use Rattle.word.specs.Lists.{any}
 use Rattle.word.specs.Word.{isPerm}
-use Rattle.word.specs.Finding.{Finding, clean, fault, firstFault}
+use Rattle.word.specs.Finding.{Finding, fault, firstFault}
 use Rattle.word.specs.declared.refusal.Refusal.{Refusal}
 use Rattle.word.specs.declared.refusal.Refusal.the-variants.{LiveGap, Irreversible}
-use Rattle.word.specs.Containment.{patternsOf}
-use Rattle.cell.specs.Cell.{cell}
 use Rattle.cell.specs.Basis.{basis}
-use Rattle.cell.specs.BasisLaws.{basis-in, basis-cell, basis-deletion}
+use Rattle.cell.specs.BasisLaws.{basis-cell, basis-deletion}
 use Rattle.forms.specs.SchemeList.{Does, expands, deletes, EntryList}
 use Rattle.scheme.specs.WellFormed.{firstAt, outside, patternTests, schemeTests}
 use Rattle.forms.specs.SchemeMemory.{schemeIn, faultOf, orElse, faulty, toldOr}
@@ -24,7 +22,7 @@ use Rattle.forms.specs.declared.memory.Fault.{Fault}
 use Rattle.forms.specs.declared.memory.Fault.the-variants.{Clean, At}
 use Rattle.wellformed.proofs.OrderLaws.{faults-append}
 use Rattle.verdict.specs.Verdict.{isEmpty, liveGap, differs, claimTests, comparedCells, judgeTests, answered, verdictOf, toldVerdict, accepted}
-use Rattle.verdict.specs.Truth.{WellFormed, RuleClaim, AllTrue}
+use Rattle.verdict.specs.Truth.{RuleClaim}
 use Rattle.scheme.specs.FindingLaws.{same-failure}
 use Rattle.scheme.specs.Proper.{Proper}
 use Rattle.verdict.specs.VerdictLaws.{differs-law, accepted-exactly}

@@ -1,23 +1,20 @@
 -- A set of patterns in memory as containment takes it holds the patterns.
-use Prim.Native.Nat.{ℕ, zero, suc, _%_, _≤_, _<_}
+use Prim.Native.Nat.{ℕ, zero, suc, _≤_, _<_}
 use native.Mathlib.Omega.{arith}
 use mathlib.Core.Path.{_≡_, refl, sym, ap, ap₂, _∙_}
-use mathlib.Core.Bool.{true}
 use mathlib.Core.List.{List, [], _∷_, map, List·Memᴰ, Memᴰ·map}
 use lib.ListN.{length, getD, take}
 use Rattle.word.specs.Ceilings.{DIGITS, PATTERNS}
 use Rattle.word.specs.Lists.{row}
-use Rattle.word.specs.Word.{isPerm}
 use Rattle.word.specs.ListLaws.{map-same, row-out, row-in}
 use Rattle.word.specs.Finding.{clean, firstFault}
 use Rattle.word.specs.Containment.{patternsOf}
 use Rattle.candidate.specs.Ready.{patternAt}
 use Rattle.scheme.specs.WellFormed.{patternTests}
-use Rattle.forms.specs.SchemeMemory.{padded, noPattern, patternIn, patternsIn}
+use Rattle.forms.specs.SchemeMemory.{noPattern, patternIn, patternsIn}
 use Rattle.forms.specs.MemoryLaws.{padded-within, length-padded}
 use Rattle.scheme.specs.TestLaws.{length-items}
 use Rattle.forms.specs.declared.memory.Patterns.{Patterns}
-use Rattle.scheme.specs.Proper.{ProperPattern}
 use Rattle.scheme.specs.ProperLaws.{few-patterns, proper-pattern}
 use Rattle.claims.specs.EntryMemory.{ProperSet}
 use Rattle.forms.specs.SetMemory.{HasDigits, HasLengths}

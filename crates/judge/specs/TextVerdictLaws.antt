@@ -1,17 +1,16 @@
 -- Laws of judging texts: what reading found decides, and the verdict on spelt lists is that on the
 -- lists.
-use Prim.Native.Nat.{ℕ, _≤_, _<_}
+use Prim.Native.Nat.{ℕ, _≤_}
 use native.Mathlib.Omega.{arith}
 use mathlib.Core.Path.{_≡_, refl, sym, ap, ap₂, _∙_}
 use mathlib.Core.Bool.{Bool, true, false, cond}
 use mathlib.Core.List.{List, [], _∷_}
-use mathlib.Core.Logic.{_↔_}
 use lib.ListN.{length}
 use lib.Dec.{ltb}
 use borrow.Author.Tests.{ltb-false}
 use Rattle.word.specs.Ceilings.{PATTERN_TEXT, SCHEME_TEXT}
 use Rattle.word.specs.ListLaws.{true-not-false}
-use Rattle.word.specs.Finding.{clean, firstFault}
+use Rattle.word.specs.Finding.{firstFault}
 use Rattle.word.specs.declared.refusal.Refusal.the-variants.{Oversize}
 use Rattle.forms.specs.SchemeList.{EntryList}
 use Rattle.scheme.specs.WellFormed.{patternTests, schemeTests}
@@ -30,12 +29,12 @@ use Rattle.notation.specs.PatternAnswers.{readOr, refusedPatterns, testedPatter
 use Rattle.notation.specs.SchemeAnswers.{readSchemeOr, refusedScheme, testedScheme, schemeAnswer, ReadsScheme}
 use Rattle.notation.specs.declared.patterns.PatternsRead.{PatternsRead}
 use Rattle.notation.specs.declared.schemes.SchemeRead.{SchemeRead}
-use Rattle.verdict.specs.Verdict.{claimTests, comparedCells, judgeTests, answered, verdictOf, toldVerdict, accepted}
+use Rattle.verdict.specs.Verdict.{claimTests, comparedCells, answered, verdictOf, toldVerdict, accepted}
 use Rattle.verdict.specs.Truth.{WellFormed, AllTrue}
 use Rattle.verdict.specs.VerdictLaws.{accepted-exactly}
 use Rattle.verdict.specs.declared.answer.Verdict.{Verdict}
 use Rattle.judge.specs.JudgementLaws.{refused-answer, told-answered, or-else-assoc, verdict-parts}
-use Rattle.judge.specs.TextJudgement.{faultRead, cellsRead, verdictRead, verdictOfTexts, TextsTrue, JudgesTexts, JudgesAndReads}
+use Rattle.judge.specs.TextJudgement.{faultRead, cellsRead, verdictRead, verdictOfTexts, TextsTrue, JudgesAndReads}
 use Rattle.judge.specs.declared.texts.TextsJudged.{TextsJudged}
 
 -- a refusal accepts nothing

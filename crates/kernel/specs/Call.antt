@@ -4,7 +4,6 @@ use Prim.Native.Nat.{ℕ}
 use mathlib.Core.Path.{_≡_}
 use mathlib.Core.List.{List}
 use mathlib.Core.Logic.{_↔_}
-use Rattle.word.specs.Told.{Told}
 use Rattle.verdict.specs.Verdict.{toldVerdict}
 use Rattle.judge.specs.TextJudgement.{verdictOfTexts, TextsTrue}
 

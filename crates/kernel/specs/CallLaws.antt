@@ -1,21 +1,19 @@
 -- The number that C sees is zero exactly for an acceptance.
 use Prim.Native.Nat.{ℕ}
-use native.Mathlib.Omega.{arith}
 use mathlib.Core.Path.{_≡_, refl, sym, ap, _∙_}
-use mathlib.Core.Bool.{Bool, true, false}
+use mathlib.Core.Bool.{true, false}
 use mathlib.Core.List.{List}
 use mathlib.Core.Logic.{_↔_}
 use lib.Dec.{eqb}
-use borrow.Author.Tests.{eqb-true, eq-eqb}
+use borrow.Author.Tests.{eq-eqb}
 use Rattle.word.specs.ListLaws.{true-not-false}
 use Rattle.word.specs.Refusal.{numberOf}
-use Rattle.word.specs.Told.{Told}
 use Rattle.word.specs.declared.refusal.Refusal.{Refusal}
 use Rattle.word.specs.declared.refusal.Refusal.the-variants.{Misspelt, Oversize, NoPermutation, Repeated, Rootless, Width, NoPosition, Childless, NoTarget, LiveGap, Irreversible, ShortTable, ShortPage}
 use Rattle.verdict.specs.Verdict.{toldVerdict, accepted}
 use Rattle.verdict.specs.declared.answer.Verdict.{Verdict}
 use Rattle.verdict.specs.declared.answer.Verdict.the-variants.{Accepted, Refused}
-use Rattle.judge.specs.TextJudgement.{verdictOfTexts, TextsTrue, JudgesTexts}
+use Rattle.judge.specs.TextJudgement.{JudgesTexts}
 use Rattle.kernel.specs.Call.{Called}
 
 -- no refusal has the number 0

@@ -25,7 +25,7 @@ use Rattle.text_grammar.specs.Tokens.{tokens}
 use Rattle.text_page.specs.Page.{overlay, Writes}
 use Rattle.text_page.specs.PageLaws.{length-after}
 use Rattle.notation.specs.Written.{writtenOr, Writing}
-use Rattle.notation.specs.Answers.{answerFrom, answerTo, foundFrom, foundIn, ReadsList, WritesList}
+use Rattle.notation.specs.Answers.{answerFrom, answerTo, foundIn, ReadsList, WritesList}
 use Rattle.notation.specs.declared.written.Written.{Written}
 use Rattle.notation.specs.declared.written.Written.the-variants.{Bytes, Refused}
 use Rattle.notation.proofs.ReadingFaultLaws.{notOne, not-clean, not-misspelt}

@@ -9,7 +9,6 @@ use lib.ListN.{length}
 use lib.Dec.{ltb}
 use Rattle.word.specs.Ceilings.{PATTERN_TEXT}
 use Rattle.word.specs.Finding.{Finding, clean, fault, firstFault}
-use Rattle.word.specs.declared.refusal.Refusal.{Refusal}
 use Rattle.word.specs.declared.refusal.Refusal.the-variants.{Misspelt, Oversize, NoPermutation}
 use Rattle.scheme.specs.WellFormed.{listed, patternTests}
 use Rattle.forms.specs.SchemeMemory.{patternsIn, faultOf, faulty}

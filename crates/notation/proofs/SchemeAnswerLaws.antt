@@ -9,7 +9,6 @@ use lib.ListN.{length}
 use lib.Dec.{ltb}
 use Rattle.word.specs.Ceilings.{SCHEME_TEXT}
 use Rattle.word.specs.Finding.{Finding, clean, fault, firstFault}
-use Rattle.word.specs.declared.refusal.Refusal.{Refusal}
 use Rattle.word.specs.declared.refusal.Refusal.the-variants.{Misspelt, Oversize, NoPermutation, Rootless, Width, NoPosition, Childless, NoTarget}
 use Rattle.scheme.specs.WellFormed.{listed, largeEntry, twinEntry, wrongWidth, outside, lacksChild, lacksTarget, schemeTests}
 use Rattle.forms.specs.SchemeList.{EntryList}

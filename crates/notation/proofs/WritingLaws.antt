@@ -11,7 +11,6 @@ use lib.Seq.{take-append-seam, drop-append-seam}
 use lib.Dec.{ltb}
 use borrow.Author.Tests.{lt-ltb, le-ltb}
 use Rattle.word.specs.Finding.{Finding, clean, fault, test, firstFault}
-use Rattle.word.specs.Told.{toldBy}
 use Rattle.word.specs.declared.refusal.Refusal.{Refusal}
 use Rattle.word.specs.declared.refusal.Refusal.the-variants.{ShortPage}
 use Rattle.forms.specs.SchemeMemory.{faultOf, faulty}
@@ -19,7 +18,7 @@ use Rattle.forms.specs.declared.memory.Fault.{Fault}
 use Rattle.forms.specs.declared.memory.Fault.the-variants.{Clean, At}
 use Rattle.text_page.specs.Page.{overlay}
 use Rattle.text_page.specs.PageLaws.{overlay-whole}
-use Rattle.notation.specs.Written.{writtenOr, toldWritten, writing, Writing}
+use Rattle.notation.specs.Written.{writtenOr, writing, Writing}
 use Rattle.notation.specs.declared.written.Written.{Written}
 use Rattle.notation.specs.declared.written.Written.the-variants.{Bytes, Refused}
 use Rattle.scheme.specs.TestLaws.{single}

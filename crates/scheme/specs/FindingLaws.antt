@@ -2,11 +2,11 @@
 use Prim.Native.Nat.{ℕ, suc}
 use native.Mathlib.Omega.{arith}
 use mathlib.Core.Path.{_≡_, refl, sym, ap, _∙_}
-use mathlib.Core.Bool.{Bool, true, false, cond, _||_, true≢false}
+use mathlib.Core.Bool.{Bool, true, false, cond}
 use mathlib.Core.List.{List, [], _∷_, _++_, List·Memᴰ, List·Memᴰ·head, List·Memᴰ·tail, List·Memᴰ·not-nil, List·Memᴰ·cases-cons}
 use mathlib.Core.Logic.{_↔_, _⊎_, inl, inr}
 use Rattle.word.specs.Lists.{any}
-use Rattle.word.specs.ListLaws.{true-not-false, any-in, any-out}
+use Rattle.word.specs.ListLaws.{true-not-false, any-in}
 use Rattle.word.specs.Finding.{Finding, clean, fault, test, firstFault}
 use Rattle.word.specs.declared.refusal.Refusal.{Refusal}
 use Rattle.scheme.specs.WellFormed.{firstAt}

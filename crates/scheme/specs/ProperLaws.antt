@@ -2,7 +2,7 @@
 use Prim.Native.Nat.{ℕ, suc, _≤_, _<_}
 use native.Mathlib.Omega.{arith}
 use mathlib.Core.Path.{_≡_, refl, sym, ap, _∙_}
-use mathlib.Core.Bool.{Bool, true, false, not, cond, _&&_, _||_}
+use mathlib.Core.Bool.{Bool, true, false, not, cond, _||_}
 use mathlib.Core.List.{List, [], _∷_, List·Memᴰ, List·Memᴰ·head, List·Memᴰ·tail, Memᴰ·map, Memᴰ·of-map}
 use mathlib.Core.Logic.{_⊎_, inl, inr}
 use lib.ListN.{length}
@@ -20,7 +20,7 @@ use Rattle.cell.specs.Cell.{same, total, children}
 use Rattle.cell.specs.BuiltCells.{same-out}
 use Rattle.cell.specs.Child.{childAt}
 use Rattle.cell.specs.ChildLaws.{child-length, children-all}
-use Rattle.forms.specs.SchemeList.{Does, expands, deletes, EntryList}
+use Rattle.forms.specs.SchemeList.{expands, deletes, EntryList}
 use Rattle.forms.specs.SchemeMemory.{entryAt, schemeIn}
 use Rattle.forms.specs.declared.memory.Scheme.{Scheme}
 use Rattle.scheme.specs.WellFormed.{listed, largeGap, largeEntry, wrongWidth, outside, lacksChild, lacksTarget, patternTests, schemeTests, prefixes}

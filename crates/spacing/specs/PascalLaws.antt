@@ -1,5 +1,5 @@
 -- Filling the binomials, and how large they are.
-use Prim.Native.Nat.{ℕ, zero, suc, _+_, _*_, _^_, _-_, _≤_, _<_}
+use Prim.Native.Nat.{ℕ, zero, suc, _+_, _*_, _-_, _≤_, _<_}
 use native.Mathlib.Omega.{arith}
 use mathlib.Core.Path.{_≡_, sym, ap, ap₂, _∙_}
 use mathlib.Core.Logic.{_⊎_, inl, inr}
@@ -11,7 +11,7 @@ use Rattle.word.specs.ListLaws.{below-or-not}
 use Rattle.cell.specs.Binomial.{binomial}
 use Rattle.spacing.specs.Sizes.{BINOMIALS, CHOICES}
 use Rattle.spacing.specs.RankLaws.{pascal, binomial-zero, binomial-mono}
-use Rattle.spacing.specs.Pascal.{PascalTo, Pascal}
+use Rattle.spacing.specs.Pascal.{PascalTo}
 
 -- A binomial of a row up to LENGTH is at most 2 ^ LENGTH.
 

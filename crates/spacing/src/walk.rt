@@ -1,5 +1,6 @@
 // The rank of a spacing, and the spacing that comes next by rank.
 use crate::binomials::choose;
+use word::bytes::wide;
 use word::limits::COMPONENTS;
 ghost use mathlib.Core.Path.{_≡_};
 ghost use mathlib.Core.List.{[], _∷_};
@@ -35,13 +36,6 @@ pub fn rank_without(g: [u8; COMPONENTS], k: usize, v: usize, start: usize, b: &[
         }
     }
     rank
-}
-
-// A byte as a number that can be added and compared with lengths.
-pub fn wide(x: u8) -> usize
-    ensures { λ r. ⌜ r ≡ x ⌝ }
-{
-    x as usize
 }
 
 // The spacing that comes next; after the last one the first.

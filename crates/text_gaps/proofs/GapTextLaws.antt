@@ -27,7 +27,7 @@ use Rattle.text_gaps.specs.declared.parts.Gaps.{Gaps}
 use Rattle.text_gaps.specs.declared.parts.GapsRead.{GapsRead}
 use Rattle.text_gaps.specs.declared.gap_reader.Turn.{Turn}
 use Rattle.text_gaps.specs.declared.gap_reader.Turn.the-variants.{More, Wrong}
-use Rattle.text_grammar.specs.Spelling.{Token, digits, empty, left, right, byte, numeral, vectorPieces, writableVector}
+use Rattle.text_grammar.specs.Spelling.{Token, digits, left, right, byte, numeral, vectorPieces, writableVector}
 use Rattle.text_grammar.specs.Tokens.{tokens}
 use Rattle.text_grammar.specs.TokenLaws.{tokens-end}
 use Rattle.text_grammar.specs.Grammar.{Read, misspelt, got, after, code, same, fail, pick, follow, items, inBraces, readNumber, readVector}

@@ -1,13 +1,13 @@
 -- A test of a kind of token tells the kind.
 use Prim.Native.Nat.{ℕ, zero, suc, _<_}
 use native.Mathlib.Omega.{arith}
-use mathlib.Core.Path.{_≡_, refl, sym, ap, _∙_}
+use mathlib.Core.Path.{_≡_, refl, ap, _∙_}
 use mathlib.Core.Bool.{true, false, false≢true}
 use lib.Dec.{eqb}
 use borrow.Author.Tests.{eqb-true}
 use Rattle.text_grammar.specs.declared.cursor.Kind.{Kind}
 use Rattle.text_grammar.specs.declared.cursor.Kind.the-variants.{End, Digits, Epsilon, Empty, Left, Right, Byte}
-use Rattle.text_grammar.specs.Kinds.{codeOf, isEnd, isDigits, isEpsilon, isEmpty, isLeft, isByte}
+use Rattle.text_grammar.specs.Kinds.{codeOf, isDigits, isEpsilon, isEmpty, isLeft, isByte}
 
 -- the kind with a code
 abbrev kindBy : ℕ → Kind

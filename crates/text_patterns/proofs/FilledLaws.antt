@@ -10,7 +10,7 @@ use mathlib.Core.Bool.{Bool, true, false, cond}
 use mathlib.Core.List.{List, [], _∷_, _++_, map, map-append, append-nil, append-assoc}
 use mathlib.Core.Option.{Option, none, some}
 use lib.ListN.{length, getD, take, drop, set, length-map, length-drop}
-use lib.Seq.{length-take-le, take-suc, take-all, getD-drop, set-out, sets}
+use lib.Seq.{take-all, getD-drop, set-out, sets}
 use Rattle.forms.specs.declared.memory.Pattern.{Pattern}
 use Rattle.forms.specs.declared.memory.Patterns.{Patterns}
 use Rattle.forms.specs.StoredLaws.{stored-more, sets-front}

@@ -18,7 +18,7 @@ use Rattle.word.specs.Finding.{Finding, clean, fault, test, firstFault}
 use Rattle.word.specs.declared.refusal.Refusal.{Refusal}
 use Rattle.word.specs.declared.refusal.Refusal.the-variants.{Oversize, NoPermutation}
 use Rattle.scheme.specs.WellFormed.{firstAt, firstTwin, listed, patternTests}
-use Rattle.forms.specs.SchemeMemory.{padded, noPattern, patternIn, patternsIn}
+use Rattle.forms.specs.SchemeMemory.{noPattern, patternIn, patternsIn}
 use Rattle.text_patterns.specs.PatternMemory.{filled, patternOf, loadedPatterns}
 use Rattle.forms.specs.MemoryLaws.{length-padded}
 

@@ -25,7 +25,6 @@ use Rattle.text_grammar.specs.Tokens.{tokens}
 use Rattle.text_grammar.specs.Cursor.{Stepped, tokensBy}
 use Rattle.text_grammar.specs.Grammar.{Read, misspelt, got, after, pick, follow, items, inBraces, readEntry, whole, readEntries}
 use Rattle.text_grammar.specs.GrammarLaws.{items-step, entry-read}
-use Rattle.text_patterns.specs.PatternMemory.{filled}
 use Rattle.text_schemes.specs.SchemeLoaded.{entryOf, plainEntry, loadedScheme}
 use Rattle.text_gaps.specs.PartReading.{found, kept}
 use Rattle.text_schemes.specs.SchemeReading.{EntryAt, schemeText}

@@ -10,7 +10,7 @@ use mathlib.Core.List.{List, [], _∷_, List·Memᴰ, Memᴰ·map}
 use lib.ListN.{length, getD, List·getD-eq-default}
 use lib.Dec.{leb}
 use borrow.Author.Tests.{le-leb}
-use Rattle.word.specs.Ceilings.{DIGITS, PATTERNS, PATTERN_TEXT}
+use Rattle.word.specs.Ceilings.{DIGITS, PATTERN_TEXT}
 use Rattle.word.specs.Lists.{all}
 use Rattle.word.specs.ListLaws.{all-in, getD-mem, row-in, below-or-not}
 use Rattle.word.specs.Word.{isPerm}

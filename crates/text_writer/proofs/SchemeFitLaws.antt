@@ -9,7 +9,7 @@ use mathlib.Core.List.{List, [], _∷_, map, List·Memᴰ, List·Memᴰ·head, L
 use lib.ListN.{length, getD, length-append}
 use lib.Dec.{ltb, leb, eqb}
 use borrow.Author.Tests.{ltb-false, le-leb, ne-eqb}
-use Rattle.word.specs.Ceilings.{ENTRIES, PREFIX, COMPONENTS, GAPS, TOTAL, SCHEME_TEXT}
+use Rattle.word.specs.Ceilings.{PREFIX, COMPONENTS, GAPS, TOTAL, SCHEME_TEXT}
 use Rattle.word.specs.Lists.{all}
 use Rattle.word.specs.ListLaws.{and-in, all-in, row-in}
 use Rattle.word.specs.Finding.{clean, firstFault}

@@ -8,7 +8,7 @@ use mathlib.Core.List.{List, [], _∷_, _++_, map, map-map, append-assoc, append
 use mathlib.Core.Logic.{_⊎_, inl, inr}
 use lib.ListN.{length, getD, take, drop, replicate}
 use lib.Seq.{drop-cons, take-append-le}
-use Rattle.word.specs.Lists.{each, row}
+use Rattle.word.specs.Lists.{row}
 use Rattle.word.specs.ListLaws.{below-or-not, each-append}
 use Rattle.forms.specs.SchemeMemory.{padded, patternIn, patternsIn, gapAt, entryIn, schemeIn, noPattern, noEntry}
 use Rattle.forms.specs.SchemeList.{EntryList, deletes}

@@ -8,9 +8,8 @@ use Rattle.word.specs.Ceilings.{LENGTH, PLAIN_LENGTH as PLAIN}
 use Rattle.word.specs.Word.{avoiders}
 use Rattle.word.specs.ListLaws.{true-not-false}
 use Rattle.forms.specs.SchemeList.{EntryList}
-use Rattle.forms.specs.SchemeMemory.{patternsIn, schemeIn, faultOf, orElse, faulty}
+use Rattle.forms.specs.SchemeMemory.{patternsIn, schemeIn, orElse, faulty}
 use Rattle.forms.specs.declared.memory.Fault.{Fault}
-use Rattle.forms.specs.declared.memory.Fault.the-variants.{Clean}
 use Rattle.wellformed.proofs.OrderLaws.{or-else-fault, or-else-clean}
 use Rattle.notation.specs.PatternAnswers.{patternsAnswer, ReadsPatterns}
 use Rattle.notation.specs.SchemeAnswers.{schemeAnswer, ReadsScheme}

@@ -3,7 +3,6 @@ use Prim.Native.Nat.{ℕ, zero, suc, _*_}
 use mathlib.Core.Bool.{cond}
 use mathlib.Core.List.{List, [], _∷_, map}
 use mathlib.Core.Option.{Option, none, some}
-use lib.ListN.{length}
 use lib.Dec.{eqb}
 use Rattle.word.specs.Lists.{first, oneTo}
 use Rattle.word.specs.Word.{avoids}

@@ -6,17 +6,17 @@ use native.Mathlib.Omega.{arith}
 use mathlib.Core.Path.{_≡_, refl, sym, ap, _∙_, subst}
 use mathlib.Core.Bool.{Bool, true, false, not, _||_, cond}
 use mathlib.Core.List.{List, [], _∷_, map, map-id, List·Memᴰ, List·Memᴰ·head, List·Memᴰ·tail}
-use mathlib.Core.Option.{none, some}
+use mathlib.Core.Option.{some}
 use lib.ListN.{length}
 use lib.Dec.{eqb, ltb}
 use borrow.Author.Tests.{eq-eqb, ne-eqb, ltb-true, ltb-false, not-false}
 use Rattle.word.specs.Ceilings.{LENGTH}
-use Rattle.word.specs.Lists.{all, keep, oneTo}
+use Rattle.word.specs.Lists.{keep, oneTo}
 use Rattle.word.specs.Word.{avoids, isPerm, perms, avoiders}
 use Rattle.word.specs.ListLaws.{true-not-false, all-fails, map-same, row-out}
 use Rattle.word.specs.Vocabulary.{factorial}
 use Rattle.word.specs.PermLaws.{perms-are, perm-bounds}
-use Rattle.cell.specs.Cell.{same, total, cell, deleted, merged, free, atLeast, children}
+use Rattle.cell.specs.Cell.{same, total, cell, deleted, merged, free, atLeast}
 use Rattle.cell.specs.Claim.{DeletionClaim}
 use Rattle.cell.specs.Child.{slot, childAt, split}
 use Rattle.cell.specs.Built.{built, lift}

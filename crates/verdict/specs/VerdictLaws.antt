@@ -8,21 +8,20 @@ use mathlib.Core.Logic.{_↔_}
 use lib.ListN.{length}
 use lib.Dec.{eqb}
 use borrow.Author.Tests.{eqb-true, eq-eqb}
-use Rattle.word.specs.Lists.{all, any}
-use Rattle.word.specs.Word.{isPerm, within}
+use Rattle.word.specs.Lists.{any}
+use Rattle.word.specs.Word.{isPerm}
 use Rattle.word.specs.ListLaws.{true-not-false}
 use Rattle.word.specs.Finding.{Finding, clean, fault, firstFault}
 use Rattle.word.specs.declared.refusal.Refusal.the-variants.{LiveGap, Irreversible}
 use Rattle.cell.specs.Cell.{cell, deleted, merged, compared}
-use Rattle.cell.specs.Claim.{GapClaim, DeletionClaim, SizesAgree}
+use Rattle.cell.specs.Claim.{GapClaim, SizesAgree}
 use Rattle.cell.specs.Theorems.{gap-law, finite-law}
 use Rattle.forms.specs.SchemeList.{Does, expands, deletes, EntryList}
 use Rattle.scheme.specs.WellFormed.{firstAt, outside, patternTests, schemeTests}
 use Rattle.forms.specs.SchemeMemory.{faultOf}
 use Rattle.verdict.specs.Verdict.{isEmpty, liveGap, sizesDiffer, differs, claimTests, comparedCells, judgeTests, answered, verdictOf, accepted}
-use Rattle.verdict.specs.Truth.{WellFormed, RuleClaim, EntryTrue, AllTrue}
+use Rattle.verdict.specs.Truth.{WellFormed, RuleClaim, AllTrue}
 use Rattle.scheme.specs.FindingLaws.{clean-in, clean-left, clean-right, clean-append, clean-two, first-out, first-in, none-out, none-in}
-use Rattle.scheme.specs.Proper.{ProperEntry}
 use Rattle.scheme.specs.ProperLaws.{proper, position-inside}
 
 -- a list is empty or not

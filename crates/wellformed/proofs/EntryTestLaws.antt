@@ -15,7 +15,7 @@ use Rattle.word.specs.Ceilings.{ENTRIES, PREFIX, COMPONENTS, GAPS, TOTAL}
 use Rattle.word.specs.Lists.{any, row}
 use Rattle.word.specs.Finding.{Finding, clean, fault, test, firstFault}
 use Rattle.word.specs.declared.refusal.Refusal.the-variants.{Oversize}
-use Rattle.cell.specs.Cell.{same, total}
+use Rattle.cell.specs.Cell.{total}
 use Rattle.forms.specs.SchemeList.{Does, EntryList}
 use Rattle.scheme.specs.WellFormed.{firstAt, largeGap, largeEntry, wrongWidth, outside}
 use Rattle.forms.specs.SchemeMemory.{padded, partsAt, noEntry, gapIn, doesOf, entryIn, gapAt, entryAt, schemeIn, faultOf}
@@ -95,26 +95,6 @@ module _ (k : ℕ) (rule : Rule) (r : ℕ) (told : rule ≡ Delete r) where
 
 pub outside-length : (n : ℕ) (l : List ℕ) (d : Does) → outside (length (padded n l)) d ≡ outside n d
 outside-length n l d = rw (length-padded n l) refl
-
--- whether two lists are the same, from a place on
-module _ (a b : List ℕ) (e : length a ≡ length b) (i : ℕ) where
-  pub same-other : i < length a → (getD a i 0 ≡ getD b i 0 → ⊥) → same (drop i a) (drop i b) ≡ false
-  unfolding same
-  same-other h d =
-      let k : i < length b = omega arith in
-      rw (drop-cons a i 0 h, drop-cons b i 0 k, ne-eqb (getD a i 0) (getD b i 0) d) refl
-
-  pub same-next : i < length a → getD a i 0 ≡ getD b i 0 → same (drop i a) (drop i b) ≡ same (drop (i + 1) a) (drop (i + 1) b)
-  unfolding same
-  same-next h d =
-      let k : i < length b = omega arith in
-      rw (add-one i, drop-cons a i 0 h, drop-cons b i 0 k, eq-eqb (getD a i 0) (getD b i 0) d) refl
-
-  pub same-end : length a ≤ i → same (drop i a) (drop i b) ≡ true
-  unfolding same
-  same-end h =
-      let k : length b ≤ i = omega arith in
-      rw (drop-of-length-le a h, drop-of-length-le b k) refl
 
 -- test 2 of a scheme
 abbrev pub largeFinding : List EntryList → Finding

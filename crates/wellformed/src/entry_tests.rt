@@ -1,5 +1,6 @@
 // The tests 2, 3, 4, 6 and 7 of one entry in memory.
 use forms::gaps::entry_gap;
+use forms::lists::same_bytes;
 use forms::memory::Entry;
 use forms::memory::Gap;
 use forms::memory::Rule;
@@ -117,23 +118,6 @@ fn same_gap(b: Gap, d: Gap) -> bool
     let n = d.width;
     let q = d.parts;
     same_bytes(&p[..k], &q[..n])
-}
-
-// Whether the two lists have the same bytes in the same places.
-fn same_bytes(a: &[u8], b: &[u8]) -> bool
-    ensures { λ r. ⌜ r ≡ same (now (a .entry)) (now (b .entry)) ⌝ }
-{
-    if a.len() != b.len() {
-        return false;
-    }
-    let mut i: usize = 0;
-    while i < a.len() {
-        if a[i] != b[i] {
-            return false;
-        }
-        i += 1;
-    }
-    true
 }
 
 // Whether a vector of the entry has another number of components than one more than the prefix has.

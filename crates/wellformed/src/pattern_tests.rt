@@ -1,4 +1,5 @@
 // The tests 2 to 4 of a pattern list in memory.
+use forms::lists::same_bytes;
 use forms::memory::Fault;
 use forms::memory::Pattern;
 use forms::memory::Patterns;
@@ -137,15 +138,8 @@ fn same_digits(p: Pattern, q: Pattern) -> bool
     if n != q.length {
         return false;
     }
-    let mut i: usize = 0;
-    while i < DIGITS {
-        if n <= i {
-            return true;
-        }
-        if a[i] != b[i] {
-            return false;
-        }
-        i += 1;
+    if n < DIGITS {
+        return same_bytes(&a[..n], &b[..n]);
     }
-    true
+    same_bytes(&a, &b)
 }

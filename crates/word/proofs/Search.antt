@@ -14,7 +14,7 @@ use lib.ListN.{length, getD, take, drop, set, replicate, length-append, length-t
 use lib.Dec.{ltb}
 use lib.Seq.{take-set-le, take-suc-set, take-suc, drop-cons, getD-set-same, getD-set-other, drop-length, length-take-le, getD-take, drop-set-lt, take-take}
 use borrow.Author.Tests.{not-true, not-false}
-use Rattle.word.specs.Lists.{first, sublists, row, oneTo}
+use Rattle.word.specs.Lists.{first, sublists, row}
 use Rattle.word.specs.Word.{iso, entry, firstCopy}
 use Rattle.word.specs.Copy.{shown}
 use Rattle.word.specs.declared.copy.FirstCopy.{FirstCopy}

@@ -1,11 +1,11 @@
-// Whether a list is a permutation.
+// Whether a value stands in a list, and whether a list is a permutation.
 use crate::bytes::wide;
 ghost use mathlib.Core.Path.{_≡_};
 ghost use lib.ListN.{drop};
 ghost use Rattle.word.specs.Word.{isPerm, has};
 
 // Whether x stands in s at the index `from` or later.
-fn stands(s: &[u8], from: usize, x: u8) -> bool
+pub fn stands_from(s: &[u8], from: usize, x: u8) -> bool
     ensures { λ r. ⌜ r ≡ has x (drop from (now (s .entry))) ⌝ }
 {
     let mut i = from;
@@ -31,7 +31,7 @@ pub fn is_permutation(s: &[u8]) -> bool
         if s.len() < wide(x) {
             return false;
         }
-        if stands(s, i + 1, x) {
+        if stands_from(s, i + 1, x) {
             return false;
         }
         i += 1;

@@ -2,7 +2,7 @@
 -- of turns that are left falls.
 -- Assumes nothing.
 use native.Mathlib.Omega.{arith}
-use mathlib.Core.Path.{_≡_, sym, _∙_}
+use mathlib.Core.Path.{_≡_, sym}
 use mathlib.Core.List.{[]}
 use lib.ListN.{length}
 use Rattle.table_lines.specs.Reads.{ReadsAll}

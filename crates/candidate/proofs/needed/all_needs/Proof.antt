@@ -1,12 +1,11 @@
 -- `candidate::needed::all_needs` meets its contract: the bytes before the place are those needed.
 -- Assumes nothing.
-use Prim.Native.Nat.{_*_, _-_, _/_, _%_, _≤_}
+use Prim.Native.Nat.{_-_, _/_, _%_, _≤_}
 use mathlib.Core.Path.{_≡_, refl, _∙_}
 use mathlib.Core.List.{[]}
 use native.Mathlib.Omega.{arith}
 use lib.ListN.{length, getD, length-set}
 use borrow.Author.Needs.{needs}
-use Rattle.word.specs.Ceilings.{PATTERNS}
 use Rattle.candidate.specs.Lookup.{NEEDS}
 use Rattle.candidate.proofs.NeedLaws.{Filled, filled-more, all-filled, need-cut}
 use Rattle.candidate.proofs.needed.all_needs.Statement.{statement}

@@ -6,7 +6,7 @@ use Prim.Native.Nat.{ℕ, _-_, _≤_}
 use mathlib.Core.Path.{_≡_, sym, ap, _∙_}
 use mathlib.Core.List.{List}
 use native.Mathlib.Omega.{arith}
-use lib.ListN.{length, getD, take}
+use lib.ListN.{length}
 use Rattle.word.specs.Ceilings.{PREFIX, GAPS}
 use Rattle.word.specs.Lists.{any}
 use Rattle.word.specs.Containment.{patternsOf}

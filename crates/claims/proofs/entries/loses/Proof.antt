@@ -1,15 +1,12 @@
 -- `claims::entries::loses` meets its contract: the candidate search decides the claim.
 -- Assumes nothing.
-use Prim.Native.Nat.{ℕ, suc, _+_, _≤_}
-use mathlib.Core.Path.{_≡_, sym, ap, _∙_}
-use mathlib.Core.List.{List, [], _∷_}
+use mathlib.Core.Path.{_≡_}
 use native.Mathlib.Omega.{arith}
-use lib.ListN.{length, take, set, replicate}
+use lib.ListN.{length, set}
 use Rattle.word.specs.Ceilings.{PATTERNS, PREFIX, PARTS}
 use Rattle.word.specs.Containment.{patternsOf}
-use Rattle.candidate.specs.Ready.{Given, EntryAnswer}
 use Rattle.scheme.specs.EntryMemoryLaws.{entry-short, gaps-in}
-use Rattle.claims.proofs.RuleLaws.{first-position, position-bound, given, answers}
+use Rattle.claims.proofs.RuleLaws.{position-bound, given, answers}
 use borrow.Author.Needs.{needs}
 use Rattle.claims.proofs.entries.loses.Statement.{statement}
 use Rattle.claims.proofs.entries.loses.Tie as tie

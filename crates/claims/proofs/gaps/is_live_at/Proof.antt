@@ -1,10 +1,9 @@
 -- `claims::gaps::is_live_at` meets its contract: the first entries are those of the cell, and
 -- completing them decides.
 -- Assumes nothing.
-use Prim.Native.Nat.{ℕ, _+_}
-use mathlib.Core.Path.{_≡_, sym, ap, ap₂, _∙_}
+use mathlib.Core.Path.{_≡_, _∙_}
 use native.Mathlib.Omega.{arith}
-use lib.ListN.{length, getD}
+use lib.ListN.{length}
 use Rattle.word.specs.Ceilings.{WORD, PREFIX, COMPONENTS}
 use Rattle.word.specs.Containment.{patternsOf}
 use Rattle.claims.proofs.GapClaimLaws.{cell-length, live-is}

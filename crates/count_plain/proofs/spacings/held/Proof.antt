@@ -30,7 +30,7 @@ returns c =
     let seven : length (a .t1) ≡ COMPONENTS = (let o = c .before .before .before .before in search needs) in
     let size : length (take (a .k + 1) (a .t1)) ≡ suc (a .k) = length-take-le (a .k + 1) (a .t1) (omega arith) ∙ add-one (a .k) in
     walk-end (take (a .k + 1) (a .t1)) (a .k) (a .s) (l .i) (l .left) size (l .inv) (c .before .wide .result)
-    (c .before .wide .ensures ∙ sym (getD-take (a .k + 1) (a .t1) (l .i) 0 (omega arith))) (c .if1 .taken)
+    (c .before .wide .ensures .0 ∙ sym (getD-take (a .k + 1) (a .t1) (l .i) 0 (omega arith))) (c .if1 .taken)
 
 loop-again : tie.Need-loop-again Inv-loop μ-loop
 loop-again c =
@@ -39,7 +39,7 @@ loop-again c =
     let seven : length (a .t1) ≡ COMPONENTS = (let o = c .before .before .before .before in search needs) in
     let size : length (take (a .k + 1) (a .t1)) ≡ suc (a .k) = length-take-le (a .k + 1) (a .t1) (omega arith) ∙ add-one (a .k) in
     walk-more (take (a .k + 1) (a .t1)) (a .k) (a .s) (l .i) (l .left) size (l .inv) (c .before .wide .result)
-    (c .before .wide .ensures ∙ sym (getD-take (a .k + 1) (a .t1) (l .i) 0 (omega arith))) (omega arith) (omega arith)
+    (c .before .wide .ensures .0 ∙ sym (getD-take (a .k + 1) (a .t1) (l .i) 0 (omega arith))) (omega arith) (omega arith)
 
 returns-2 : tie.Need-returns-2 Inv-loop μ-loop
 returns-2 c =

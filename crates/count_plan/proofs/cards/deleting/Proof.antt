@@ -18,7 +18,7 @@ returns c ps w =
     let six : length (a .t2) ≡ PREFIX = search needs in
     record {
       size = sym (length-take-le (a .k) (a .t2) (omega arith));
-      value = c .before .before .wide .ensures ∙ sym (getD-take (a .k) (a .t2) (a .r - 1) 0 (omega arith));
+      value = c .before .before .wide .ensures .0 ∙ sym (getD-take (a .k) (a .t2) (a .r - 1) 0 (omega arith));
       link = c .index-in .ensures ps w ∙ ap (indexIn ps) (c .before .shorter .ensures);
     }
 

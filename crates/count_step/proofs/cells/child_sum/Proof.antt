@@ -54,7 +54,7 @@ part-sum-requires c κs =
     let G = take (a .k + 1) (a .t3) in (
       omega (arith, above-small LARGEST (now (a .table)) (a .t2) G (a .k) s (l .above) (l .below) (l .z) (l .sum) (l .i) (l .inv), l .inv .low, l .inv .reach, c .before .before .before .before .before .before .pre .2 (l .i)),
       omega arith,
-      omega (arith, component-small LARGEST (now (a .table)) (a .t2) G (a .k) s (l .above) (l .below) (l .z) (l .sum) (l .i) (l .inv) (c .wide .result) (c .wide .ensures ∙ sym (getD-take (a .k + 1) (a .t3) (l .i) 0 (omega (arith, l .inv .reach))))),
+      omega (arith, component-small LARGEST (now (a .table)) (a .t2) G (a .k) s (l .above) (l .below) (l .z) (l .sum) (l .i) (l .inv) (c .wide .result) (c .wide .ensures .0 ∙ sym (getD-take (a .k + 1) (a .t3) (l .i) 0 (omega (arith, l .inv .reach))))),
       c .before .before .before .before .before .before .pre .3,
     )
 
@@ -65,7 +65,7 @@ add-z c =
     let seven : length (a .t3) ≡ COMPONENTS = (let o = c .before .before .before .before .before .before .before .before in search needs) in
     let s = length-take-le (a .k + 1) (a .t3) (omega arith) in
     let G = take (a .k + 1) (a .t3) in
-    omega (arith, component-small LARGEST (now (a .table)) (a .t2) G (a .k) s (l .above) (l .below) (l .z) (l .sum) (l .i) (l .inv) (c .before .before .wide .result) (c .before .before .wide .ensures ∙ sym (getD-take (a .k + 1) (a .t3) (l .i) 0 (omega (arith, l .inv .reach)))))
+    omega (arith, component-small LARGEST (now (a .table)) (a .t2) G (a .k) s (l .above) (l .below) (l .z) (l .sum) (l .i) (l .inv) (c .before .before .wide .result) (c .before .before .wide .ensures .0 ∙ sym (getD-take (a .k + 1) (a .t3) (l .i) 0 (omega (arith, l .inv .reach)))))
 
 choose-requires : tie.Need-choose-requires Inv-loop μ-loop
 choose-requires c κs =
@@ -74,7 +74,7 @@ choose-requires c κs =
     let seven : length (a .t3) ≡ COMPONENTS = (let o = c .before .before .before .before .before .before .before .before in search needs) in
     let s = length-take-le (a .k + 1) (a .t3) (omega arith) in
     let G = take (a .k + 1) (a .t3) in
-    (omega (arith, component-small LARGEST (now (a .table)) (a .t2) G (a .k) s (l .above) (l .below) (l .z) (l .sum) (l .i) (l .inv) (c .before .before .wide .result) (c .before .before .wide .ensures ∙ sym (getD-take (a .k + 1) (a .t3) (l .i) 0 (omega (arith, l .inv .reach))))), omega arith, c .before .before .before .before .before .before .before .before .pre .3)
+    (omega (arith, component-small LARGEST (now (a .table)) (a .t2) G (a .k) s (l .above) (l .below) (l .z) (l .sum) (l .i) (l .inv) (c .before .before .wide .result) (c .before .before .wide .ensures .0 ∙ sym (getD-take (a .k + 1) (a .t3) (l .i) 0 (omega (arith, l .inv .reach))))), omega arith, c .before .before .before .before .before .before .before .before .pre .3)
 
 add-below : tie.Need-add-below Inv-loop μ-loop
 add-below c =
@@ -83,7 +83,7 @@ add-below c =
     let seven : length (a .t3) ≡ COMPONENTS = (let o = c .before .before .before .before .before .before .before .before .before in search needs) in
     let s = length-take-le (a .k + 1) (a .t3) (omega arith) in
     let G = take (a .k + 1) (a .t3) in
-    let cs = component-small LARGEST (now (a .table)) (a .t2) G (a .k) s (l .above) (l .below) (l .z) (l .sum) (l .i) (l .inv) (c .before .before .before .wide .result) (c .before .before .before .wide .ensures ∙ sym (getD-take (a .k + 1) (a .t3) (l .i) 0 (omega (arith, l .inv .reach)))) in
+    let cs = component-small LARGEST (now (a .table)) (a .t2) G (a .k) s (l .above) (l .below) (l .z) (l .sum) (l .i) (l .inv) (c .before .before .before .wide .result) (c .before .before .before .wide .ensures .0 ∙ sym (getD-take (a .k + 1) (a .t3) (l .i) 0 (omega (arith, l .inv .reach)))) in
     omega (arith, l .inv .low, c .choose .ensures, binomial-small (l .z + c .before .before .before .wide .result) (l .i + 1) cs)
 
 choose-requires-2 : tie.Need-choose-requires-2 Inv-loop μ-loop
@@ -93,7 +93,7 @@ choose-requires-2 c κs =
     let seven : length (a .t3) ≡ COMPONENTS = (let o = c .before .before .before .before .before .before .before .before .before in search needs) in
     let s = length-take-le (a .k + 1) (a .t3) (omega arith) in
     let G = take (a .k + 1) (a .t3) in
-    (omega (arith, component-small LARGEST (now (a .table)) (a .t2) G (a .k) s (l .above) (l .below) (l .z) (l .sum) (l .i) (l .inv) (c .before .before .before .wide .result) (c .before .before .before .wide .ensures ∙ sym (getD-take (a .k + 1) (a .t3) (l .i) 0 (omega (arith, l .inv .reach))))), omega arith, c .before .before .before .before .before .before .before .before .before .pre .3)
+    (omega (arith, component-small LARGEST (now (a .table)) (a .t2) G (a .k) s (l .above) (l .below) (l .z) (l .sum) (l .i) (l .inv) (c .before .before .before .wide .result) (c .before .before .before .wide .ensures .0 ∙ sym (getD-take (a .k + 1) (a .t3) (l .i) 0 (omega (arith, l .inv .reach))))), omega arith, c .before .before .before .before .before .before .before .before .before .pre .3)
 
 sub-above : tie.Need-sub-above Inv-loop μ-loop
 sub-above c =
@@ -102,7 +102,7 @@ sub-above c =
     let seven : length (a .t3) ≡ COMPONENTS = (let o = c .before .before .before .before .before .before .before .before .before .before in search needs) in
     let s = length-take-le (a .k + 1) (a .t3) (omega arith) in
     let G = take (a .k + 1) (a .t3) in
-    above-enough LARGEST (now (a .table)) (a .t2) G (a .k) s (l .above) (l .below) (l .z) (l .sum) (l .i) (l .inv) (c .before .before .before .before .wide .result) (c .before .before .before .before .wide .ensures ∙ sym (getD-take (a .k + 1) (a .t3) (l .i) 0 (omega (arith, l .inv .reach)))) (omega arith) (c .choose2 .result) (c .choose2 .ensures)
+    above-enough LARGEST (now (a .table)) (a .t2) G (a .k) s (l .above) (l .below) (l .z) (l .sum) (l .i) (l .inv) (c .before .before .before .before .wide .result) (c .before .before .before .before .wide .ensures .0 ∙ sym (getD-take (a .k + 1) (a .t3) (l .i) 0 (omega (arith, l .inv .reach)))) (omega arith) (c .choose2 .result) (c .choose2 .ensures)
 
 add-z-2 : tie.Need-add-z-2 Inv-loop μ-loop
 add-z-2 c =
@@ -111,7 +111,7 @@ add-z-2 c =
     let seven : length (a .t3) ≡ COMPONENTS = (let o = c .before .before .before .before .before .before .before .before .before .before in search needs) in
     let s = length-take-le (a .k + 1) (a .t3) (omega arith) in
     let G = take (a .k + 1) (a .t3) in
-    omega (arith, component-small LARGEST (now (a .table)) (a .t2) G (a .k) s (l .above) (l .below) (l .z) (l .sum) (l .i) (l .inv) (c .before .before .before .before .wide .result) (c .before .before .before .before .wide .ensures ∙ sym (getD-take (a .k + 1) (a .t3) (l .i) 0 (omega (arith, l .inv .reach)))))
+    omega (arith, component-small LARGEST (now (a .table)) (a .t2) G (a .k) s (l .above) (l .below) (l .z) (l .sum) (l .i) (l .inv) (c .before .before .before .before .wide .result) (c .before .before .before .before .wide .ensures .0 ∙ sym (getD-take (a .k + 1) (a .t3) (l .i) 0 (omega (arith, l .inv .reach)))))
 
 loop-again : tie.Need-loop-again Inv-loop μ-loop
 loop-again c =
@@ -120,7 +120,7 @@ loop-again c =
     let seven : length (a .t3) ≡ COMPONENTS = (let o = c .before .before .before .before .before .before .before .before .before .before in search needs) in
     let s = length-take-le (a .k + 1) (a .t3) (omega arith) in
     let G = take (a .k + 1) (a .t3) in
-    sums-more LARGEST (now (a .table)) (a .t2) G (a .k) s (l .above) (l .below) (l .z) (l .sum) (l .i) (l .inv) (c .before .before .before .before .wide .result) (c .before .before .before .before .wide .ensures ∙ sym (getD-take (a .k + 1) (a .t3) (l .i) 0 (omega (arith, l .inv .reach)))) (omega arith)
+    sums-more LARGEST (now (a .table)) (a .t2) G (a .k) s (l .above) (l .below) (l .z) (l .sum) (l .i) (l .inv) (c .before .before .before .before .wide .result) (c .before .before .before .before .wide .ensures .0 ∙ sym (getD-take (a .k + 1) (a .t3) (l .i) 0 (omega (arith, l .inv .reach)))) (omega arith)
     (c .before .before .before .part-sum .result) (c .before .before .capped-sum .result) (c .before .choose .result) (c .choose2 .result)
     (c .before .before .before .part-sum .ensures) (c .before .before .capped-sum .ensures) (c .before .choose .ensures) (c .choose2 .ensures)
 
@@ -143,7 +143,7 @@ part-sum-requires-2 c κs =
     let q : a .k ≡ l .i = omega (arith, l .inv .reach) in (
       omega (arith, l .inv .low, l .inv .reach, c .before .before .before .before .before .before .pre .2 (a .k)),
       omega arith,
-      omega (arith, component-small LARGEST (now (a .table)) (a .t2) G (a .k) s (l .above) (l .below) (l .z) (l .sum) (l .i) (l .inv) (c .wide2 .result) (c .wide2 .ensures ∙ sym (getD-take (a .k + 1) (a .t3) (a .k) 0 (omega arith)) ∙ ap (λ j. getD G j 0) q)),
+      omega (arith, component-small LARGEST (now (a .table)) (a .t2) G (a .k) s (l .above) (l .below) (l .z) (l .sum) (l .i) (l .inv) (c .wide2 .result) (c .wide2 .ensures .0 ∙ sym (getD-take (a .k + 1) (a .t3) (a .k) 0 (omega arith)) ∙ ap (λ j. getD G j 0) q)),
       c .before .before .before .before .before .before .pre .3,
     )
 
@@ -155,7 +155,7 @@ returns c =
     let s = length-take-le (a .k + 1) (a .t3) (omega arith) in
     let G = take (a .k + 1) (a .t3) in
     let q : a .k ≡ l .i = omega (arith, l .inv .reach) in
-    sums-end LARGEST (now (a .table)) (a .t2) G (a .k) s (l .above) (l .below) (l .z) (l .sum) (l .i) (l .inv) (c .before .before .wide2 .result) (c .before .before .wide2 .ensures ∙ sym (getD-take (a .k + 1) (a .t3) (a .k) 0 (omega arith)) ∙ ap (λ j. getD G j 0) q) (c .before .part-sum2 .result) (c .capped-sum2 .result) (omega arith)
+    sums-end LARGEST (now (a .table)) (a .t2) G (a .k) s (l .above) (l .below) (l .z) (l .sum) (l .i) (l .inv) (c .before .before .wide2 .result) (c .before .before .wide2 .ensures .0 ∙ sym (getD-take (a .k + 1) (a .t3) (a .k) 0 (omega arith)) ∙ ap (λ j. getD G j 0) q) (c .before .part-sum2 .result) (c .capped-sum2 .result) (omega arith)
     (c .before .part-sum2 .ensures) (c .capped-sum2 .ensures)
 
 pub child-sum-spec : {M : Type 1} → statement M

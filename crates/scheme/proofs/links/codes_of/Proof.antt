@@ -2,12 +2,12 @@
 -- entries.
 -- Assumes nothing.
 use Prim.Native.Nat.{ℕ, _-_, _≤_, _<_}
-use mathlib.Core.Path.{_≡_, refl, sym, _∙_}
+use mathlib.Core.Path.{_≡_, refl, _∙_}
 use native.Mathlib.Omega.{arith}
 use borrow.Author.Needs.{needs}
-use lib.ListN.{length, getD, take, length-set}
+use lib.ListN.{length, getD, length-set}
 use Rattle.word.specs.Ceilings.{ENTRIES}
-use Rattle.forms.specs.Codes.{Codes, IsCode}
+use Rattle.forms.specs.Codes.{IsCode}
 use Rattle.forms.specs.CodeLaws.{codes-made}
 use Rattle.forms.specs.MemoryLaws.{rows-more}
 use Rattle.scheme.proofs.LookupLaws.{prefixAt, prefixes-at}

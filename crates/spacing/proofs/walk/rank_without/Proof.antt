@@ -23,7 +23,7 @@ loop-holds c =
     let a = c .before .before .args in
     let seven : length (a .t1) ≡ COMPONENTS = (let o = c .before .before in search needs) in
     let s = length-take-le (a .k + 1) (a .t1) (omega arith) in
-    let z : c .wide .result ≡ getD (take (a .k + 1) (a .t1)) 0 0 = c .wide .ensures ∙ sym (getD-take (a .k + 1) (a .t1) 0 0 (omega arith)) in
+    let z : c .wide .result ≡ getD (take (a .k + 1) (a .t1)) 0 0 = c .wide .ensures .0 ∙ sym (getD-take (a .k + 1) (a .t1) 0 0 (omega arith)) in
     rw z (walk-start (take (a .k + 1) (a .t1)) (a .k) (a .v) (a .start) s (c .before .before .pre .2))
 
 add-z : tie.Need-add-z Inv-loop μ-loop
@@ -35,7 +35,7 @@ add-z c =
     omega (
       arith,
       next-small (take (a .k + 1) (a .t1)) (a .k) (a .v) (a .start) s (l .z) (l .count) (l .rank) (l .t) (l .inv) (omega arith) (c .before .wide2 .result)
-          (c .before .wide2 .ensures ∙ sym (getD-take (a .k + 1) (a .t1) (l .t) 0 (omega arith))),
+          (c .before .wide2 .ensures .0 ∙ sym (getD-take (a .k + 1) (a .t1) (l .t) 0 (omega arith))),
     )
 
 loop-again : tie.Need-loop-again Inv-loop μ-loop
@@ -45,7 +45,7 @@ loop-again c =
     let seven : length (a .t1) ≡ COMPONENTS = (let o = c .before .before .before .before .before .before in search needs) in
     let s = length-take-le (a .k + 1) (a .t1) (omega arith) in
     walk-leave (take (a .k + 1) (a .t1)) (a .k) (a .v) (a .start) s (l .z) (l .count) (l .rank) (l .t) (l .inv) (omega arith) (c .before .wide2 .result)
-    (c .before .wide2 .ensures ∙ sym (getD-take (a .k + 1) (a .t1) (l .t) 0 (omega arith))) (c .if1 .taken)
+    (c .before .wide2 .ensures .0 ∙ sym (getD-take (a .k + 1) (a .t1) (l .t) 0 (omega arith))) (c .if1 .taken)
 
 choose-requires : tie.Need-choose-requires Inv-loop μ-loop
 choose-requires c κs =
@@ -66,7 +66,7 @@ add-z-3 c =
     omega (
       arith,
       next-small (take (a .k + 1) (a .t1)) (a .k) (a .v) (a .start) s (l .z) (l .count) (l .rank) (l .t) (l .inv) (omega arith) (c .before .before .wide2 .result)
-          (c .before .before .wide2 .ensures ∙ sym (getD-take (a .k + 1) (a .t1) (l .t) 0 (omega arith))),
+          (c .before .before .wide2 .ensures .0 ∙ sym (getD-take (a .k + 1) (a .t1) (l .t) 0 (omega arith))),
     )
 
 loop-again-2 : tie.Need-loop-again-2 Inv-loop μ-loop
@@ -76,7 +76,7 @@ loop-again-2 c =
     let seven : length (a .t1) ≡ COMPONENTS = (let o = c .before .before .before .before .before .before .before in search needs) in
     let s = length-take-le (a .k + 1) (a .t1) (omega arith) in
     walk-keep (take (a .k + 1) (a .t1)) (a .k) (a .v) (a .start) s (l .z) (l .count) (l .rank) (l .t) (l .inv) (omega arith) (c .before .before .wide2 .result) (c .choose .result)
-    (c .before .before .wide2 .ensures ∙ sym (getD-take (a .k + 1) (a .t1) (l .t) 0 (omega arith))) (c .choose .ensures) (c .before .if1 .left)
+    (c .before .before .wide2 .ensures .0 ∙ sym (getD-take (a .k + 1) (a .t1) (l .t) 0 (omega arith))) (c .choose .ensures) (c .before .if1 .left)
 
 returns : tie.Need-returns Inv-loop μ-loop
 returns c =

@@ -32,8 +32,11 @@ add-at c =
     let turn = item .before .before in
     let l = turn .before .loop in
     let s = turn .before .before .before .before .before .args .s .now in
-    omega (arith, next-inside s (l .scheme) (l .at) (l .more) (l .spelt) (turn .loop-test .taken) (l .inv) (item .item-at .result)
-    (item .item-at .ensures))
+    omega (
+      arith,
+      next-inside s (l .scheme) (l .at) (l .more) (l .spelt) (turn .loop-test .taken) (l .inv) (item .item-at .result)
+          (item .item-at .ensures),
+    )
 
 add-scheme : tie.Need-add-scheme Inv-loop μ-loop
 add-scheme c =
@@ -41,8 +44,11 @@ add-scheme c =
     let turn = item .before .before in
     let l = turn .before .loop in
     let s = turn .before .before .before .before .before .args .s .now in
-    omega (arith, countable s (l .scheme) (l .at) (l .more) (l .spelt) (turn .loop-test .taken) (l .inv) (item .item-at .result)
-    (item .item-at .ensures))
+    omega (
+      arith,
+      countable s (l .scheme) (l .at) (l .more) (l .spelt) (turn .loop-test .taken) (l .inv) (item .item-at .result)
+          (item .item-at .ensures),
+    )
 
 loop-less : tie.Need-loop-less Inv-loop μ-loop
 loop-less c =

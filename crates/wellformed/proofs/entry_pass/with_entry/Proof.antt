@@ -3,7 +3,6 @@
 use mathlib.Core.Path.{ap, sym, _∙_}
 use mathlib.Core.Bool.{Bool, not}
 use borrow.Author.Needs.{needs}
-use Rattle.word.specs.declared.refusal.Refusal.{Refusal}
 use Rattle.word.specs.declared.refusal.Refusal.the-variants.{NoPermutation, Repeated, Width, NoPosition}
 use Rattle.forms.specs.SchemeMemory.{orElse, faultIf, doesOf}
 use Rattle.wellformed.proofs.EntryTestLaws.{outside-length}

@@ -1,85 +1,87 @@
--- `wellformed::pattern_tests::same_digits` meets its contract: the digits are the same if they are
--- from the index on.
+-- `wellformed::pattern_tests::same_digits` meets its contract: patterns of one length are the same
+-- if their digits in memory are.
 -- Assumes nothing.
-use Prim.Native.Nat.{ℕ, _-_}
-use mathlib.Core.Path.{_≡_, sym, ap, _∙_}
+use Prim.Native.Nat.{ℕ}
+use mathlib.Core.Path.{_≡_, sym, ap, ap₂, _∙_}
 use borrow.Author.Needs.{needs}
 use native.Mathlib.Omega.{arith}
 use lib.ListN.{length}
+use lib.Seq.{length-take-le}
 use Rattle.word.specs.Ceilings.{DIGITS}
 use Rattle.cell.specs.Cell.{same}
-use Rattle.forms.specs.SchemeMemory.{padded}
-use Rattle.forms.specs.MemoryLaws.{length-padded, same-lengths, same-from, same-start, same-later, same-differs, same-counted, same-end}
+use Rattle.forms.specs.SchemeMemory.{padded, patternIn}
+use Rattle.forms.specs.MemoryLaws.{length-padded, padded-within, same-lengths, same-padded}
+use Rattle.forms.specs.declared.memory.Pattern.{Pattern}
 use Rattle.wellformed.proofs.pattern_tests.same_digits.Statement.{statement}
 use Rattle.wellformed.proofs.pattern_tests.same_digits.Tie as tie
 
-abbrev Inv-loop : tie.InvT-loop
-Inv-loop n a b i₀ i = same (padded n a) (padded n b) ≡ same-from n a b i
+-- both arrays have their full length
+all-digits : (o : tie.Else1) →
+    let a = o .before .before .before .before .args in
+    (length (a .p .digits) ≡ DIGITS) × (length (a .q .digits) ≡ DIGITS)
+all-digits o = (search needs, search needs)
 
-abbrev μ-loop : tie.MeasureT-loop
-μ-loop n a b i₀ i = DIGITS - i
+-- patterns of one length
+one-length : (p q : Pattern) → p .length ≡ q .length → same (patternIn p) (patternIn q) ≡ same (padded (p .length) (p .digits)) (padded (p .length) (q .digits))
+one-length p q e = ap (λ (n : ℕ). same (patternIn p) (padded n (q .digits))) (sym e)
 
-returns : tie.Need-returns Inv-loop μ-loop
+returns : tie.Need-returns
 returns c =
-    let p = c .before .before .before .before .args .p in
-    let q = c .before .before .before .before .args .q in
-    sym (same-lengths (padded (p .length) (p .digits)) (padded (q .length) (q .digits)) (λ e. c .if1 .taken (sym (length-padded (p .length) (p .digits)) ∙ e ∙ length-padded (q .length) (q .digits))))
+    let a = c .before .before .before .before .args in
+    let p = a .p in
+    let q = a .q in
+    sym (same-lengths (patternIn p) (patternIn q)
+    (λ e. c .if1 .taken (sym (length-padded (p .length) (p .digits)) ∙ e ∙ length-padded (q .length) (q .digits))))
 
-loop-holds : tie.Need-loop-holds Inv-loop μ-loop
-loop-holds c =
-    let p = c .before .before .before .before .args .p in
-    let q = c .before .before .before .before .args .q in
-    same-start (p .length) (p .digits) (q .digits)
+array-share-prefix-a : tie.Need-array-share-prefix-a
+array-share-prefix-a c = omega (arith, all-digits (c .before) .0)
 
-returns-2 : tie.Need-returns-2 Inv-loop μ-loop
+slice-aggregate-same-bytes : tie.Need-slice-aggregate-same-bytes
+slice-aggregate-same-bytes c =
+    let o = c .before .before in
+    let p = o .before .before .before .before .args .p in
+    sym (length-take-le (p .length) (p .digits) (omega (arith, all-digits o .0)))
+
+array-share-prefix-b : tie.Need-array-share-prefix-b
+array-share-prefix-b c = omega (arith, all-digits (c .before .before) .1)
+
+slice-aggregate-same-bytes-2 : tie.Need-slice-aggregate-same-bytes-2
+slice-aggregate-same-bytes-2 c =
+    let o = c .before .before .before in
+    let a = o .before .before .before .before .args in
+    sym (length-take-le (a .p .length) (a .q .digits) (omega (arith, all-digits o .1)))
+
+returns-2 : tie.Need-returns-2
 returns-2 c =
-    let p = c .before .before .before .before .before .before .before .args .p in
-    let q = c .before .before .before .before .before .before .before .args .q in
-    let e : p .length ≡ q .length = c .before .before .before .if1 .left in
-    let w = ap (λ (m : ℕ). same (padded (p .length) (p .digits)) (padded m (q .digits))) e in
-    sym (sym w ∙ c .before .before .loop .inv ∙ same-counted (p .length) (p .digits) (q .digits) (c .before .before .loop .i) (omega arith))
+    let short = c .before .before .before in
+    let o = short .before in
+    let a = o .before .before .before .before .args in
+    let n = a .p .length in
+    c .same-bytes .ensures ∙
+    ap₂ same (sym (padded-within n (a .p .digits) (omega (arith, all-digits o .0)))) (sym (padded-within n (a .q .digits) (omega (arith, all-digits o .1)))) ∙
+    sym (one-length (a .p) (a .q) (o .if1 .left))
 
-returns-3 : tie.Need-returns-3 Inv-loop μ-loop
+returns-3 : tie.Need-returns-3
 returns-3 c =
-    let p = c .before .before .before .before .before .before .before .before .args .p in
-    let q = c .before .before .before .before .before .before .before .before .args .q in
-    let a : length (p .digits) ≡ DIGITS = (let o = c .before .before .before .before .before in search needs) in
-    let b : length (q .digits) ≡ DIGITS = (let o = c .before .before .before .before .before in search needs) in
-    let e : p .length ≡ q .length = c .before .before .before .before .if1 .left in
-    let w = ap (λ (m : ℕ). same (padded (p .length) (p .digits)) (padded m (q .digits))) e in
-    sym (sym w ∙ c .before .before .before .loop .inv ∙ same-differs (p .length) (p .digits) (q .digits) (c .before .before .before .loop .i) (omega arith) (omega arith) (omega arith) (c .if3 .taken))
-
-loop-again : tie.Need-loop-again Inv-loop μ-loop
-loop-again c =
-    let p = c .before .before .before .before .before .before .before .before .args .p in
-    let q = c .before .before .before .before .before .before .before .before .args .q in
-    let a : length (p .digits) ≡ DIGITS = (let o = c .before .before .before .before .before in search needs) in
-    let b : length (q .digits) ≡ DIGITS = (let o = c .before .before .before .before .before in search needs) in
-    c .before .before .before .loop .inv ∙ same-later (p .length) (p .digits) (q .digits) (c .before .before .before .loop .i) (omega arith) (omega arith) (omega arith) (c .if3 .left)
-
-returns-4 : tie.Need-returns-4 Inv-loop μ-loop
-returns-4 c =
-    let p = c .before .before .before .before .before .before .args .p in
-    let q = c .before .before .before .before .before .before .args .q in
-    let a : length (p .digits) ≡ DIGITS = (let o = c .before .before .before in search needs) in
-    let b : length (q .digits) ≡ DIGITS = (let o = c .before .before .before in search needs) in
-    let e : p .length ≡ q .length = c .before .before .if1 .left in
-    let w = ap (λ (m : ℕ). same (padded (p .length) (p .digits)) (padded m (q .digits))) e in
-    sym (sym w ∙ c .before .loop .inv ∙ same-end (p .length) (p .digits) (q .digits) (c .before .loop .i) (omega arith) (omega arith))
+    let long = c .before .before .before in
+    let o = long .before in
+    let a = o .before .before .before .before .args in
+    let (first, second) = all-digits o in
+    c .same-bytes2 .ensures ∙ sym (same-padded (a .p .length) (a .p .digits) (a .q .digits) (first ∙ sym second) (omega (arith, first))) ∙
+    sym (one-length (a .p) (a .q) (o .if1 .left))
 
 pub same-digits-spec : {M : Type 1} → statement M
 same-digits-spec =
     tie.close
     (tie.spec
-    Inv-loop
-    μ-loop
     returns
-    loop-holds
+    array-share-prefix-a
+    slice-aggregate-same-bytes
+    array-share-prefix-b
+    slice-aggregate-same-bytes-2
+    (λ c κs. search needs)
     returns-2
     (λ c. search needs)
     (λ c. search needs)
-    returns-3
-    (λ c. search needs)
-    (λ c. search needs)
-    loop-again
-    returns-4)
+    (λ c κs. search needs)
+    returns-3)

@@ -37,14 +37,14 @@ returns-3 : tie.Need-returns-3 Inv-loop μ-loop
 returns-3 c =
     let s = c .before .before .before .before .before .before .before .before .before .args .s .now in
     let l = c .before .before .before .before .before .before .before .loop in
-    sym (l .inv ∙ listed-twice (length s) s (l .i) (omega arith) (sym (c .before .stands .ensures) ∙ c .if3 .taken))
+    sym (l .inv ∙ listed-twice (length s) s (l .i) (omega arith) (sym (c .before .stands-from .ensures) ∙ c .if3 .taken))
 
 loop-again : tie.Need-loop-again Inv-loop μ-loop
 loop-again c =
     let s = c .before .before .before .before .before .before .before .before .before .args .s .now in
     let l = c .before .before .before .before .before .before .before .loop in
     let inside : getD s (l .i) 0 ≤ length s = omega (arith, c .before .before .before .wide .ensures .0) in
-    l .inv ∙ listed-next (length s) s (l .i) (omega arith) (c .before .before .before .before .if1 .left) inside (sym (c .before .stands .ensures) ∙ c .if3 .left)
+    l .inv ∙ listed-next (length s) s (l .i) (omega arith) (c .before .before .before .before .if1 .left) inside (sym (c .before .stands-from .ensures) ∙ c .if3 .left)
 
 returns-4 : tie.Need-returns-4 Inv-loop μ-loop
 returns-4 c =

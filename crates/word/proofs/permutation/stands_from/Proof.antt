@@ -1,4 +1,4 @@
--- `word::permutation::stands` meets its contract: what stands from `from` on is what stands from
+-- `word::permutation::stands_from` meets its contract: what stands from `from` on is what stands from
 -- the index on.
 -- Assumes nothing.
 use Prim.Native.Nat.{_-_}
@@ -8,8 +8,8 @@ use native.Mathlib.Omega.{arith}
 use lib.ListN.{length, drop}
 use Rattle.word.specs.Word.{has}
 use Rattle.word.proofs.Listed.{has-here, has-later, has-none}
-use Rattle.word.proofs.permutation.stands.Statement.{statement}
-use Rattle.word.proofs.permutation.stands.Tie as tie
+use Rattle.word.proofs.permutation.stands_from.Statement.{statement}
+use Rattle.word.proofs.permutation.stands_from.Tie as tie
 
 abbrev Inv-loop : tie.InvT-loop
 Inv-loop s from x i₀ i = has x (drop from s) ≡ has x (drop i s)
@@ -32,8 +32,8 @@ returns-2 c =
     let a = c .before .before .args in
     sym (c .before .loop .inv ∙ has-none (a .x) (a .s .now) (c .before .loop .i) (omega arith))
 
-pub stands-spec : {M : Type 1} → statement M
-stands-spec =
+pub stands-from-spec : {M : Type 1} → statement M
+stands-from-spec =
     tie.close
     (tie.spec
     Inv-loop

@@ -1,5 +1,5 @@
--- `wellformed::entry_tests::same_bytes` meets its contract: the lists are the same if what is left
--- of them is.
+-- `forms::lists::same_bytes` meets its contract: the lists are the same if what is left of them
+-- is.
 -- Assumes nothing.
 use Prim.Native.Nat.{_-_, _≤_}
 use mathlib.Core.Path.{_≡_, sym, _∙_}
@@ -7,10 +7,10 @@ use borrow.Author.Needs.{needs}
 use native.Mathlib.Omega.{arith}
 use lib.ListN.{length, drop}
 use Rattle.cell.specs.Cell.{same}
 use Rattle.forms.specs.MemoryLaws.{same-lengths}
-use Rattle.wellformed.proofs.EntryTestLaws.{same-other, same-next, same-end}
-use Rattle.wellformed.proofs.entry_tests.same_bytes.Statement.{statement}
-use Rattle.wellformed.proofs.entry_tests.same_bytes.Tie as tie
+use Rattle.forms.proofs.SameWalk.{same-other, same-next, same-end}
+use Rattle.forms.proofs.lists.same_bytes.Statement.{statement}
+use Rattle.forms.proofs.lists.same_bytes.Tie as tie
 
 abbrev Inv-loop : tie.InvT-loop
 Inv-loop a b i₀ i = (i ≤ length a) × (length a ≡ length b) × (same a b ≡ same (drop i a) (drop i b))
