@@ -15,7 +15,6 @@ use text_page::bytes::put;
 use text_page::bytes::put_bytes;
 use text_page::bytes::put_decimal;
 use word::bytes::wide;
-ghost use mathlib.Core.Path.{_≡_};
 ghost use mathlib.Core.List.{[], _∷_};
 ghost use Prim.Native.Nat.{_-_, _≤_, _<_};
 ghost use Rattle.forms.specs.SchemeList.{deletes};
