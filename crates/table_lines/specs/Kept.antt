@@ -48,35 +48,48 @@ abbrev pub hasBytes : List ℕ → Bool
 hasBytes [] = false
 hasBytes (b ∷ s) = true
 
-unfoldable pub keptOf : List ℕ → Lines
+-- the memory: the value that the code hands on, and the buffers for the texts of the first two
+-- lines
+pub record Memory : Type 0 where
+  pub lines : Lines
+  pub set : List ℕ
+  pub scheme : List ℕ
+
+abbrev pub memoryOf : Lines → List ℕ → List ℕ → Memory
+memoryOf k a b = record { lines = k; set = a; scheme = b }
+
+unfoldable pub keptOf : List ℕ → Memory
 keptOf s =
     record {
+      lines =
+          record {
+            «set_length» = heldLength setRoom (line 0 s);
+            «scheme_length» = heldLength schemeRoom (line 1 s);
+            last = held lastRoom (line 2 s);
+            «last_length» = heldLength lastRoom (line 2 s);
+            ends = upToThree (endsIn s);
+            fourth = hasBytes (behind 3 s);
+          };
       set = held setRoom (line 0 s);
-      «set_length» = heldLength setRoom (line 0 s);
       scheme = held schemeRoom (line 1 s);
-      «scheme_length» = heldLength schemeRoom (line 1 s);
-      last = held lastRoom (line 2 s);
-      «last_length» = heldLength lastRoom (line 2 s);
-      ends = upToThree (endsIn s);
-      fourth = hasBytes (behind 3 s);
     }
 
 -- the three lines are there and no fourth: the third has a byte, and none came after its end
 abbrev pub isComplete : Lines → Bool
 isComplete k = not (eqb (k .«last_length») 0) && not (k .fourth)
 
--- the bytes that the memory holds of each line: as many of its array as its length says
-abbrev pub heldLines : Lines → Three
-heldLines k =
+-- the bytes that the memory holds of each line: as many as its length says
+abbrev pub heldLines : Memory → Three
+heldLines m =
     record {
-      set = take (k .«set_length») (k .set);
-      scheme = take (k .«scheme_length») (k .scheme);
-      last = take (k .«last_length») (k .last);
+      set = take (m .lines .«set_length») (m .set);
+      scheme = take (m .lines .«scheme_length») (m .scheme);
+      last = take (m .lines .«last_length») (m .lines .last);
     }
 
 -- the three lines as the memory holds them, where none is missing and there is no fourth
-abbrev pub threeIn : Lines → Option Three
-threeIn k = cond (isComplete k) (some (heldLines k)) none
+abbrev pub threeIn : Memory → Option Three
+threeIn m = cond (isComplete (m .lines)) (some (heldLines m)) none
 
 abbrev pub asNumber : Option ℕ → Number
 asNumber none = Misspelt

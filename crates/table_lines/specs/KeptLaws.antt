@@ -1,8 +1,8 @@
 -- What is kept of an input grows byte by byte.
-use Prim.Native.Nat.{ℕ, zero, suc, _+_, _≤_, _<_}
+use Prim.Native.Nat.{ℕ, zero, suc, _+_, _≤_, _<_, min}
 use native.Mathlib.Omega.{arith}
 use native.Mathlib.Numerals.{add-one}
-use mathlib.Core.Path.{_≡_, refl, sym, ap, _∙_}
+use mathlib.Core.Path.{_≡_, refl, sym, ap, ap₂, _∙_}
 use mathlib.Core.Bool.{Bool, true, false, cond}
 use mathlib.Core.List.{List, [], _∷_, _++_, append-nil, append-assoc}
 use lib.ListN.{length, drop, set, getD, replicate, drop-of-length-le}
@@ -11,8 +11,8 @@ use lib.Dec.{ltb}
 use borrow.Author.Tests.{ltb-true, ltb-false, lt-ltb, le-ltb, eq-eqb, ne-eqb}
 use Rattle.table_lines.specs.declared.input.Lines.{Lines}
 use Rattle.table_lines.specs.Lines.{isEnd, line, behind}
-use Rattle.table_lines.specs.Kept.{setRoom, schemeRoom, lastRoom, held, heldLength, endsIn, upToThree, hasBytes, keptOf}
-use Rattle.table_lines.specs.KeptWalk.{made, ended, withFourth, stored, nextPlace, inSet, inScheme, inLast, byteAt, keptByte, keptOn}
+use Rattle.table_lines.specs.Kept.{setRoom, schemeRoom, lastRoom, held, heldLength, endsIn, upToThree, hasBytes, Memory, memoryOf, keptOf}
+use Rattle.table_lines.specs.KeptWalk.{made, ended, withFourth, stored, nextPlace, roomIn, inSet, inScheme, inLast, byteAt, keptByte, keptOn}
 use Rattle.table_lines.specs.LineLaws.{ends-other, ends-end, line-end, line-same, line-more, behind-none, behind-last, behind-some}
 
 -- the kept bytes of one line
@@ -55,6 +55,16 @@ stored-held n l b = stored-split (ltb (heldLength n l) n) n l b refl .0
 next-held : (n : ℕ) (l : List ℕ) (b : ℕ) → nextPlace n (heldLength n l) ≡ heldLength n (l ++ (b ∷ []))
 next-held n l b = stored-split (ltb (heldLength n l) n) n l b refl .1
 
+-- a buffer of n places has room for n
+held-length : (n : ℕ) (l : List ℕ) → length (held n l) ≡ n
+unfolding held
+held-length zero l = refl
+held-length (suc n) [] = ap suc (held-length n [])
+held-length (suc n) (b ∷ l) = ap suc (held-length n l)
+
+room-held : (n : ℕ) (l : List ℕ) → roomIn (held n l) n ≡ n
+room-held n l = omega (arith, held-length n l)
+
 -- one byte more
 
 -- the same memory, part by part
@@ -76,6 +86,13 @@ module _ (s : List ℕ) (b : ℕ) where
 
   length-grown : (n k : ℕ) → endsIn s ≡ k → isEnd b ≡ false → nextPlace n (heldLength n (line k s)) ≡ heldLength n (line k (s ++ (b ∷ [])))
   length-grown n k p q = next-held n (line k s) b ∙ ap (heldLength n) (sym (line-more k s b p q))
+
+  -- a buffer with the byte
+  buffer-grown : (n k : ℕ) → endsIn s ≡ k → isEnd b ≡ false → stored (roomIn (held n (line k s)) n) (held n (line k s)) (heldLength n (line k s)) b ≡ held n (line k (s ++ (b ∷ [])))
+  buffer-grown n k p q = ap (λ (m : ℕ). stored m (held n (line k s)) (heldLength n (line k s)) b) (room-held n (line k s)) ∙ held-grown n k p q
+
+  place-grown : (n k : ℕ) → endsIn s ≡ k → isEnd b ≡ false → nextPlace (roomIn (held n (line k s)) n) (heldLength n (line k s)) ≡ heldLength n (line k (s ++ (b ∷ [])))
+  place-grown n k p q = ap (λ (m : ℕ). nextPlace m (heldLength n (line k s))) (room-held n (line k s)) ∙ length-grown n k p q
 
   no-fourth : endsIn s < 3 → hasBytes (behind 3 s) ≡ hasBytes (behind 3 (s ++ (b ∷ [])))
   no-fourth k = ap hasBytes (behind-none 3 s k ∙ sym (behind-last 3 s b k))
@@ -101,7 +118,7 @@ module _ (s : List ℕ) (b : ℕ) where
   set-kept p q =
       let second = line-same 1 s b (λ (e : endsIn s ≡ 1). omega arith) in
       let third = line-same 2 s b (λ (e : endsIn s ≡ 2). omega arith) in
-      same-made (held-grown setRoom 0 p q) (length-grown setRoom 0 p q) (held-same schemeRoom 1 second) (length-same schemeRoom 1 second) (held-same lastRoom 2 third) (length-same lastRoom 2 third)
+      same-made (buffer-grown setRoom 0 p q) (place-grown setRoom 0 p q) (held-same schemeRoom 1 second) (length-same schemeRoom 1 second) (held-same lastRoom 2 third) (length-same lastRoom 2 third)
       (ends-same q) (no-fourth (omega arith))
 
   scheme-kept : endsIn s ≡ 1 → isEnd b ≡ false → inScheme (keptOf s) b ≡ keptOf (s ++ (b ∷ []))
@@ -109,7 +126,7 @@ module _ (s : List ℕ) (b : ℕ) where
   scheme-kept p q =
       let first = line-same 0 s b (λ (e : endsIn s ≡ 0). omega arith) in
       let third = line-same 2 s b (λ (e : endsIn s ≡ 2). omega arith) in
-      same-made (held-same setRoom 0 first) (length-same setRoom 0 first) (held-grown schemeRoom 1 p q) (length-grown schemeRoom 1 p q) (held-same lastRoom 2 third) (length-same lastRoom 2 third)
+      same-made (held-same setRoom 0 first) (length-same setRoom 0 first) (buffer-grown schemeRoom 1 p q) (place-grown schemeRoom 1 p q) (held-same lastRoom 2 third) (length-same lastRoom 2 third)
       (ends-same q) (no-fourth (omega arith))
 
   last-kept : endsIn s ≡ 2 → isEnd b ≡ false → inLast (keptOf s) b ≡ keptOf (s ++ (b ∷ []))
@@ -151,42 +168,68 @@ module _ (s : List ℕ) (b : ℕ) where
 pub kept-on : (s chunk : List ℕ) → keptOn (keptOf s) chunk ≡ keptOf (s ++ chunk)
 kept-on s [] = ap keptOf (sym (append-nil s))
 kept-on s (b ∷ l) =
-    ap (λ (k : Lines). keptOn k l) (step-kept s b) ∙ kept-on (s ++ (b ∷ [])) l ∙ ap keptOf (append-assoc s (b ∷ []) l)
+    ap (λ (m : Memory). keptOn m l) (step-kept s b) ∙ kept-on (s ++ (b ∷ [])) l ∙ ap keptOf (append-assoc s (b ∷ []) l)
 
-pub kept-none : made (replicate setRoom 0) 0 (replicate schemeRoom 0) 0 (replicate lastRoom 0) 0 0 false ≡ keptOf []
+pub lines-none : made [] 0 [] 0 (replicate lastRoom 0) 0 0 false .lines ≡ keptOf [] .lines
 unfolding keptOf
-kept-none = same-made (held-none setRoom) refl (held-none schemeRoom) refl (held-none lastRoom) refl refl refl
+lines-none = ap (λ (l : List ℕ). made [] 0 [] 0 l 0 0 false .lines) (held-none lastRoom)
 
--- the loop over a chunk: what is to come is the chunk from the index on
-pub turn : (k next : Lines) (chunk : List ℕ) (i : ℕ) (all : Lines) → keptOn k (drop i chunk) ≡ all → i < length chunk → keptByte k (getD chunk i 0) ≡ next
-    → keptOn next (drop (i + 1) chunk) ≡ all
-turn k next chunk i all p h e =
-    ap (λ (m : Lines). keptOn m (drop (i + 1) chunk)) (sym e)
-    ∙ ap (λ (j : ℕ). keptOn (keptByte k (getD chunk i 0)) (drop j chunk)) (add-one i)
-    ∙ ap (keptOn k) (sym (drop-cons chunk i 0 h)) ∙ p
+-- two buffers of zeros hold what is kept of no bytes
+pub kept-none : memoryOf (keptOf [] .lines) (replicate setRoom 0) (replicate schemeRoom 0) ≡ keptOf []
+unfolding keptOf
+kept-none = ap₂ (λ (a b : List ℕ). memoryOf (keptOf [] .lines) a b) (held-none setRoom) (held-none schemeRoom)
 
-pub chunk-end : (k : Lines) (chunk : List ℕ) (i : ℕ) (all : Lines) → keptOn k (drop i chunk) ≡ all → length chunk ≤ i → k ≡ all
-chunk-end k chunk i all p h = ap (keptOn k) (sym (drop-of-length-le chunk {i = i} h)) ∙ p
+-- The loop over a chunk: what is to come is the chunk from the index on, and the buffers have the
+-- room that they had.
+pub record Walk (start : Memory) (chunk : List ℕ) (set-room scheme-room : ℕ) (m : Memory) (i : ℕ) : Type 0 where
+  pub within : i ≤ length chunk
+  pub set-size : length (m .set) ≡ length (start .set)
+  pub scheme-size : length (m .scheme) ≡ length (start .scheme)
+  pub set-known : set-room ≡ roomIn (m .set) setRoom
+  pub scheme-known : scheme-room ≡ roomIn (m .scheme) schemeRoom
+  pub rest : keptOn m (drop i chunk) ≡ keptOn start chunk
+
+module _ {start : Memory} {chunk : List ℕ} {n k : ℕ} {m : Memory} {i : ℕ} (w : Walk start chunk n k m i) where
+  pub turn : (next : Memory) → i < length chunk → length (next .set) ≡ length (m .set) → length (next .scheme) ≡ length (m .scheme)
+      → keptByte m (getD chunk i 0) ≡ next → Walk start chunk n k next (i + 1)
+  turn next h a b e =
+      record {
+        within = omega arith;
+        set-size = a ∙ w .set-size;
+        scheme-size = b ∙ w .scheme-size;
+        set-known = w .set-known ∙ ap (λ (l : ℕ). min l setRoom) (sym a);
+        scheme-known = w .scheme-known ∙ ap (λ (l : ℕ). min l schemeRoom) (sym b);
+        rest =
+            ap (λ (x : Memory). keptOn x (drop (i + 1) chunk)) (sym e)
+            ∙ ap (λ (j : ℕ). keptOn (keptByte m (getD chunk i 0)) (drop j chunk)) (add-one i)
+            ∙ ap (keptOn m) (sym (drop-cons chunk i 0 h)) ∙ w .rest;
+      }
+
+  pub chunk-end : length chunk ≤ i → m ≡ keptOn start chunk
+  chunk-end h = ap (keptOn m) (sym (drop-of-length-le chunk {i = i} h)) ∙ w .rest
 
 -- the turns, as the code takes them
 
-module _ (k : Lines) (b : ℕ) where
-  at-place : (e : ℕ) (c : Bool) → k .ends ≡ e → isEnd b ≡ c → keptByte k b ≡ byteAt e c k b
+module _ (k : Lines) (xs ys : List ℕ) (b : ℕ) where
+  abbrev memory : Memory
+  memory = memoryOf k xs ys
+
+  at-place : (e : ℕ) (c : Bool) → k .ends ≡ e → isEnd b ≡ c → keptByte memory b ≡ byteAt e c memory b
   at-place e c p q = rw (p, q) refl
 
-  pub turn-fourth : 3 ≤ k .ends → keptByte k b ≡ withFourth k
+  pub turn-fourth : 3 ≤ k .ends → keptByte memory b ≡ withFourth memory
   turn-fourth h = by (k .ends) refl h
     where
-      by : (e : ℕ) → k .ends ≡ e → 3 ≤ e → keptByte k b ≡ withFourth k
+      by : (e : ℕ) → k .ends ≡ e → 3 ≤ e → keptByte memory b ≡ withFourth memory
       by zero p g = absurd (omega arith)
       by (suc zero) p g = absurd (omega arith)
       by (suc (suc zero)) p g = absurd (omega arith)
       by (suc (suc (suc n))) p g = at-place (suc (suc (suc n))) (isEnd b) p refl
 
-  pub turn-end : k .ends < 3 → b ≡ 0x0A → keptByte k b ≡ ended k
+  pub turn-end : k .ends < 3 → b ≡ 0x0A → keptByte memory b ≡ ended memory
   turn-end h e = by (k .ends) refl h
     where
-      by : (n : ℕ) → k .ends ≡ n → n < 3 → keptByte k b ≡ ended k
+      by : (n : ℕ) → k .ends ≡ n → n < 3 → keptByte memory b ≡ ended memory
       by zero p g = at-place 0 true p (eq-eqb b 0x0A e)
       by (suc zero) p g = at-place 1 true p (eq-eqb b 0x0A e)
       by (suc (suc zero)) p g = at-place 2 true p (eq-eqb b 0x0A e)
@@ -194,23 +237,23 @@ module _ (k : Lines) (b : ℕ) where
 
   -- a byte is stored where there is room, and dropped where there is none
 
-  pub turn-set : k .ends ≡ 0 → (b ≡ 0x0A → ⊥) → k .«set_length» < setRoom
-      → keptByte k b ≡ made (set (k .set) (k .«set_length») b) (k .«set_length» + 1) (k .scheme) (k .«scheme_length») (k .last) (k .«last_length») (k .ends) (k .fourth)
-  turn-set p q h = at-place 0 false p (ne-eqb b 0x0A q) ∙ rw (lt-ltb (k .«set_length») setRoom h) refl
+  pub turn-set : k .ends ≡ 0 → (b ≡ 0x0A → ⊥) → k .«set_length» < roomIn xs setRoom
+      → keptByte memory b ≡ made (set xs (k .«set_length») b) (k .«set_length» + 1) ys (k .«scheme_length») (k .last) (k .«last_length») (k .ends) (k .fourth)
+  turn-set p q h = at-place 0 false p (ne-eqb b 0x0A q) ∙ rw (lt-ltb (k .«set_length») (roomIn xs setRoom) h) refl
 
-  pub drop-set : k .ends ≡ 0 → (b ≡ 0x0A → ⊥) → setRoom ≤ k .«set_length» → keptByte k b ≡ k
-  drop-set p q h = at-place 0 false p (ne-eqb b 0x0A q) ∙ rw (le-ltb (k .«set_length») setRoom h) refl
+  pub drop-set : k .ends ≡ 0 → (b ≡ 0x0A → ⊥) → roomIn xs setRoom ≤ k .«set_length» → keptByte memory b ≡ memory
+  drop-set p q h = at-place 0 false p (ne-eqb b 0x0A q) ∙ rw (le-ltb (k .«set_length») (roomIn xs setRoom) h) refl
 
-  pub turn-scheme : k .ends ≡ 1 → (b ≡ 0x0A → ⊥) → k .«scheme_length» < schemeRoom
-      → keptByte k b ≡ made (k .set) (k .«set_length») (set (k .scheme) (k .«scheme_length») b) (k .«scheme_length» + 1) (k .last) (k .«last_length») (k .ends) (k .fourth)
-  turn-scheme p q h = at-place 1 false p (ne-eqb b 0x0A q) ∙ rw (lt-ltb (k .«scheme_length») schemeRoom h) refl
+  pub turn-scheme : k .ends ≡ 1 → (b ≡ 0x0A → ⊥) → k .«scheme_length» < roomIn ys schemeRoom
+      → keptByte memory b ≡ made xs (k .«set_length») (set ys (k .«scheme_length») b) (k .«scheme_length» + 1) (k .last) (k .«last_length») (k .ends) (k .fourth)
+  turn-scheme p q h = at-place 1 false p (ne-eqb b 0x0A q) ∙ rw (lt-ltb (k .«scheme_length») (roomIn ys schemeRoom) h) refl
 
-  pub drop-scheme : k .ends ≡ 1 → (b ≡ 0x0A → ⊥) → schemeRoom ≤ k .«scheme_length» → keptByte k b ≡ k
-  drop-scheme p q h = at-place 1 false p (ne-eqb b 0x0A q) ∙ rw (le-ltb (k .«scheme_length») schemeRoom h) refl
+  pub drop-scheme : k .ends ≡ 1 → (b ≡ 0x0A → ⊥) → roomIn ys schemeRoom ≤ k .«scheme_length» → keptByte memory b ≡ memory
+  drop-scheme p q h = at-place 1 false p (ne-eqb b 0x0A q) ∙ rw (le-ltb (k .«scheme_length») (roomIn ys schemeRoom) h) refl
 
   pub turn-last : k .ends ≡ 2 → (b ≡ 0x0A → ⊥) → k .«last_length» < lastRoom
-      → keptByte k b ≡ made (k .set) (k .«set_length») (k .scheme) (k .«scheme_length») (set (k .last) (k .«last_length») b) (k .«last_length» + 1) (k .ends) (k .fourth)
+      → keptByte memory b ≡ made xs (k .«set_length») ys (k .«scheme_length») (set (k .last) (k .«last_length») b) (k .«last_length» + 1) (k .ends) (k .fourth)
   turn-last p q h = at-place 2 false p (ne-eqb b 0x0A q) ∙ rw (lt-ltb (k .«last_length») lastRoom h) refl
 
-  pub drop-last : k .ends ≡ 2 → (b ≡ 0x0A → ⊥) → lastRoom ≤ k .«last_length» → keptByte k b ≡ k
+  pub drop-last : k .ends ≡ 2 → (b ≡ 0x0A → ⊥) → lastRoom ≤ k .«last_length» → keptByte memory b ≡ memory
   drop-last p q h = at-place 2 false p (ne-eqb b 0x0A q) ∙ rw (le-ltb (k .«last_length») lastRoom h) refl

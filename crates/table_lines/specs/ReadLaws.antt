@@ -7,12 +7,11 @@ use mathlib.Core.List.{List, _++_}
 use lib.IntN.{ℤ, pos, negsuc}
 use lib.Signed.{ltZ}
 use borrow.Author.Tests.{lt-ltb, ne-eqb}
-use Rattle.table_lines.specs.declared.input.Lines.{Lines}
 use Rattle.table_lines.specs.declared.reading.State.the-variants.{More, End, Failed}
-use Rattle.table_lines.specs.declared.reading.Reading.{Reading}
+use Rattle.table_lines.specs.Kept.{Memory}
 use Rattle.table_lines.specs.KeptWalk.{keptOn}
 use Rattle.table_lines.specs.KeptLaws.{kept-on}
-use Rattle.table_lines.specs.Reads.{stateAfter, bytesGot, takenOf, ReadsSome, ReadsAll}
+use Rattle.table_lines.specs.Reads.{AfterRead, stateAfter, bytesGot, takenOf, ReadsSome, ReadsAll}
 
 -- the state by what `read` answered
 
@@ -41,21 +40,21 @@ module _ (error : ℤ) where
       by (negsuc m) p = refl
 
 -- what is taken of a chunk is kept of the input so far and its bytes
-pub reads-some : (lines : Lines) (chunk : List ℕ) (got error : ℤ) (r : Reading) → r ≡ takenOf lines chunk got error → ReadsSome lines r
+pub reads-some : (before : Memory) (chunk : List ℕ) (got error : ℤ) (r : AfterRead) → r ≡ takenOf before chunk got error → ReadsSome before r
 unfolding takenOf
-reads-some lines chunk got error r e =
+reads-some before chunk got error r e =
     record {
       chunk = chunk;
       got = got;
       error = error;
       taken = e;
       kept = λ input k.
-          ap (λ (x : Reading). x .lines) e
-          ∙ ap (λ (l : Lines). keptOn l (bytesGot chunk got)) k ∙ kept-on input (bytesGot chunk got);
+          ap (λ (x : AfterRead). x .memory) e
+          ∙ ap (λ (m : Memory). keptOn m (bytesGot chunk got)) k ∙ kept-on input (bytesGot chunk got);
     }
 
 -- so all that is read is kept of some input
-pub reads-on : (before after : Reading) → ReadsAll before → ReadsSome (before .lines) after → ReadsAll after
+pub reads-on : (before after : AfterRead) → ReadsAll before → ReadsSome (before .memory) after → ReadsAll after
 reads-on before after all some =
     record {
       input = all .input ++ bytesGot (some .chunk) (some .got);

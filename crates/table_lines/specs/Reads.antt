@@ -7,11 +7,10 @@ use lib.IntN.{ℤ, pos, negsuc}
 use lib.ListN.{length, take}
 use lib.Dec.{eqb}
 use Rattle.io.specs.Counts.{clamped}
-use Rattle.table_lines.specs.declared.input.Lines.{Lines}
 use Rattle.table_lines.specs.declared.reading.State.{State}
 use Rattle.table_lines.specs.declared.reading.State.the-variants.{More, End, Failed}
 use Rattle.table_lines.specs.declared.reading.Reading.{Reading}
-use Rattle.table_lines.specs.Kept.{keptOf}
+use Rattle.table_lines.specs.Kept.{Memory, memoryOf, keptOf}
 use Rattle.table_lines.specs.KeptWalk.{keptOn}
 
 -- the error of a call that a signal interrupts, libc::EINTR
@@ -35,20 +34,28 @@ hasMore Failed = false
 abbrev pub bytesGot : List ℕ → ℤ → List ℕ
 bytesGot chunk got = take (clamped got (length chunk)) chunk
 
+-- the state and the memory after a read
+pub record AfterRead : Type 0 where
+  pub state : State
+  pub memory : Memory
+
+abbrev pub afterOf : Reading → List ℕ → List ℕ → AfterRead
+afterOf r a b = record { state = r .state; memory = memoryOf (r .lines) a b }
+
 -- what is kept after a read
-unfoldable pub takenOf : Lines → List ℕ → ℤ → ℤ → Reading
-takenOf lines chunk got error = record { state = stateAfter got error; lines = keptOn lines (bytesGot chunk got) }
+unfoldable pub takenOf : Memory → List ℕ → ℤ → ℤ → AfterRead
+takenOf m chunk got error = record { state = stateAfter got error; memory = keptOn m (bytesGot chunk got) }
 
 -- One read. No contract of the C library says which bytes `read` finds: they are some bytes, and
 -- what holds of the result is that it is what is kept of the input so far and these bytes.
-pub record ReadsSome (lines : Lines) (r : Reading) : Type 0 where
+pub record ReadsSome (before : Memory) (r : AfterRead) : Type 0 where
   pub chunk : List ℕ
   pub got : ℤ
   pub error : ℤ
-  pub taken : r ≡ takenOf lines chunk got error
-  pub kept : (input : List ℕ) → lines ≡ keptOf input → r .lines ≡ keptOf (input ++ bytesGot chunk got)
+  pub taken : r ≡ takenOf before chunk got error
+  pub kept : (input : List ℕ) → before ≡ keptOf input → r .memory ≡ keptOf (input ++ bytesGot chunk got)
 
 -- All reads: what is kept is kept of some input, of which the same holds.
-pub record ReadsAll (r : Reading) : Type 0 where
+pub record ReadsAll (r : AfterRead) : Type 0 where
   pub input : List ℕ
-  pub kept : r .lines ≡ keptOf input
+  pub kept : r .memory ≡ keptOf input

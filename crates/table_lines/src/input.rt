@@ -4,9 +4,10 @@ use word::limits::PATTERN_TEXT;
 use word::limits::SCHEME_TEXT;
 ghost use mathlib.Core.Path.{_≡_};
 ghost use mathlib.Core.List.{[], _∷_};
+ghost use Prim.Native.Nat.{_≤_, min};
 ghost use lib.ListN.{take};
 ghost use Rattle.table_lines.specs.Lines.{numberIn};
-ghost use Rattle.table_lines.specs.Kept.{keptOf, isComplete, asNumber};
+ghost use Rattle.table_lines.specs.Kept.{memoryOf, keptOf, isComplete, asNumber};
 ghost use Rattle.table_lines.specs.KeptWalk.{keptOn};
 
 // One byte more than a set's text may have.
@@ -18,12 +19,11 @@ pub const SCHEME: usize = SCHEME_TEXT + 1;
 // One byte more than the number in the third line may have: "one or two digits" (01).
 pub const LAST: usize = 3;
 
-// The first bytes of each line, with zeros behind them, and how many they are; the number of line
-// ends, up to three; whether a byte came after the third.
+// How many bytes of the first two lines were kept, in buffers of the caller; the first bytes of the
+// third, with zeros behind them, and how many they are; the number of line ends, up to three;
+// whether a byte came after the third.
 pub struct Lines {
-    pub set: [u8; SET],
     pub set_length: usize,
-    pub scheme: [u8; SCHEME],
     pub scheme_length: usize,
     pub last: [u8; LAST],
     pub last_length: usize,
@@ -37,14 +37,12 @@ pub enum Number {
     Misspelt,
 }
 
-// What is kept of no bytes.
+// What is kept of no bytes, beside two buffers of zeros.
 pub fn nothing() -> Lines
-    ensures { λ r. ⌜ r ≡ keptOf [] ⌝ }
+    ensures { λ r. ⌜ r ≡ keptOf [] .lines ⌝ }
 {
     Lines {
-        set: [0u8; SET],
         set_length: 0,
-        scheme: [0u8; SCHEME],
         scheme_length: 0,
         last: [0u8; LAST],
         last_length: 0,
@@ -53,10 +51,13 @@ pub fn nothing() -> Lines
     }
 }
 
-// What is kept with a further chunk. A line's surplus is dropped.
-pub fn keep(lines: Lines, chunk: &[u8]) -> Lines
-    ensures { λ r. ⌜ r ≡ keptOn lines (now (chunk .entry)) ⌝ }
+// What is kept with a further chunk: bytes of the first two lines go into the buffers. A line's
+// surplus is dropped.
+pub fn keep(lines: Lines, set: &mut [u8], scheme: &mut [u8], chunk: &[u8]) -> Lines
+    ensures { λ r. ⌜ memoryOf r (now (set .exit)) (now (scheme .exit)) ≡ keptOn (memoryOf lines (now (set .entry)) (now (scheme .entry))) (now (chunk .entry)) ⌝ }
 {
+    let set_room = least(set.len(), SET);
+    let scheme_room = least(scheme.len(), SCHEME);
     let mut kept = lines;
     let mut i: usize = 0;
     while i < chunk.len() {
@@ -71,13 +72,13 @@ pub fn keep(lines: Lines, chunk: &[u8]) -> Lines
         } else if b == b'\n' {
             kept.ends = ends + 1;
         } else if ends == 0 {
-            if set_at < SET {
-                kept.set[set_at] = b;
+            if set_at < set_room {
+                set[set_at] = b;
                 kept.set_length = set_at + 1;
             }
         } else if ends == 1 {
-            if scheme_at < SCHEME {
-                kept.scheme[scheme_at] = b;
+            if scheme_at < scheme_room {
+                scheme[scheme_at] = b;
                 kept.scheme_length = scheme_at + 1;
             }
         } else if last_at < LAST {
@@ -143,6 +144,13 @@ pub fn last_number(lines: Lines) -> Number
         return two_digits(last[0], last[1]);
     }
     Number::Misspelt
+}
+
+// The smaller of two numbers.
+pub fn least(a: usize, b: usize) -> usize
+    ensures { λ r. ⌜ (r ≡ min a b) × (r ≤ b) ⌝ }
+{
+    if a < b { a } else { b }
 }
 
 // A byte as a number.

@@ -4,7 +4,8 @@ use crate::input::Lines;
 use crate::input::keep;
 use libc::EINTR;
 ghost use mathlib.Core.Path.{_≡_};
-ghost use Rattle.table_lines.specs.Reads.{stateAfter, takenOf, hasMore};
+ghost use Rattle.table_lines.specs.Kept.{memoryOf};
+ghost use Rattle.table_lines.specs.Reads.{stateAfter, afterOf, takenOf, hasMore};
 
 // Whether there may be more of the input, it has ended, or a read failed.
 pub enum State {
@@ -13,18 +14,25 @@ pub enum State {
     Failed,
 }
 
-// What was kept of the input so far.
+// What was kept of the input so far, beside the two buffers.
 pub struct Reading {
     pub state: State,
     pub lines: Lines,
 }
 
 // What is kept after a read into the chunk: `got` is what `libc::read` answered, `error` is errno.
-pub fn taken(lines: Lines, chunk: &[u8], got: isize, error: i32) -> Reading
-    ensures { λ r. ⌜ r ≡ takenOf lines (now (chunk .entry)) got error ⌝ }
+pub fn taken(
+    lines: Lines,
+    set: &mut [u8],
+    scheme: &mut [u8],
+    chunk: &[u8],
+    got: isize,
+    error: i32,
+) -> Reading
+    ensures { λ r. ⌜ afterOf r (now (set .exit)) (now (scheme .exit)) ≡ takenOf (memoryOf lines (now (set .entry)) (now (scheme .entry))) (now (chunk .entry)) got error ⌝ }
 {
     let n = io::count(got, chunk);
-    let kept = keep(lines, &chunk[..n]);
+    let kept = keep(lines, set, scheme, &chunk[..n]);
     let state = state_after(got, error);
     Reading { state, lines: kept }
 }

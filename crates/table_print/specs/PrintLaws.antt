@@ -44,10 +44,9 @@ use Rattle.judge.specs.declared.texts.TextsJudged.{TextsJudged}
 use Rattle.counting.specs.Counting.{faultIn}
 use Rattle.counting.specs.CountLaws.{clean-accepts, table-serves}
 use Rattle.table_lines.specs.Lines.{Three, threeLines, numberIn}
-use Rattle.table_lines.specs.Kept.{setRoom, schemeRoom, lastRoom, keptOf, isComplete, heldLines, threeIn, asNumber}
+use Rattle.table_lines.specs.Kept.{setRoom, schemeRoom, lastRoom, Memory, keptOf, isComplete, heldLines, threeIn, asNumber}
 use Rattle.table_lines.specs.LastNumberLaws.{number-front}
 use Rattle.table_lines.specs.CallerLaws.{fronts, frontsIf, kept-three}
-use Rattle.table_lines.specs.declared.input.Lines.{Lines}
 use Rattle.table_lines.specs.declared.input.Number.{Number}
 use Rattle.table_text.specs.Printed.{PAGE, bfileText}
 use Rattle.table_print.specs.TableText.{printedOr, lengthText, misspeltLine, numberText, linesText, tableText, avoidersText, Prints, AcceptedLists}
@@ -127,11 +126,11 @@ module _ (t : Three) (w : TextsTrue (t .set) (t .scheme)) where
       ap bfileText (counts-so n)
 
 -- what is written for the lines in memory keeps the promise
-pub prints : (lines : Lines) (before after : List ℕ) (r : ℕ) → Writes (tableText (threeIn lines)) 0 before after r → r ≤ PAGE → Prints lines before after r
-prints lines before after r w few =
+pub prints : (memory : Memory) (before after : List ℕ) (r : ℕ) → Writes (tableText (threeIn memory)) 0 before after r → r ≤ PAGE → Prints memory before after r
+prints memory before after r w few =
     record {
       text = w;
-      kept = λ input k. writes-as w (ap (λ (l : Lines). tableText (threeIn l)) k ∙ kept-text input);
+      kept = λ input k. writes-as w (ap (λ (m : Memory). tableText (threeIn m)) k ∙ kept-text input);
       counts = λ t e v n d h m. writes-as w (ap tableText e ∙ counts-text t v n d h m);
       fits = few;
     }
@@ -141,26 +140,28 @@ pub only-line : (g : Fault) (text : List ℕ) → faulty g ≡ true → printedO
 only-line Clean text h = absurd (true-not-false (sym h))
 only-line (At r i) text h = refl
 
--- as many bytes of an array as are asked for, or all
-pub take-least : (l : List ℕ) (a n : ℕ) → length l ≡ n → take (min a n) l ≡ take a l
-take-least l a n e = go (below-or-not a n)
+-- as many bytes of a buffer as are asked for, or all
+pub take-least : (l : List ℕ) (a : ℕ) → take (min a (length l)) l ≡ take a l
+take-least l a = go (below-or-not a (length l))
   where
-    go : (a < n) ⊎ (n ≤ a) → take (min a n) l ≡ take a l
-    go (inl h) = let k : min a n ≡ a = omega arith in ap (λ (m : ℕ). take m l) k
-    go (inr h) = let k : min a n ≡ n = omega arith in ap (λ (m : ℕ). take m l) k ∙ take-all n l (omega arith) ∙ sym (take-all a l (omega arith))
+    go : (a < length l) ⊎ (length l ≤ a) → take (min a (length l)) l ≡ take a l
+    go (inl h) = let k : min a (length l) ≡ a = omega arith in ap (λ (m : ℕ). take m l) k
+    go (inr h) =
+        let k : min a (length l) ≡ length l = omega arith in
+        ap (λ (m : ℕ). take m l) k ∙ take-all (length l) l (omega arith) ∙ sym (take-all a l (omega arith))
 
 -- The text for the lines in memory, as the code comes to it.
-module _ (k : Lines) where
-  pub missing-text : isComplete k ≡ false → misspeltLine ≡ tableText (threeIn k)
+module _ (k : Memory) where
+  pub missing-text : isComplete (k .lines) ≡ false → misspeltLine ≡ tableText (threeIn k)
   missing-text e = sym (ap (λ (b : Bool). tableText (cond b (some (heldLines k)) none)) e)
 
   abbrev given : List ℕ
   given = numberText (patternsIn ((patternsAnswer (heldLines k .set)) .patterns)) (schemeIn ((schemeAnswer (heldLines k .scheme)) .scheme)) (asNumber (numberIn (heldLines k .last)))
 
-  there-text : isComplete k ≡ true → tableText (threeIn k) ≡ linesText (heldLines k)
+  there-text : isComplete (k .lines) ≡ true → tableText (threeIn k) ≡ linesText (heldLines k)
   there-text e = ap (λ (b : Bool). tableText (cond b (some (heldLines k)) none)) e
 
-  module _ (there : isComplete k ≡ true) (j : TextsJudged) (judges : JudgesAndReads (heldLines k .set) (heldLines k .scheme) j) (f : Fault)
+  module _ (there : isComplete (k .lines) ≡ true) (j : TextsJudged) (judges : JudgesAndReads (heldLines k .set) (heldLines k .scheme) j) (f : Fault)
       (is : f ≡ faultIn (j .verdict)) where
     fault-so : f ≡ faultIn (verdictOfTexts (heldLines k .set) (heldLines k .scheme))
     fault-so = is ∙ ap faultIn (judges .judges .verdict)

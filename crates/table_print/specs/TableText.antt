@@ -25,8 +25,7 @@ use Rattle.verdict.specs.Value.{countOf}
 use Rattle.count_plan.specs.Layout.{needOf}
 use Rattle.counting.specs.Counting.{tableTests, faultIn}
 use Rattle.table_lines.specs.Lines.{Three, threeLines, numberIn}
-use Rattle.table_lines.specs.Kept.{keptOf, threeIn, asNumber}
-use Rattle.table_lines.specs.declared.input.Lines.{Lines}
+use Rattle.table_lines.specs.Kept.{Memory, keptOf, threeIn, asNumber}
 use Rattle.table_lines.specs.declared.input.Number.{Number}
 use Rattle.table_lines.specs.declared.input.Number.the-variants.{Is, Misspelt as NoNumber}
 use Rattle.table_text.specs.Printed.{PAGE, bfileText, refusalLine}
@@ -67,14 +66,14 @@ avoidersText P n = bfileText (map (λ j. length (avoiders P j)) (row 0 (suc n)))
 
 -- what is printed from the lines in memory on a page that held `before`, and then `after`: its
 -- first r bytes
-pub record Prints (lines : Lines) (before after : List ℕ) (r : ℕ) : Type 0 where
-  pub text : Writes (tableText (threeIn lines)) 0 before after r
+pub record Prints (memory : Memory) (before after : List ℕ) (r : ℕ) : Type 0 where
+  pub text : Writes (tableText (threeIn memory)) 0 before after r
   -- where they were kept of an input, this is the text for the lines of that input
-  pub kept : (input : List ℕ) → lines ≡ keptOf input → Writes (tableText (threeLines input)) 0 before after r
+  pub kept : (input : List ℕ) → memory ≡ keptOf input → Writes (tableText (threeLines input)) 0 before after r
   -- "If accepted, then .. the count .. is exactly the number of permutations of 1 to n that contain
   -- none of the patterns": so are the printed counts. Texts are accepted exactly if TextsTrue holds
   -- of them (JudgesTexts.exactly).
-  pub counts : (t : Three) → threeIn lines ≡ some t → (w : TextsTrue (t .set) (t .scheme)) (n : ℕ) → numberIn (t .last) ≡ some n → n ≤ LENGTH →
+  pub counts : (t : Three) → threeIn memory ≡ some t → (w : TextsTrue (t .set) (t .scheme)) (n : ℕ) → numberIn (t .last) ≡ some n → n ≤ LENGTH →
       needOf n (w .scheme) ≤ CELLS → Writes (avoidersText (w .patterns) n) 0 before after r
   -- a page of 512 bytes is always enough
   pub fits : r ≤ PAGE

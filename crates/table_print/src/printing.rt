@@ -10,33 +10,34 @@ use judge::texts::TextsJudged;
 use judge::texts::read_and_judge;
 use table_lines::input::Lines;
 use table_lines::input::Number;
-use table_lines::input::SCHEME;
-use table_lines::input::SET;
 use table_lines::input::complete;
 use table_lines::input::last_number;
+use table_lines::input::least;
 use table_text::printing::put_counts;
 use table_text::printing::put_refusal;
 use word::limits::CELLS;
 use word::refusal::Refusal;
 ghost use mathlib.Core.Path.{_≡_};
 ghost use mathlib.Core.List.{[]};
-ghost use Prim.Native.Nat.{_≤_, min};
+ghost use Prim.Native.Nat.{_≤_};
+ghost use lib.ListN.{take};
 ghost use Rattle.forms.specs.SchemeMemory.{patternsIn, schemeIn};
 ghost use Rattle.text_page.specs.Page.{Writes};
 ghost use Rattle.judge.specs.TextJudgement.{JudgesAndReads};
-ghost use Rattle.table_lines.specs.Kept.{heldLines};
+ghost use Rattle.table_lines.specs.Kept.{memoryOf};
 ghost use Rattle.table_text.specs.Printed.{PAGE};
 ghost use Rattle.table_print.specs.TableText.{printedOr, numberText, lengthText, Prints, AcceptedLists};
 
-// Writes what is to be printed at the start of the page; the number of bytes.
-pub fn print(lines: Lines, page: &mut [u8]) -> usize
-    ensures { λ r. ⌜ Prints lines (now (page .entry)) (now (page .exit)) r ⌝ }
+// Writes what is to be printed at the start of the page; the number of bytes. The buffers with the
+// first two lines are lent.
+pub fn print(lines: Lines, set: &[u8], scheme: &[u8], page: &mut [u8]) -> usize
+    ensures { λ r. ⌜ Prints (memoryOf lines (now (set .entry)) (now (scheme .entry))) (now (page .entry)) (now (page .exit)) r ⌝ }
 {
     // "A missing line or a fourth is misspelt, tested before all else" (01)
     if !complete(lines) {
         return put_refusal(page, Refusal::Misspelt, 0);
     }
-    let judged = judge_lines(lines);
+    let judged = judge_lines(lines, set, scheme);
     let verdict = judged.verdict;
     let fault = fault_of(verdict);
     if is_fault(fault) {
@@ -47,21 +48,12 @@ pub fn print(lines: Lines, page: &mut [u8]) -> usize
 }
 
 // The verdict on the first two lines, as far as they were kept.
-fn judge_lines(lines: Lines) -> TextsJudged
-    ensures { λ r. ⌜ JudgesAndReads (heldLines lines .set) (heldLines lines .scheme) r ⌝ }
+fn judge_lines(lines: Lines, set: &[u8], scheme: &[u8]) -> TextsJudged
+    ensures { λ r. ⌜ JudgesAndReads (take (lines .«set_length») (now (set .entry))) (take (lines .«scheme_length») (now (scheme .entry))) r ⌝ }
 {
-    let set = lines.set;
-    let scheme = lines.scheme;
-    let m = least(lines.set_length, SET);
-    let n = least(lines.scheme_length, SCHEME);
+    let m = least(lines.set_length, set.len());
+    let n = least(lines.scheme_length, scheme.len());
     read_and_judge(&set[..m], &scheme[..n])
-}
-
-// The smaller of two numbers.
-fn least(a: usize, b: usize) -> usize
-    ensures { λ r. ⌜ (r ≡ min a b) × (r ≤ b) ⌝ }
-{
-    if a < b { a } else { b }
 }
 
 // Writes the line of a refusal, or nothing.

@@ -6,9 +6,16 @@ use Rattle.table.proofs.read_some.Statement.{statement}
 use Rattle.table.proofs.read_some.Tie as tie
 
 returns : tie.Need-returns
-returns c = reads-some _ _ _ _ _ (c .taken .ensures)
+returns c = reads-some _ _ _ _ _ (c .before .before .before .before .taken .ensures)
 
 pub read-some-spec : {M : Type 1} → statement M
 read-some-spec =
     tie.close
-    (tie.spec (λ c κs. search needs) (λ c κs. search needs) (λ c κs. search needs) (λ c. search needs) returns)
+    (tie.spec
+    (λ c κs. search needs)
+    (λ c κs. search needs)
+    (λ c κs. search needs)
+    (λ c. search needs)
+    (λ c. search needs)
+    (λ c. search needs)
+    returns)

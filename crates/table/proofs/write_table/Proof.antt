@@ -12,8 +12,8 @@ use Rattle.table.proofs.write_table.Tie as tie
 slice-aggregate-write-all : tie.Need-slice-aggregate-write-all
 slice-aggregate-write-all c =
     let p = c .before .before .print in
-    let size : length (p .last .1 .0) ≡ PAGE = search needs in
-    sym (length-take-le (p .result) (p .last .1 .0) (omega (arith, p .ensures .fits, size)))
+    let size : length (p .last .1 .1 .1 .0) ≡ PAGE = search needs in
+    sym (length-take-le (p .result) (p .last .1 .1 .1 .0) (omega (arith, p .ensures .fits, size)))
 
 pub write-table-spec : {M : Type 1} → statement M
 write-table-spec =

@@ -6,26 +6,38 @@ use lib.IntN.{ℤ}
 use mir.Syntax.{w32, w64}
 use mir.Val.{toZ, ofZ}
 use lib.ListN.{take}
-use Rattle.table_lines.specs.declared.input.Lines.{Lines}
 use Rattle.table_lines.specs.declared.reading.State.{State}
+use Rattle.table_lines.specs.Kept.{Memory, memoryOf}
 use Rattle.table_lines.specs.KeptWalk.{keptOn}
-use Rattle.table_lines.specs.Reads.{stateAfter, bytesGot, takenOf}
+use Rattle.table_lines.specs.Reads.{AfterRead, stateAfter, bytesGot, takenOf}
 use borrow.Author.Needs.{needs}
 use Rattle.table_lines.proofs.reading.taken.Statement.{statement}
 use Rattle.table_lines.proofs.reading.taken.Tie as tie
 
+abbrev after : State → Memory → AfterRead
+after s m = record { state = s; memory = m }
+
 returns : tie.Need-returns
 unfolding takenOf
-returns c = let a = c .before .before .before .before .before .args in
+returns c =
+    let a = c .before .before .before .before .before .before .before .before .before .before .before .before .before .args in
+    let before = memoryOf (a .lines) (a .set .now) (a .scheme .now) in
     let same : toZ w64 (ofZ w64 (a .got)) ≡ a .got = search needs in
     let error : toZ w32 (ofZ w32 (a .error)) ≡ a .error = search needs in
-    ap₂ (λ (x : State) (y : Lines). record { state = x; lines = y })
+    ap₂ after
     (c .state-after .ensures ∙ ap₂ stateAfter same error)
-    (c .before .keep .ensures
-    ∙ ap (λ (n : ℕ). keptOn (a .lines) (take n (a .chunk .now))) (c .before .before .before .count .ensures .1)
-    ∙ ap (λ (z : ℤ). keptOn (a .lines) (bytesGot (a .chunk .now) z)) same)
+    (c .before .before .before .before .before .keep .ensures
+    ∙ ap (λ (n : ℕ). keptOn before (take n (a .chunk .now))) (c .before .before .before .before .before .before .before .before .before .count .ensures .1)
+    ∙ ap (λ (z : ℤ). keptOn before (bytesGot (a .chunk .now) z)) same)
 
 pub taken-spec : {M : Type 1} → statement M
 taken-spec =
     tie.close
-    (tie.spec (λ c κs. search needs) (λ c. search needs) (λ c κs. search needs) (λ c κs. search needs) returns)
+    (tie.spec
+    (λ c κs. search needs)
+    (λ c. search needs)
+    (λ c κs. search needs)
+    (λ c κs. search needs)
+    (λ c. search needs)
+    (λ c. search needs)
+    returns)
