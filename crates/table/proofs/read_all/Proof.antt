@@ -73,10 +73,16 @@ returns : tie.Need-returns Inv-loop μ-loop
 returns c = c .before .loop .inv .reads
 
 same-length-3 : tie.Need-same-length-3 Inv-loop μ-loop
-same-length-3 c = let k = c .before .before .before .before .before .before .before .before .before .before .before .before .loop .inv .set-size in search needs
+same-length-3 c =
+    let l = c .before .before .before .before .before .before .before .before .before .before .before .before .loop in
+    let k = l .inv .set-size in
+    search needs
 
 same-length-4 : tie.Need-same-length-4 Inv-loop μ-loop
-same-length-4 c = let k = c .before .before .before .before .before .before .before .before .before .before .before .before .loop .inv .scheme-size in search needs
+same-length-4 c =
+    let l = c .before .before .before .before .before .before .before .before .before .before .before .before .loop in
+    let k = l .inv .scheme-size in
+    search needs
 
 returns-2 : tie.Need-returns-2 Inv-loop μ-loop
 returns-2 c =

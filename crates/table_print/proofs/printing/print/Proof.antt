@@ -35,7 +35,8 @@ put-number-requires : tie.Need-put-number-requires
 put-number-requires c κs =
     let f = c .before .before .before .before .fault-of in
     let j = c .before .before .before .before .before .judge-lines in
-    accepted-lists _ _ (j .result) (j .ensures) (f .result) (f .ensures) (not-faulty (f .result) (sym (c .before .before .before .is-fault .ensures) ∙ c .before .before .if2 .left))
+    accepted-lists _ _ (j .result) (j .ensures) (f .result) (f .ensures)
+    (not-faulty (f .result) (sym (c .before .before .before .is-fault .ensures) ∙ c .before .before .if2 .left))
 
 returns-3 : tie.Need-returns-3
 returns-3 c =
@@ -46,10 +47,13 @@ returns-3 c =
     let m = c .before .before .before .before .last-number in
     let put = c .before .before .put-number .ensures in
     let t = c .before .before .before .before .before .before .before .before .before .before .complete in
-    let there = sym (t .ensures) ∙ not-false (t .result) (c .before .before .before .before .before .before .before .before .before .if1 .left) in
-    let found = not-faulty (f .result) (sym (c .before .before .before .before .before .before .is-fault .ensures) ∙ c .before .before .before .before .before .if2 .left) in
+    let complete = c .before .before .before .before .before .before .before .before .before .if1 .left in
+    let there = sym (t .ensures) ∙ not-false (t .result) complete in
+    let test = c .before .before .before .before .before .before .is-fault in
+    let found = not-faulty (f .result) (sym (test .ensures) ∙ c .before .before .before .before .before .if2 .left) in
     prints memory _ _ _
-    (writes-as (put .0) (accepted-text memory there (j .result) (j .ensures) (f .result) (f .ensures) found (m .result) (m .ensures))) (put .1)
+    (writes-as (put .0)
+    (accepted-text memory there (j .result) (j .ensures) (f .result) (f .ensures) found (m .result) (m .ensures))) (put .1)
 
 pub print-spec : {M : Type 1} → statement M
 print-spec =
