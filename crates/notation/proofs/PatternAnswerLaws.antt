@@ -23,8 +23,6 @@ use Rattle.text_grammar.specs.Grammar.{readPatterns}
 use Rattle.text_patterns.specs.PatternMemory.{loadedPatterns, patternText}
 use Rattle.text_patterns.specs.PatternLoading.{loaded-same, loaded-faults}
 use Rattle.text_grammar.specs.SpellingLaws.{patterns-sound, patterns-complete, patterns-unique, patterns-written-read}
-use Rattle.text_patterns.specs.PatternGrammar as walk
-use Rattle.text_patterns.specs.PatternReading.{walk-reads}
 use Rattle.text_patterns.specs.declared.pattern_reader.PatternText.{PatternText}
 use Rattle.notation.specs.declared.patterns.PatternsRead.{PatternsRead}
 use Rattle.notation.specs.PatternAnswers.{nonePatterns, refusedPatterns, readOr, testedPatterns, patternsAnswer, ReadsPatterns}
@@ -56,16 +54,14 @@ module _ (s : List ℕ) where
   pub answer-long : PATTERN_TEXT < length s → refusedPatterns Oversize 0 ≡ patternsAnswer s
   answer-long h = any.answer-long refusedPatterns testedPatterns PATTERN_TEXT readPatterns s h
 
-  module _ (t : PatternText) (h : length s ≤ PATTERN_TEXT) (e : t ≡ patternText (walk.readPatterns (tokens s))) where
-    text-is : t ≡ patternText (readPatterns (tokens s))
-    text-is = e ∙ ap patternText (walk-reads s)
-
+  module _ (t : PatternText) (h : length s ≤ PATTERN_TEXT) (e : t ≡ patternText (readPatterns (tokens s))) where
     misspelt-from : (o : Option (List (List ℕ))) → t ≡ patternText o → t .spelt ≡ false → refusedPatterns Misspelt 0 ≡ answerFrom refusedPatterns testedPatterns o
     misspelt-from none q k = refl
     misspelt-from (some P) q k = absurd (true≢false (sym (ap (λ (x : PatternText). x .spelt) q) ∙ k))
 
     pub answer-misspelt : t .spelt ≡ false → refusedPatterns Misspelt 0 ≡ patternsAnswer s
-    answer-misspelt k = misspelt-from (readPatterns (tokens s)) text-is k ∙ any.answer-text refusedPatterns testedPatterns PATTERN_TEXT readPatterns s h
+    answer-misspelt k =
+        misspelt-from (readPatterns (tokens s)) e k ∙ any.answer-text refusedPatterns testedPatterns PATTERN_TEXT readPatterns s h
 
     tested-from : (o : Option (List (List ℕ))) → t ≡ patternText o → t .spelt ≡ true →
         readOr (faultOf (firstFault (patternTests (patternsIn (t .patterns))))) (t .patterns) ≡ answerFrom refusedPatterns testedPatterns o
@@ -73,7 +69,8 @@ module _ (s : List ℕ) where
     tested-from (some P) q k = rw (ap (λ (x : PatternText). x .patterns) q, loaded-faults P) refl
 
     pub answer-tested : t .spelt ≡ true → readOr (faultOf (firstFault (patternTests (patternsIn (t .patterns))))) (t .patterns) ≡ patternsAnswer s
-    answer-tested k = tested-from (readPatterns (tokens s)) text-is k ∙ any.answer-text refusedPatterns testedPatterns PATTERN_TEXT readPatterns s h
+    answer-tested k =
+        tested-from (readPatterns (tokens s)) e k ∙ any.answer-text refusedPatterns testedPatterns PATTERN_TEXT readPatterns s h
 
 -- the finding and the list in an answer
 or-fault : (x : Finding) (m : Patterns) → readOr (faultOf x) m .fault ≡ faultOf x

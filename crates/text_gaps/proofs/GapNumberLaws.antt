@@ -19,8 +19,9 @@ use Rattle.text_grammar.specs.Spelling.{Token, digitRun}
 use Rattle.text_grammar.specs.Tokens.{run, tokens}
 use Rattle.text_grammar.specs.TokenLaws.{run-digits}
 use Rattle.text_grammar.specs.Grammar.{misspelt, numberOf, given, readNumber}
-use Rattle.text_grammar.specs.Cursor.{Stepped, spanOf, tokensBy, Beyond}
-use Rattle.text_gaps.specs.PartReading.{found, NumberAt}
+use Rattle.text_grammar.specs.Cursor.{Stepped, tokensBy, Beyond}
+use Rattle.text_grammar.specs.ItemReading.{found}
+use Rattle.text_gaps.specs.PartReading.{NumberAt}
 use Rattle.text_gaps.specs.GapReading.{DigitOf, valued, noNumber, Numbered}
 use Rattle.text_patterns.proofs.FilledLaws.{digits-in}
 use Rattle.text_grammar.specs.Kinds.{isDigits}
@@ -133,12 +134,6 @@ module _ (s : List ℕ) (at : ℕ) (t : Step) (stepped : Stepped s at t) where
         small = omega arith;
         moved = record { onward = λ e. absurd (false≢true e); inside = stepped .inside };
       }
-
-  pub run-length : isDigits (t .kind) ≡ true → t .next .at - t .from ≡ length (run (drop (t .from) s))
-  run-length h =
-      let q : t .next .at ≡ t .from + length (run (drop (t .from) s)) =
-      stepped .span ∙ ap (λ (k : Kind). t .from + spanOf k (drop (t .from) s)) (is-digits (t .kind) h) in
-      omega arith
 
   pub number-run : isDigits (t .kind) ≡ true → (v : Numeral) → Numbered (run (drop (t .from) s)) v
       → NumberAt s at (record { spelt = v .spelt; value = v .value; next = t .next })

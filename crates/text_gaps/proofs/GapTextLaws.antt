@@ -1,11 +1,10 @@
 -- Laws on the readers of gap vectors: components and vectors in memory, one more of them, and the
 -- marks around them.
 -- Assumes nothing.
-use Prim.Native.Nat.{ℕ, suc, _+_, _*_, _≤_, _<_}
+use Prim.Native.Nat.{ℕ, _+_, _*_, _≤_, _<_}
 use native.Mathlib.Numerals.{add-one}
 use native.Mathlib.Omega.{arith}
 use mathlib.Core.Path.{_≡_, refl, sym, ap, ap₂, _∙_, subst}
-use mathlib.Core.Logic.{_⊎_, inl, inr}
 use mathlib.Core.Bool.{Bool, true, false, true≢false, false≢true}
 use mathlib.Core.List.{List, [], _∷_, _++_, map, append-nil}
 use lib.ListN.{length, drop, set}
@@ -14,7 +13,7 @@ use lib.Dec.{leb}
 use borrow.Author.Tests.{ne-eqb}
 use Rattle.word.specs.Ceilings.{COMPONENTS, GAPS, PARTS}
 use Rattle.word.specs.Lists.{each}
-use Rattle.word.specs.ListLaws.{below-or-not, each-append, length-each}
+use Rattle.word.specs.ListLaws.{each-append, length-each}
 use Rattle.forms.specs.StoredLaws.{sets-out}
 use Rattle.forms.specs.declared.memory.Gap.{Gap}
 use Rattle.text_grammar.specs.declared.cursor.Cursor.{Cursor}
@@ -25,24 +24,23 @@ use Rattle.text_gaps.specs.declared.parts.NumberRead.{NumberRead}
 use Rattle.text_gaps.specs.declared.parts.GapRead.{GapRead}
 use Rattle.text_gaps.specs.declared.parts.Gaps.{Gaps}
 use Rattle.text_gaps.specs.declared.parts.GapsRead.{GapsRead}
-use Rattle.text_gaps.specs.declared.gap_reader.Turn.{Turn}
-use Rattle.text_gaps.specs.declared.gap_reader.Turn.the-variants.{More, Wrong}
+use Rattle.text_grammar.specs.declared.items.Turn.{Turn}
+use Rattle.text_grammar.specs.declared.items.Turn.the-variants.{More, Wrong}
 use Rattle.text_grammar.specs.Spelling.{Token, digits, left, right, byte, numeral, vectorPieces, writableVector}
 use Rattle.text_grammar.specs.Tokens.{tokens}
-use Rattle.text_grammar.specs.TokenLaws.{tokens-end}
-use Rattle.text_grammar.specs.Grammar.{Read, misspelt, got, after, code, same, fail, pick, follow, items, inBraces, readNumber, readVector}
+use Rattle.text_grammar.specs.Grammar.{Read, misspelt, got, after, code, same, fail, pick, follow, items, readNumber, readVector}
 use Rattle.text_grammar.specs.GrammarLaws.{items-step, number-read, vector-read}
 use Rattle.text_grammar.specs.Cursor.{Stepped, tokensBy, Beyond}
 use Rattle.text_gaps.specs.GapMemory.{partOf, partsOf, gapOf, partsOfAll, widthsOf}
-use Rattle.text_gaps.specs.PartReading.{found, kept, loadedGaps, NumberAt, GapAt, GapsAt}
-use Rattle.text_gaps.specs.ItemReading.{turnInBraces, turnInVector, goesOn, isDone, Within, Ready, Advanced}
+use Rattle.text_grammar.specs.ItemReading.{found, kept, turnInBraces, turnInVector, goesOn, isDone, Within, Ready, Advanced}
+use Rattle.text_gaps.specs.PartReading.{loadedGaps, NumberAt, GapAt, GapsAt}
 use Rattle.text_gaps.specs.GapReading.{storedPart, storedGap, itself, goingGap, goingGaps, PartsAt, VectorsAt}
-use Rattle.text_gaps.proofs.TextItemLaws.{same-byte, vector-turn, braces-turn, at-end, item-wrong, item-stored, kept-same}
+use Rattle.text_grammar.proofs.TextItemLaws.{vector-turn, braces-turn, at-end, item-wrong, item-stored, from-first}
+use Rattle.text_grammar.proofs.TextItemLaws.{gives-by, within-text, braces-empty, braces-none, braces-items}
 use Rattle.text_grammar.specs.Kinds.{isLeft, isEmpty, isByte}
 use Rattle.text_grammar.specs.KindLaws.{is-left, is-empty, is-byte}
-use Rattle.text_patterns.specs.PatternMemory.{filled, added}
-use Rattle.text_patterns.proofs.FilledLaws.{length-filled, sets-filled, length-more, filled-more, added-whole}
-use Rattle.text_patterns.specs.PatternReading.{no-empty}
+use Rattle.text_patterns.specs.PatternMemory.{filled}
+use Rattle.text_patterns.proofs.FilledLaws.{length-filled, sets-filled, length-more, filled-more}
 
 -- one item more in memory
 
@@ -86,31 +84,31 @@ module _ (s : List ℕ) (t : Turn) (m : Gap) (at : ℕ) (ready : Ready s t (m .w
   pub part-wrong : n .spelt ≡ false → Advanced goingGap s t m at Wrong m (m .width) at
   unfolding goingGap
   part-wrong h =
-      item-wrong readNumber right itself storedPart turnInVector vector-turn number-steps s t m (m .width) at ready (n .spelt) (n .value) (n .next .at)
-      kept-number (number .moved) h
+      item-wrong readNumber right itself storedPart turnInVector vector-turn number-steps s at (n .spelt) (n .value) (n .next .at)
+      kept-number t m (m .width) ready (number .moved) h
 
   pub part-stored : n .spelt ≡ true → (σ : Step) → Stepped s (n .next .at) σ → (u : Turn) (g : Gap) → u ≡ turnInVector (σ .kind) → g ≡ storedPart m (n .value)
       → Advanced goingGap s t m at u g (g .width) (σ .next .at)
   unfolding goingGap
   part-stored h σ stepped u g e f =
       rw (e, f)
-      (item-stored readNumber right itself storedPart turnInVector vector-turn number-steps s t m (m .width) at ready (n .spelt) (n .value) (n .next .at)
-      kept-number (number .moved) h σ stepped)
+      (item-stored readNumber right itself storedPart turnInVector vector-turn number-steps s at (n .spelt) (n .value) (n .next .at)
+      kept-number t m (m .width) ready (number .moved) h σ stepped)
 
 module _ (s : List ℕ) (t : Turn) (m : Gaps) (at : ℕ) (ready : Ready s t (m .count) at) (n : GapRead) (vector : GapAt s at n) where
   pub gap-wrong : n .spelt ≡ false → Advanced goingGaps s t m at Wrong m (m .count) at
   unfolding goingGaps
   gap-wrong h =
-      item-wrong readVector (byte 0x7D) gapOf storedGap turnInBraces braces-turn vector-steps s t m (m .count) at ready (n .spelt) (n .gap) (n .next .at)
-      (vector .gives) (vector .moved) h
+      item-wrong readVector (byte 0x7D) gapOf storedGap turnInBraces braces-turn vector-steps s at (n .spelt) (n .gap) (n .next .at)
+      (vector .gives) t m (m .count) ready (vector .moved) h
 
   pub gap-stored : n .spelt ≡ true → (σ : Step) → Stepped s (n .next .at) σ → (u : Turn) (g : Gaps) → u ≡ turnInBraces (σ .kind) → g ≡ storedGap m (n .gap)
       → Advanced goingGaps s t m at u g (g .count) (σ .next .at)
   unfolding goingGaps
   gap-stored h σ stepped u g e f =
       rw (e, f)
-      (item-stored readVector (byte 0x7D) gapOf storedGap turnInBraces braces-turn vector-steps s t m (m .count) at ready (n .spelt) (n .gap) (n .next .at)
-      (vector .gives) (vector .moved) h σ stepped)
+      (item-stored readVector (byte 0x7D) gapOf storedGap turnInBraces braces-turn vector-steps s at (n .spelt) (n .gap) (n .next .at)
+      (vector .gives) t m (m .count) ready (vector .moved) h σ stepped)
 
 part-next : (l : List ℕ) (n : ℕ) → storedPart (gapOf l) (itself n) ≡ gapOf (l ++ (n ∷ []))
 part-next l n = ap₂ gapMade (filled-more 7 0 partOf l n) (length-more l n)
@@ -128,15 +126,11 @@ gap-next l b =
 
 pub parts-start : (g : Gap) (ts : List Token) → g ≡ gapOf [] → goingGap More g ts ≡ kept gapOf (items readNumber right ts)
 unfolding goingGap
-parts-start g ts e =
-    ap (λ (m : Gap). kept (added itself storedPart m) (items readNumber right ts)) e
-    ∙ kept-same (added itself storedPart (gapOf [])) gapOf (added-whole itself storedPart gapOf part-next []) (items readNumber right ts)
+parts-start g ts e = from-first itself storedPart gapOf part-next readNumber right g ts e
 
 pub vectors-start : (g : Gaps) (ts : List Token) → g ≡ loadedGaps [] → goingGaps More g ts ≡ kept loadedGaps (items readVector (byte 0x7D) ts)
 unfolding goingGaps
-vectors-start g ts e =
-    ap (λ (m : Gaps). kept (added gapOf storedGap m) (items readVector (byte 0x7D) ts)) e
-    ∙ kept-same (added gapOf storedGap (loadedGaps [])) loadedGaps (added-whole gapOf storedGap loadedGaps gap-next []) (items readVector (byte 0x7D) ts)
+vectors-start g ts e = from-first gapOf storedGap loadedGaps gap-next readVector (byte 0x7D) g ts e
 
 pub no-parts : (g : Gap) → g ≡ gapOf [] → g .width ≡ 0
 no-parts g e = ap (λ (m : Gap). m .width) e
@@ -181,36 +175,9 @@ no-vector Left t ts h = absurd (true≢false h)
 no-vector Right t ts h = refl
 no-vector (Byte b) t ts h = ap (λ (c : Bool). pick c (items readNumber right) fail ts) (other-mark b)
 
-no-list : (k : Kind) (t : List ℕ) (ts : List Token) → isEmpty k ≡ false → isByte 0x7B k ≡ false → inBraces readVector (tokensBy k t ts) ≡ misspelt
-no-list End t ts h g = refl
-no-list Digits t ts h g = refl
-no-list Epsilon t ts h g = refl
-no-list Empty t ts h g = absurd (true≢false h)
-no-list Left t ts h g = refl
-no-list Right t ts h g = refl
-no-list (Byte b) t ts h g =
-    ap₂ (λ (c d : Bool). pick c (got []) (pick d (items readVector (byte 0x7D)) fail) ts) (no-empty b) (same-byte 0x7B b ∙ g)
-
 module _ (s : List ℕ) (at : ℕ) (t : Step) (stepped : Stepped s at t) where
-  gives-by : (k : Kind) → t .kind ≡ k → tokens (drop at s) ≡ tokensBy k (drop (t .from) s) (tokens (drop (t .next .at) s))
-  gives-by k e = stepped .gives ∙ ap (λ (j : Kind). tokensBy j (drop (t .from) s) (tokens (drop (t .next .at) s))) e
-
-  -- a token ends within the text
-  within-text : (τ : Token) (ts : List Token) → tokens (drop at s) ≡ τ ∷ ts → t .next .at ≤ length s
-  within-text τ ts e = step (below-or-not (length s) at)
-    where
-      step : (length s < at) ⊎ (at ≤ length s) → t .next .at ≤ length s
-      step (inl h) =
-          let i : length s ≤ at = omega arith in
-          let f : [] ≡ τ ∷ ts = sym (tokens-end s at i) ∙ e in
-          let z : _≡_ {A = ℕ} 0 (suc (length ts)) = ap length f in absurd (omega arith)
-      step (inr h) = stepped .inside h
-
   pub left-within : isLeft (t .kind) ≡ true → t .next .at ≤ length s
-  left-within h = within-text left (tokens (drop (t .next .at) s)) (gives-by Left (is-left (t .kind) h))
-
-  pub brace-within : isByte 0x7B (t .kind) ≡ true → t .next .at ≤ length s
-  brace-within h = within-text (byte 0x7B) (tokens (drop (t .next .at) s)) (gives-by (Byte 0x7B) (is-byte 0x7B (t .kind) h))
+  left-within h = within-text s at t stepped left (tokens (drop (t .next .at) s)) (gives-by s at t stepped Left (is-left (t .kind) h))
 
   pub vector-none : isLeft (t .kind) ≡ false → (g : Gap) → GapAt s at (record { spelt = false; gap = g; next = t .next })
   vector-none h g =
@@ -226,7 +193,7 @@ module _ (s : List ℕ) (at : ℕ) (t : Step) (stepped : Stepped s at t) where
       let i : t .next .at ≤ r .next .at = parts .onward in
       let j : at < r .next .at = omega arith in
       record {
-        gives = ap (λ (ts : List Token). kept gapOf (readVector ts)) (gives-by Left (is-left (t .kind) h)) ∙ parts .gives;
+        gives = ap (λ (ts : List Token). kept gapOf (readVector ts)) (gives-by s at t stepped Left (is-left (t .kind) h)) ∙ parts .gives;
         moved = record { onward = λ _. j; inside = λ _. parts .inside };
       }
 
@@ -234,16 +201,14 @@ module _ (s : List ℕ) (at : ℕ) (t : Step) (stepped : Stepped s at t) where
   list-empty h g e =
       let l : at < t .next .at = subst (λ (k : Kind). Beyond k at (t .next .at)) (is-empty (t .kind) h) (stepped .beyond) in
       record {
-        gives = ap (λ (ts : List Token). kept loadedGaps (inBraces readVector ts)) (gives-by Empty (is-empty (t .kind) h))
-            ∙ ap (λ (m : Gaps). got m (tokens (drop (t .next .at) s))) (sym e);
+        gives = braces-empty s at t stepped readVector loadedGaps h ∙ ap (λ (m : Gaps). got m (tokens (drop (t .next .at) s))) (sym e);
         moved = record { onward = λ _. l; inside = stepped .inside };
       }
 
   pub list-none : isEmpty (t .kind) ≡ false → isByte 0x7B (t .kind) ≡ false → (g : Gaps) → GapsAt s at (record { spelt = false; gaps = g; next = t .next })
   list-none h k g =
       record {
-        gives = ap (λ (ts : List Token). kept loadedGaps (inBraces readVector ts)) (stepped .gives)
-            ∙ ap (kept loadedGaps) (no-list (t .kind) (drop (t .from) s) (tokens (drop (t .next .at) s)) h k);
+        gives = braces-none s at t stepped readVector loadedGaps h k;
         moved = record { onward = λ e. absurd (false≢true e); inside = stepped .inside };
       }
 
@@ -253,6 +218,6 @@ module _ (s : List ℕ) (at : ℕ) (t : Step) (stepped : Stepped s at t) where
       let i : t .next .at ≤ r .next .at = vectors .onward in
       let j : at < r .next .at = omega arith in
       record {
-        gives = ap (λ (ts : List Token). kept loadedGaps (inBraces readVector ts)) (gives-by (Byte 0x7B) (is-byte 0x7B (t .kind) h)) ∙ vectors .gives;
+        gives = braces-items s at t stepped readVector loadedGaps h ∙ vectors .gives;
         moved = record { onward = λ _. j; inside = λ _. vectors .inside };
       }

@@ -1,4 +1,3 @@
 -- The laws that the proofs of the crate text_gaps cite.
 pub mod GapNumberLaws
-pub mod TextItemLaws
 pub mod GapTextLaws

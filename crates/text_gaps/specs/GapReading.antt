@@ -13,15 +13,15 @@ use Rattle.text_grammar.specs.Spelling.{Token, right, byte}
 use Rattle.text_grammar.specs.Tokens.{tokens}
 use Rattle.text_grammar.specs.Grammar.{Read, items, numberOf, readNumber, readVector}
 use Rattle.text_gaps.specs.GapMemory.{partOf, gapOf}
-use Rattle.text_gaps.specs.PartReading.{found, kept, loadedGaps}
+use Rattle.text_gaps.specs.PartReading.{loadedGaps}
 use Rattle.text_gaps.specs.declared.parts.GapRead.{GapRead}
 use Rattle.text_gaps.specs.declared.parts.Gaps.{Gaps}
 use Rattle.text_gaps.specs.declared.parts.GapsRead.{GapsRead}
 use Rattle.text_gaps.specs.declared.gap_reader.Numeral.{Numeral}
-use Rattle.text_gaps.specs.declared.gap_reader.Turn.{Turn}
+use Rattle.text_grammar.specs.declared.items.Turn.{Turn}
 use Rattle.text_gaps.specs.declared.gap_reader.GapPart.{GapPart}
 use Rattle.text_gaps.specs.declared.gap_reader.GapsPart.{GapsPart}
-use Rattle.text_gaps.specs.ItemReading.{going, Ready, Advanced}
+use Rattle.text_grammar.specs.ItemReading.{found, kept, going, Ready, Advanced}
 
 -- numbers
 

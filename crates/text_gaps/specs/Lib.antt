@@ -2,5 +2,4 @@
 pub mod GapMemory
 pub mod GapMemoryLaws
 pub mod PartReading
-pub mod ItemReading
 pub mod GapReading

@@ -1,33 +1,17 @@
--- What the readers of parts promise: what the grammar finds in the tokens from a place on, kept in
--- memory; numbers and gap vectors. Definitions only.
-use Prim.Native.Nat.{ℕ, _≤_, _<_}
+-- What the readers of numbers and gap vectors promise: what the grammar finds in the tokens from a
+-- place on, kept in memory. Definitions only.
+use Prim.Native.Nat.{ℕ, _≤_}
 use mathlib.Core.Path.{_≡_}
-use mathlib.Core.Bool.{Bool, true, false}
 use mathlib.Core.List.{List}
 use lib.ListN.{length, drop}
-use Rattle.text_grammar.specs.Spelling.{Token}
 use Rattle.text_grammar.specs.Tokens.{tokens}
-use Rattle.text_grammar.specs.Grammar.{Read, misspelt, got, readNumber, readVector, inBraces}
+use Rattle.text_grammar.specs.Grammar.{readNumber, readVector, inBraces}
+use Rattle.text_grammar.specs.ItemReading.{found, kept, Moved}
 use Rattle.text_gaps.specs.GapMemory.{gapOf, partsOfAll, widthsOf}
 use Rattle.text_gaps.specs.declared.parts.NumberRead.{NumberRead}
 use Rattle.text_gaps.specs.declared.parts.GapRead.{GapRead}
 use Rattle.text_gaps.specs.declared.parts.Gaps.{Gaps}
 use Rattle.text_gaps.specs.declared.parts.GapsRead.{GapsRead}
-
--- a value and the tokens after it, where the part is spelt
-abbrev pub found : {B : Type 0} → Bool → B → List Token → Read B
-found true x ts = got x ts
-found false x ts = misspelt
-
--- what a reader of the grammar finds, as the memory keeps it
-abbrev pub kept : {A B : Type 0} → (A → B) → Read A → Read B
-kept load misspelt = misspelt
-kept load (got x ts) = got (load x) ts
-
--- the cursor behind a part: past its first token where the part is spelt, and within the text
-pub record Moved (s : List ℕ) (at next : ℕ) (spelt : Bool) : Type 0 where
-  pub onward : spelt ≡ true → at < next
-  pub inside : at ≤ length s → next ≤ length s
 
 unfoldable pub loadedGaps : List (List ℕ) → Gaps
 loadedGaps g = record { parts = partsOfAll g; widths = widthsOf g; count = length g }

@@ -6,7 +6,10 @@ use crate::parts::NumberRead;
 use forms::gaps::with_gap;
 use forms::memory::Gap;
 use text_grammar::cursor::Cursor;
-use text_grammar::cursor::Kind;
+use text_grammar::items::Turn;
+use text_grammar::items::goes_on;
+use text_grammar::items::is_done;
+use text_grammar::items::turn_of;
 use text_grammar::kinds::is_byte;
 use text_grammar::kinds::is_digits;
 use text_grammar::kinds::is_empty;
@@ -23,7 +26,6 @@ ghost use lib.ListN.{length, drop};
 ghost use Rattle.text_grammar.specs.Tokens.{run};
 ghost use Rattle.text_gaps.specs.GapMemory.{partOf, gapOf};
 ghost use Rattle.text_gaps.specs.PartReading.{NumberAt, GapAt, GapsAt, loadedGaps};
-ghost use Rattle.text_gaps.specs.ItemReading.{goesOn, isDone, turnOf};
 ghost use Rattle.text_gaps.specs.GapReading.{noNumber, Numbered, DigitOf};
 ghost use Rattle.text_gaps.specs.GapReading.{storedPart, storedGap, GapReady, GapAdvanced, PartsAt, GapsReady, GapsAdvanced, VectorsAt};
 
@@ -31,13 +33,6 @@ ghost use Rattle.text_gaps.specs.GapReading.{storedPart, storedGap, GapR
 pub struct Numeral {
     pub spelt: bool,
     pub value: usize,
-}
-
-// What comes after an item: another one, nothing, or what may not come.
-pub enum Turn {
-    More,
-    Done,
-    Wrong,
 }
 
 // How far a gap vector is read: the components so far, and the cursor behind them.
@@ -363,39 +358,4 @@ fn no_gaps() -> Gaps
         widths: [0u8; GAPS],
         count: 0,
     }
-}
-
-// Whether another item comes.
-fn goes_on(turn: Turn) -> bool
-    ensures { λ r. ⌜ r ≡ goesOn turn ⌝ }
-{
-    match turn {
-        Turn::More => true,
-        Turn::Done => false,
-        Turn::Wrong => false,
-    }
-}
-
-// Whether the closing mark came.
-fn is_done(turn: Turn) -> bool
-    ensures { λ r. ⌜ r ≡ isDone turn ⌝ }
-{
-    match turn {
-        Turn::More => false,
-        Turn::Done => true,
-        Turn::Wrong => false,
-    }
-}
-
-// What comes after an item: the closing mark, or else a comma.
-fn turn_of(done: bool, more: bool) -> Turn
-    ensures { λ r. ⌜ r ≡ turnOf done more ⌝ }
-{
-    if done {
-        return Turn::Done;
-    }
-    if more {
-        return Turn::More;
-    }
-    Turn::Wrong
 }

@@ -31,6 +31,9 @@ module _ (k : Kind) where
   has-code : (n : ℕ) → n < 6 → eqb (codeOf k) n ≡ true → k ≡ kindBy n
   has-code n h e = let p = eqb-true (codeOf k) n e in coded k (omega arith) ∙ ap kindBy p
 
+  pub is-end : isEnd k ≡ true → k ≡ End
+  is-end e = has-code 0 (omega arith) e
+
   pub is-digits : isDigits k ≡ true → k ≡ Digits
   is-digits e = has-code 1 (omega arith) e
 

@@ -8,3 +8,4 @@ pub mod SpellingLaws
 pub mod Cursor
 pub mod Kinds
 pub mod KindLaws
+pub mod ItemReading

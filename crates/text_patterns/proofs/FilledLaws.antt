@@ -1,23 +1,17 @@
--- Laws on lists of a fixed length that hold the front of another, on the digits of a run, and on
--- patterns stored one after the other.
+-- Laws on lists of a fixed length that hold the front of another, and on the digits of a run.
 -- Assumes nothing.
 use Prim.Native.Nat.{ℕ, zero, suc, _+_, _-_, _≤_, _<_}
 use native.Mathlib.Nat.{zero-add}
-use native.Mathlib.Numerals.{add-one}
 use native.Mathlib.Omega.{arith}
-use mathlib.Core.Path.{_≡_, refl, sym, ap, ap₂, _∙_}
+use mathlib.Core.Path.{_≡_, refl, sym, ap, _∙_}
 use mathlib.Core.Bool.{Bool, true, false, cond}
 use mathlib.Core.List.{List, [], _∷_, _++_, map, map-append, append-nil, append-assoc}
-use mathlib.Core.Option.{Option, none, some}
 use lib.ListN.{length, getD, take, drop, set, length-map, length-drop}
-use lib.Seq.{take-all, getD-drop, set-out, sets}
-use Rattle.forms.specs.declared.memory.Pattern.{Pattern}
-use Rattle.forms.specs.declared.memory.Patterns.{Patterns}
+use lib.Seq.{take-all, getD-drop, sets}
 use Rattle.forms.specs.StoredLaws.{stored-more, sets-front}
 use Rattle.text_grammar.specs.Tokens.{isDigit, run}
 use Rattle.text_grammar.specs.TokenLaws.{digit-value}
-use Rattle.text_patterns.specs.PatternMemory.{filled, patternOf, loadedPatterns, storedIn, added, patternText}
-use Rattle.text_patterns.specs.PatternWalk.{textWith}
+use Rattle.text_patterns.specs.PatternMemory.{filled}
 
 module _ {A : Type 0} where
   pub length-filled : (n : ℕ) (z : A) (l : List A) → length (filled n z l) ≡ n
@@ -73,39 +67,9 @@ module _ (t u d : List ℕ) (i : ℕ) (e : d ≡ sets t 0 (take i u)) where
   pub digits-full : length t ≤ i → d ≡ sets t 0 u
   digits-full h = let k : length t ≤ 0 + i = omega arith in e ∙ sets-front t 0 u i k
 
--- patterns stored one after the other
-
--- the length of a list, from that of its map
-pub unmapped : {A B : Type 0} (f : A → B) (l : List A) (n : ℕ) → length (map f l) ≡ n → length l ≡ n
-unmapped f l n e = sym (length-map l f) ∙ e
-
-abbrev made : List Pattern → ℕ → Patterns
-made l n = record { items = l; count = n }
-
-pub stored-kept : (m : Patterns) (p : Pattern) → made (set (m .items) (m .count) p) (m .count + 1) ≡ storedIn m p
-stored-kept m p = ap (λ (n : ℕ). made (set (m .items) (m .count) p) n) (add-one (m .count))
-
-pub stored-counted : (m : Patterns) (p : Pattern) → length (m .items) ≤ m .count → made (m .items) (m .count + 1) ≡ storedIn m p
-stored-counted m p h = ap₂ made (sym (set-out (m .items) (m .count) p h)) (add-one (m .count))
-
+-- one element more, of a list whose elements are put into memory
 pub filled-more : {A B : Type 0} (n : ℕ) (z : B) (f : A → B) (l : List A) (x : A) → set (filled n z (map f l)) (length l) (f x) ≡ filled n z (map f (l ++ (x ∷ [])))
 filled-more {B = B} n z f l x =
     ap (λ (i : ℕ). set (filled n z (map f l)) i (f x)) (sym (length-map l f))
     ∙ set-filled n z (map f l) (f x)
     ∙ ap (λ (r : List B). filled n z r) (sym (map-append f l (x ∷ [])))
-
--- items stored one after the other are those of the list
-module _ {A B C : Type 0} (load : A → C) (store : B → C → B) (whole : List A → B) (next : (l : List A) (x : A) → store (whole l) (load x) ≡ whole (l ++ (x ∷ []))) where
-  pub added-whole : (l k : List A) → added load store (whole l) k ≡ whole (l ++ k)
-  added-whole l [] = ap whole (sym (append-nil l))
-  added-whole l (x ∷ k) =
-      ap (λ (m : B). added load store m k) (next l x) ∙ added-whole (l ++ (x ∷ [])) k ∙ ap whole (append-assoc l (x ∷ []) k)
-
-stored-loaded : (P : List (List ℕ)) (q : List ℕ) → storedIn (loadedPatterns P) (patternOf q) ≡ loadedPatterns (P ++ (q ∷ []))
-unfolding loadedPatterns
-stored-loaded P q = ap₂ made (filled-more 24 (patternOf []) patternOf P q) (length-more P q)
-
--- what is read from the start
-pub text-loaded : (o : Option (List (List ℕ))) → textWith (loadedPatterns []) o ≡ patternText o
-text-loaded none = refl
-text-loaded (some P) = ap (λ (m : Patterns). record { spelt = true; patterns = m }) (added-whole patternOf storedIn loadedPatterns stored-loaded [] P)

@@ -1,3 +1,3 @@
 -- The laws that the proofs of the crate text_patterns cite.
 pub mod FilledLaws
-pub mod PatternWalkLaws
+pub mod PatternTextLaws

@@ -1,6 +1,4 @@
 -- The definitions and laws of the crate text_patterns.
-pub mod PatternGrammar
 pub mod PatternMemory
 pub mod PatternReading
 pub mod PatternLoading
-pub mod PatternWalk

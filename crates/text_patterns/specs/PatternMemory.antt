@@ -4,7 +4,7 @@ use Prim.Native.Nat.{ℕ, zero, suc}
 use mathlib.Core.Bool.{true, false}
 use mathlib.Core.List.{List, [], _∷_, map}
 use mathlib.Core.Option.{Option, none, some}
-use lib.ListN.{length, set}
+use lib.ListN.{length}
 use Rattle.word.specs.Ceilings.{DIGITS, PATTERNS}
 use Rattle.forms.specs.declared.memory.Pattern.{Pattern}
 use Rattle.forms.specs.declared.memory.Patterns.{Patterns}
@@ -21,16 +21,6 @@ patternOf u = record { digits = filled DIGITS 0 u; length = length u }
 
 unfoldable pub loadedPatterns : List (List ℕ) → Patterns
 loadedPatterns P = record { items = filled PATTERNS (patternOf []) (map patternOf P); count = length P }
-
--- one pattern more: it is kept where there is room
-abbrev pub storedIn : Patterns → Pattern → Patterns
-storedIn m p = record { items = set (m .items) (m .count) p; count = suc (m .count) }
-
--- the memory m with the items of a list behind its own
-module _ {A B C : Type 0} (load : A → C) (store : B → C → B) where
-  abbrev pub added : B → List A → B
-  added m [] = m
-  added m (x ∷ l) = added (store m (load x)) l
 
 -- what a text spells, in memory
 abbrev pub patternText : Option (List (List ℕ)) → PatternText

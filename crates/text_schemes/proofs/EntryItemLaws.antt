@@ -26,10 +26,11 @@ use Rattle.text_grammar.specs.Cursor.{Stepped, tokensBy}
 use Rattle.text_grammar.specs.Grammar.{Read, misspelt, got, after, pick, follow, items, inBraces, readEntry, whole, readEntries}
 use Rattle.text_grammar.specs.GrammarLaws.{items-step, entry-read}
 use Rattle.text_schemes.specs.SchemeLoaded.{entryOf, plainEntry, loadedScheme}
-use Rattle.text_gaps.specs.PartReading.{found, kept}
+use Rattle.text_grammar.specs.ItemReading.{found, kept}
 use Rattle.text_schemes.specs.SchemeReading.{EntryAt, schemeText}
 use Rattle.text_schemes.specs.EntryReading.{ChoiceAt, storedEntry, onto, goingOn, ItemAt, schemeOf}
-use Rattle.text_patterns.proofs.FilledLaws.{length-filled, length-more, filled-more, added-whole}
+use Rattle.text_patterns.proofs.FilledLaws.{length-filled, length-more, filled-more}
+use Rattle.text_grammar.proofs.TextItemLaws.{added-whole}
 use Rattle.text_grammar.proofs.CursorLaws.{tail-is}
 use Rattle.text_schemes.proofs.EntryTextLaws.{made, entry-kept, entry-counted, Saw, missed, saw, see, chosen, either-after}
 use Rattle.text_grammar.specs.Kinds.{isEnd}

@@ -12,7 +12,6 @@ use lib.Seq.{set-out, drop-drop}
 use lib.Dec.{eqb}
 use borrow.Author.Tests.{ne-eqb}
 use Rattle.word.specs.Ceilings.{PREFIX}
-use Rattle.word.specs.Lists.{all}
 use Rattle.word.specs.ListLaws.{and-left, and-right}
 use Rattle.forms.specs.SchemeList.{Does, expands, deletes, EntryList}
 use Rattle.forms.specs.declared.memory.Rule.{Rule}
@@ -32,19 +31,19 @@ use Rattle.text_schemes.specs.declared.scheme_reader.Prefix.{Prefix}
 use Rattle.text_schemes.specs.declared.scheme_reader.PrefixRead.{PrefixRead}
 use Rattle.text_grammar.specs.Spelling.{Token, digits, empty, byte, comma}
 use Rattle.text_grammar.specs.Tokens.{run, tokens}
-use Rattle.text_grammar.specs.Cursor.{Stepped, tokensBy, Beyond}
+use Rattle.text_grammar.specs.Cursor.{Stepped, tokensBy}
 use Rattle.text_grammar.specs.Grammar.{Read, misspelt, got, after, same, fail, pick, expect, either, inBraces, readPerm, readNumber, readVector, readRule, afterGaps, readEntry}
 use Rattle.text_patterns.specs.PatternMemory.{filled}
-use Rattle.text_patterns.specs.PatternReading.{fullRun, tokens-full, no-empty}
 use Rattle.text_schemes.specs.SchemeLoaded.{ruleOf, entryOf}
-use Rattle.text_gaps.specs.PartReading.{found, kept, Moved, loadedGaps, NumberAt, GapsAt}
+use Rattle.text_grammar.specs.ItemReading.{found, kept, Moved}
+use Rattle.text_gaps.specs.PartReading.{loadedGaps, NumberAt, GapsAt}
 use Rattle.text_schemes.specs.SchemeReading.{RuleAt, EntryAt}
 use Rattle.text_schemes.specs.EntryReading.{MarkAt, ChoiceAt, prefixOf, readHead, readMiddle, readTail, PrefixAt, HeadAt, MiddleAt, TailAt, storedEntry}
 use Rattle.text_grammar.proofs.CursorLaws.{tail-is}
 use Rattle.text_grammar.specs.Kinds.{isDigits, isEmpty, isByte, isEpsilon, isEnd}
-use Rattle.text_gaps.proofs.TextItemLaws.{same-byte}
+use Rattle.text_grammar.proofs.TextItemLaws.{same-byte, no-empty}
+use Rattle.text_grammar.proofs.TextRunLaws.{moved-by, run-length, perm-run, perm-other}
 use Rattle.text_grammar.specs.KindLaws.{is-digits, is-epsilon, is-empty, is-byte}
-use Rattle.text_gaps.proofs.GapNumberLaws.{run-length}
 
 -- a mark against a token
 
@@ -95,21 +94,7 @@ close-other Left t ts h = refl
 close-other Right t ts h = refl
 close-other (Byte b) t ts h = rw (same-byte 0x7D b, h, same-byte 0x2C b) (pick-second (eqb b 0x2C) ts)
 
--- a token is behind the place where it is read
-
-past : (k : Kind) (a r : ℕ) → Beyond k a r → isEnd k ≡ false → a < r
-past End a r h e = absurd (false≢true (sym e))
-past Digits a r h e = h
-past Epsilon a r h e = h
-past Empty a r h e = h
-past Left a r h e = h
-past Right a r h e = h
-past (Byte b) a r h e = h
-
 module _ (s : List ℕ) (at : ℕ) (t : Step) (w : Stepped s at t) where
-  moved-by : (b : Bool) → (b ≡ true → isEnd (t .kind) ≡ false) → Moved s at (t .next .at) b
-  moved-by b h = record { onward = λ e. past (t .kind) at (t .next .at) (w .beyond) (h e); inside = w .inside }
-
   abbrev rest : List Token
   rest = tokens (drop (t .next .at) s)
 
@@ -117,14 +102,14 @@ module _ (s : List ℕ) (at : ℕ) (t : Step) (w : Stepped s at t) where
   marked n b e =
       record {
         gives = ap (expect {A = ℕ} (byte n) (got 0)) (w .gives) ∙ mark-by n (t .kind) (drop (t .from) s) rest ∙ ap (λ (c : Bool). found c 0 rest) (sym e);
-        moved = moved-by b (λ h. ap isEnd (is-byte n (t .kind) (sym e ∙ h)));
+        moved = moved-by s at t w b (λ h. ap isEnd (is-byte n (t .kind) (sym e ∙ h)));
       }
 
   pub opened : (b : Bool) → b ≡ isEmpty (t .kind) → b ≡ true → ChoiceAt empty (byte 0x7B) s at (record { spelt = true; first = true; next = t .next })
   opened b e h =
       record {
         gives = ap (chosen empty (byte 0x7B)) (w .gives) ∙ open-first (t .kind) (drop (t .from) s) rest (sym e ∙ h);
-        moved = moved-by true (λ _. ap isEnd (is-empty (t .kind) (sym e ∙ h)));
+        moved = moved-by s at t w true (λ _. ap isEnd (is-empty (t .kind) (sym e ∙ h)));
       }
 
   pub opened-other : (b c : Bool) → b ≡ isEmpty (t .kind) → b ≡ false → c ≡ isByte 0x7B (t .kind)
@@ -133,14 +118,14 @@ module _ (s : List ℕ) (at : ℕ) (t : Step) (w : Stepped s at t) where
       record {
         gives = ap (chosen empty (byte 0x7B)) (w .gives) ∙ open-other (t .kind) (drop (t .from) s) rest (sym e ∙ h)
             ∙ ap (λ (d : Bool). found d false rest) (sym f);
-        moved = moved-by c (λ g. ap isEnd (is-byte 0x7B (t .kind) (sym f ∙ g)));
+        moved = moved-by s at t w c (λ g. ap isEnd (is-byte 0x7B (t .kind) (sym f ∙ g)));
       }
 
   pub closed : (b : Bool) → b ≡ isByte 0x7D (t .kind) → b ≡ true → ChoiceAt (byte 0x7D) comma s at (record { spelt = true; first = true; next = t .next })
   closed b e h =
       record {
         gives = ap (chosen (byte 0x7D) comma) (w .gives) ∙ close-first (t .kind) (drop (t .from) s) rest (sym e ∙ h);
-        moved = moved-by true (λ _. ap isEnd (is-byte 0x7D (t .kind) (sym e ∙ h)));
+        moved = moved-by s at t w true (λ _. ap isEnd (is-byte 0x7D (t .kind) (sym e ∙ h)));
       }
 
   pub closed-other : (b c : Bool) → b ≡ isByte 0x7D (t .kind) → b ≡ false → c ≡ isByte 0x2C (t .kind)
@@ -149,28 +134,10 @@ module _ (s : List ℕ) (at : ℕ) (t : Step) (w : Stepped s at t) where
       record {
         gives = ap (chosen (byte 0x7D) comma) (w .gives) ∙ close-other (t .kind) (drop (t .from) s) rest (sym e ∙ h)
             ∙ ap (λ (d : Bool). found d false rest) (sym f);
-        moved = moved-by c (λ g. ap isEnd (is-byte 0x2C (t .kind) (sym f ∙ g)));
+        moved = moved-by s at t w c (λ g. ap isEnd (is-byte 0x2C (t .kind) (sym f ∙ g)));
       }
 
 -- prefixes
-
-full-perm : (u : List ℕ) (ts : List Token) → fullRun (digits u) ≡ true → readPerm (digits u ∷ ts) ≡ got u ts
-full-perm [] ts h = absurd (false≢true h)
-full-perm (d ∷ u) ts h = rw h refl
-
-run-perm : (t u : List ℕ) (ts : List Token) → tokens t ≡ digits u ∷ ts → readPerm (tokens t) ≡ got u ts
-run-perm t u ts e =
-    ap readPerm e
-    ∙ full-perm u ts (and-left (fullRun (digits u)) (all fullRun ts) (subst (λ (l : List Token). all fullRun l ≡ true) e (tokens-full t)))
-
-other-perm : (k : Kind) (t : List ℕ) (ts : List Token) → isDigits k ≡ false → kept prefixOf (readPerm (tokensBy k t ts)) ≡ found (isEpsilon k) (prefixOf []) ts
-other-perm End t ts h = refl
-other-perm Digits t ts h = absurd (false≢true (sym h))
-other-perm Epsilon t ts h = refl
-other-perm Empty t ts h = refl
-other-perm Left t ts h = refl
-other-perm Right t ts h = refl
-other-perm (Byte b) t ts h = refl
 
 abbrev prefix-got : List ℕ → ℕ → List Token → Read Prefix
 prefix-got l n ts = got (record { digits = l; length = n }) ts
@@ -179,22 +146,17 @@ module _ (s : List ℕ) (at : ℕ) (t : Step) (w : Stepped s at t) where
   pub prefixed : isDigits (t .kind) ≡ true → (d : List ℕ) → d ≡ filled PREFIX 0 (run (drop (t .from) s))
       → PrefixAt s at (record { spelt = true; prefix = record { digits = d; length = t .next .at - t .from }; next = t .next })
   prefixed h d e =
-      let k = is-digits (t .kind) h in
-      let g : tokens (drop at s) ≡ digits (run (drop (t .from) s)) ∷ tokens (drop (t .next .at) s) =
-      w .gives ∙ ap (λ (j : Kind). tokensBy j (drop (t .from) s) (tokens (drop (t .next .at) s))) k in
       record {
-        gives = ap (kept prefixOf) (run-perm (drop at s) (run (drop (t .from) s)) (tokens (drop (t .next .at) s)) g)
+        gives = perm-run s at t w prefixOf h
             ∙ ap₂ (λ (l : List ℕ) (n : ℕ). prefix-got l n (tokens (drop (t .next .at) s))) (sym e) (sym (run-length s at t w h));
-        moved = moved-by s at t w true (λ _. ap isEnd k);
+        moved = moved-by s at t w true (λ _. ap isEnd (is-digits (t .kind) h));
       }
 
   pub prefixed-other : isDigits (t .kind) ≡ false → (b : Bool) → b ≡ isEpsilon (t .kind)
       → PrefixAt s at (record { spelt = b; prefix = prefixOf []; next = t .next })
   prefixed-other h b e =
       record {
-        gives = ap (λ (ts : List Token). kept prefixOf (readPerm ts)) (w .gives)
-            ∙ other-perm (t .kind) (drop (t .from) s) (tokens (drop (t .next .at) s)) h
-            ∙ ap (λ (d : Bool). found d (prefixOf []) (tokens (drop (t .next .at) s))) (sym e);
+        gives = perm-other s at t w prefixOf b e h;
         moved = moved-by s at t w b (λ g. ap isEnd (is-epsilon (t .kind) (sym e ∙ g)));
       }
 

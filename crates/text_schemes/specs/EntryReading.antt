@@ -21,9 +21,10 @@ use Rattle.text_schemes.specs.declared.scheme_reader.PrefixRead.{PrefixR
 use Rattle.text_grammar.specs.Spelling.{Token, byte, comma}
 use Rattle.text_grammar.specs.Tokens.{tokens}
 use Rattle.text_grammar.specs.Grammar.{Read, misspelt, got, after, expect, either, items, inBraces, readPerm, readVector, readRule, readEntry}
-use Rattle.text_patterns.specs.PatternMemory.{filled, added}
+use Rattle.text_patterns.specs.PatternMemory.{filled}
 use Rattle.text_schemes.specs.SchemeLoaded.{ruleOf, entryOf}
-use Rattle.text_gaps.specs.PartReading.{found, kept, Moved, loadedGaps}
+use Rattle.text_grammar.specs.ItemReading.{found, kept, Moved, added}
+use Rattle.text_gaps.specs.PartReading.{loadedGaps}
 use Rattle.text_schemes.specs.SchemeReading.{schemeText}
 
 -- marks

@@ -9,7 +9,7 @@ use lib.ListN.{drop}
 use Rattle.forms.specs.SchemeList.{EntryList}
 use Rattle.text_grammar.specs.Tokens.{tokens}
 use Rattle.text_grammar.specs.Grammar.{readRule, readEntry}
-use Rattle.text_gaps.specs.PartReading.{found, kept, Moved}
+use Rattle.text_grammar.specs.ItemReading.{found, kept, Moved}
 use Rattle.text_schemes.specs.SchemeLoaded.{ruleOf, entryOf, loadedScheme}
 use Rattle.text_schemes.specs.declared.parts.RuleRead.{RuleRead}
 use Rattle.text_schemes.specs.declared.parts.EntryRead.{EntryRead}

@@ -2,7 +2,8 @@
 -- Assumes nothing.
 use mathlib.Core.Path.{sym, _∙_}
 use borrow.Author.Tests.{not-true, not-false}
-use Rattle.text_gaps.proofs.GapTextLaws.{brace-within, list-empty, list-none, list-vectors}
+use Rattle.text_grammar.proofs.TextItemLaws.{brace-within}
+use Rattle.text_gaps.proofs.GapTextLaws.{list-empty, list-none, list-vectors}
 use borrow.Author.Needs.{needs}
 use Rattle.text_gaps.proofs.gap_reader.gaps_at.Statement.{statement}
 use Rattle.text_gaps.proofs.gap_reader.gaps_at.Tie as tie

@@ -3,7 +3,8 @@
 -- Assumes nothing.
 use mathlib.Core.Path.{sym, _∙_}
 use borrow.Author.Tests.{not-true, not-false}
-use Rattle.text_gaps.proofs.GapNumberLaws.{number-other, run-length, number-run}
+use Rattle.text_grammar.proofs.TextRunLaws.{run-length}
+use Rattle.text_gaps.proofs.GapNumberLaws.{number-other, number-run}
 use borrow.Author.Needs.{needs}
 use Rattle.text_gaps.proofs.gap_reader.number_at.Statement.{statement}
 use Rattle.text_gaps.proofs.gap_reader.number_at.Tie as tie

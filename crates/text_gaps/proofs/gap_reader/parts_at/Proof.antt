@@ -10,8 +10,7 @@ use Rattle.text_grammar.specs.Spelling.{right}
 use Rattle.text_grammar.specs.Tokens.{tokens}
 use Rattle.text_grammar.specs.Grammar.{items, readNumber}
 use Rattle.text_gaps.specs.GapMemory.{gapOf}
-use Rattle.text_gaps.specs.PartReading.{kept}
-use Rattle.text_gaps.specs.ItemReading.{leftOf, Within}
+use Rattle.text_grammar.specs.ItemReading.{kept, leftOf, Within}
 use Rattle.text_gaps.specs.GapReading.{goingGap}
 use Rattle.text_gaps.proofs.GapTextLaws.{parts-start, no-parts, parts-end}
 use borrow.Author.Needs.{needs}

@@ -9,8 +9,8 @@ use borrow.Author.Tests.{not-true, not-false}
 use Rattle.text_grammar.specs.Spelling.{byte}
 use Rattle.text_grammar.specs.Tokens.{tokens}
 use Rattle.text_grammar.specs.Grammar.{items, readVector}
-use Rattle.text_gaps.specs.PartReading.{kept, loadedGaps}
-use Rattle.text_gaps.specs.ItemReading.{leftOf, Within}
+use Rattle.text_gaps.specs.PartReading.{loadedGaps}
+use Rattle.text_grammar.specs.ItemReading.{kept, leftOf, Within}
 use Rattle.text_gaps.specs.GapReading.{goingGaps}
 use Rattle.text_gaps.proofs.GapTextLaws.{vectors-start, no-vectors, vectors-end}
 use borrow.Author.Needs.{needs}

@@ -2,7 +2,7 @@
 -- Assumes nothing.
 use mathlib.Core.Path.{ap₂, _∙_}
 use borrow.Author.Tests.{not-true, not-false}
-use Rattle.text_gaps.specs.ItemReading.{turnOf}
+use Rattle.text_grammar.specs.ItemReading.{turnOf}
 use Rattle.text_gaps.proofs.GapTextLaws.{gap-wrong, gap-stored}
 use borrow.Author.Needs.{needs}
 use Rattle.text_gaps.proofs.gap_reader.with_vector.Statement.{statement}

@@ -5,7 +5,7 @@ use mathlib.Core.Path.{sym, _∙_}
 use Rattle.text_schemes.proofs.EntryTextLaws.{prefixed, prefixed-other}
 use borrow.Author.Needs.{needs}
 use Rattle.text_schemes.proofs.scheme_reader.prefix_at.Statement.{statement}
-use Rattle.text_gaps.proofs.GapNumberLaws.{run-length}
+use Rattle.text_grammar.proofs.TextRunLaws.{run-length}
 use Rattle.text_schemes.proofs.scheme_reader.prefix_at.Tie as tie
 
 digits-at-requires : tie.Need-digits-at-requires

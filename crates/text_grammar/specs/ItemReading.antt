@@ -1,20 +1,32 @@
--- Items of a list, read one after the other: what comes after an item, and what is read in all from
--- a place on. Definitions only.
+-- What the readers of parts promise, and items of a list that are read one after the other: what
+-- comes after an item, and what is read in all from a place on. Definitions only.
 use Prim.Native.Nat.{ℕ, _+_, _-_, _≤_, _<_}
 use mathlib.Core.Path.{_≡_}
 use mathlib.Core.Bool.{Bool, true, false, cond}
-use mathlib.Core.List.{List}
+use mathlib.Core.List.{List, [], _∷_}
 use lib.ListN.{length, drop}
 use Rattle.text_grammar.specs.Spelling.{Token}
 use Rattle.text_grammar.specs.Tokens.{tokens}
 use Rattle.text_grammar.specs.Kinds.{isRight, isByte}
 use Rattle.text_grammar.specs.Grammar.{Read, misspelt, got, items}
-use Rattle.text_gaps.specs.PartReading.{kept}
 use Rattle.text_grammar.specs.declared.cursor.Kind.{Kind}
-use Rattle.text_gaps.specs.declared.gap_reader.Turn.{Turn}
-use Rattle.text_gaps.specs.declared.gap_reader.Turn.the-variants.{More, Done, Wrong}
-use Rattle.text_patterns.specs.PatternWalk.{oneIf}
-use Rattle.text_patterns.specs.PatternMemory.{added}
+use Rattle.text_grammar.specs.declared.items.Turn.{Turn}
+use Rattle.text_grammar.specs.declared.items.Turn.the-variants.{More, Done, Wrong}
+
+-- a value and the tokens after it, where the part is spelt
+abbrev pub found : {B : Type 0} → Bool → B → List Token → Read B
+found true x ts = got x ts
+found false x ts = misspelt
+
+-- what a reader of the grammar finds, as the memory keeps it
+abbrev pub kept : {A B : Type 0} → (A → B) → Read A → Read B
+kept load misspelt = misspelt
+kept load (got x ts) = got (load x) ts
+
+-- the cursor behind a part: past its first token where the part is spelt, and within the text
+pub record Moved (s : List ℕ) (at next : ℕ) (spelt : Bool) : Type 0 where
+  pub onward : spelt ≡ true → at < next
+  pub inside : at ≤ length s → next ≤ length s
 
 -- what comes after an item: the closing mark, or else a comma
 
@@ -39,11 +51,21 @@ isDone Wrong = false
 
 -- what is read in all where m is kept so far and these tokens come
 
+module _ {A B C : Type 0} (load : A → C) (store : B → C → B) where
+  -- the memory m with the items of a list behind its own
+  abbrev pub added : B → List A → B
+  added m [] = m
+  added m (x ∷ l) = added (store m (load x)) l
+
 module _ {A B C : Type 0} (read : List Token → Read A) (close : Token) (load : A → C) (store : B → C → B) where
   abbrev pub going : Turn → B → List Token → Read B
   going More m ts = kept (added load store m) (items read close ts)
   going Done m ts = got m ts
   going Wrong m ts = misspelt
+
+abbrev pub oneIf : Bool → ℕ
+oneIf true = 1
+oneIf false = 0
 
 -- what is left to read
 unfoldable pub leftOf : List ℕ → Turn → ℕ → ℕ
