@@ -1,7 +1,7 @@
 // A prefix as one number, so that prefixes are compared, and looked up, as numbers.
+use word::bytes::long;
 use word::limits::PREFIX;
-ghost use mathlib.Core.Path.{_≡_};
-ghost use Prim.Native.Nat.{_≤_, _<_};
+ghost use Prim.Native.Nat.{_≤_};
 ghost use lib.ListN.{take};
 ghost use Rattle.word.specs.Ceilings.{PREFIX};
 ghost use Rattle.forms.specs.Codes.{IsCode};
@@ -19,11 +19,4 @@ pub fn code_of(digits: [u8; PREFIX], length: usize) -> u64
         code = code * 256 + long(digits[j]);
     }
     code
-}
-
-// A byte as a number of 64 bits.
-fn long(x: u8) -> u64
-    ensures { λ r. ⌜ (r ≡ x) × (r < 256) ⌝ }
-{
-    x as u64
 }

@@ -1,5 +1,6 @@
 // What is kept of an input of three lines, as far as a line may be long; the number in the third
 // line.
+use word::bytes::wide;
 use word::limits::PATTERN_TEXT;
 use word::limits::SCHEME_TEXT;
 ghost use mathlib.Core.Path.{_≡_};
@@ -151,11 +152,4 @@ pub fn least(a: usize, b: usize) -> usize
     ensures { λ r. ⌜ (r ≡ min a b) × (r ≤ b) ⌝ }
 {
     if a < b { a } else { b }
-}
-
-// A byte as a number.
-fn wide(x: u8) -> usize
-    ensures { λ r. ⌜ r ≡ x ⌝ }
-{
-    x as usize
 }

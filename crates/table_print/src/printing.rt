@@ -17,7 +17,6 @@ use table_text::printing::put_counts;
 use table_text::printing::put_refusal;
 use word::limits::CELLS;
 use word::refusal::Refusal;
-ghost use mathlib.Core.Path.{_≡_};
 ghost use mathlib.Core.List.{[]};
 ghost use Prim.Native.Nat.{_≤_};
 ghost use lib.ListN.{take};

@@ -3,11 +3,11 @@
 use text_page::bytes::put;
 use text_page::bytes::put_bytes;
 use text_page::bytes::put_decimal;
+use word::bytes::long;
 use word::limits::COUNTS;
 use word::refusal::Refusal;
 use word::refusal::number;
-ghost use mathlib.Core.Path.{_≡_};
-ghost use mathlib.Core.List.{[], _∷_};
+ghost use mathlib.Core.List.{[]};
 ghost use lib.ListN.{take};
 ghost use Prim.Native.Nat.{_+_, _≤_};
 ghost use Rattle.word.specs.Ceilings.{LENGTH};
@@ -47,20 +47,13 @@ pub fn put_counts(page: &mut [u8], counts: [u64; COUNTS], n: usize) -> usize
     next
 }
 
-// A byte as a number.
-fn wide(x: u8) -> u64
-    ensures { λ r. ⌜ r ≡ x ⌝ }
-{
-    x as u64
-}
-
 // Writes the line of a refusal.
 pub fn put_refusal(page: &mut [u8], refusal: Refusal, index: usize) -> usize
     ensures { λ r. ⌜ Writes (refusalLine (toldBy (fault refusal index) [])) 0 (now (page .entry)) (now (page .exit)) r × (r ≤ PAGE) ⌝ }
 {
     let space = put_bytes(page, 0, &REFUSED);
     let second = put(page, space, b' ');
-    let next_space = put_decimal(page, second, wide(number(refusal)));
+    let next_space = put_decimal(page, second, long(number(refusal)));
     let third = put(page, next_space, b' ');
     let end = put_decimal(page, third, index as u64);
     put(page, end, b'\n')

@@ -30,7 +30,6 @@ ghost use Rattle.text_grammar.specs.Tokens.{run, tokens};
 ghost use Rattle.text_grammar.specs.Grammar.{readEntries};
 ghost use Rattle.text_patterns.specs.PatternMemory.{filled};
 ghost use Rattle.text_schemes.specs.SchemeLoaded.{loadedScheme};
-ghost use Rattle.text_grammar.specs.ItemReading.{found, kept};
 ghost use Rattle.text_schemes.specs.SchemeReading.{RuleAt, EntryAt, schemeText};
 ghost use Rattle.text_schemes.specs.EntryReading.{MarkAt, ChoiceAt, PrefixAt, HeadAt, MiddleAt, TailAt};
 ghost use Rattle.text_schemes.specs.EntryReading.{ItemAt};

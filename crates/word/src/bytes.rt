@@ -8,3 +8,10 @@ pub fn wide(x: u8) -> usize
 {
     x as usize
 }
+
+// A byte as a number of 64 bits.
+pub fn long(x: u8) -> u64
+    ensures { λ r. ⌜ (r ≡ x) × (r < 256) ⌝ }
+{
+    x as u64
+}

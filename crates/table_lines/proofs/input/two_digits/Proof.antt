@@ -27,7 +27,7 @@ returns-4 c = let a = c .before .before .before .before .args in
 
 returns-5 : tie.Need-returns-5
 returns-5 c = let a = c .before .before .before .before .before .before .args in
-    ap Is (ap₂ (λ (x y : ℕ). x * 10 + y) (c .before .wide .ensures) (c .wide2 .ensures))
+    ap Is (ap₂ (λ (x y : ℕ). x * 10 + y) (c .before .wide .ensures .0) (c .wide2 .ensures .0))
     ∙ sym (ap asNumber (two-spelt (a .a) (a .b) (omega arith) (omega arith) (omega arith) (omega arith)))
 
 pub two-digits-spec : {M : Type 1} → statement M

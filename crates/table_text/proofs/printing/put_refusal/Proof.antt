@@ -24,7 +24,7 @@ returns c =
     let further = c .before .before .before .before .before .before .before .before .before .before .put2 .ensures in
     let second = c .before .before .before .before .before .before .put-decimal2 .ensures in
     let end = c .before .before .put3 .ensures in
-    let number = writes-as (first .0) (ap decimal (c .before .before .before .before .before .before .before .before .before .before .before .before .before .before .before .wide .ensures ∙ c .before .before .before .before .before .before .before .before .before .before .before .before .before .before .before .before .number .ensures)) in
+    let number = writes-as (first .0) (ap decimal (c .before .before .before .before .before .before .before .before .before .before .before .before .before .before .before .long .ensures .0 ∙ c .before .before .before .before .before .before .before .before .before .before .before .before .before .before .before .before .number .ensures)) in
     (writes-join word (writes-join space (writes-join number (writes-join further (writes-join (second .0) end)))), omega (arith, word .moved, space .moved, first .1, further .moved, second .1, end .moved))
 
 pub put-refusal-spec : {M : Type 1} → statement M
