@@ -118,7 +118,7 @@ fn fill(plan: &Plan, j: usize, row: &mut [u64], before: &[u64], c: &Binomials) {
                 Step::Sum(children, _) => sum(children, &set, k, row, c),
             }
         };
-        // the next set
+        // the next set of first values, in the order of the cells
         let Some(i) = (0..k).find(|&i| set[i] + 1 < set[i + 1]) else { break };
         set[i] += 1;
         for (l, s) in set[..i].iter_mut().enumerate() {

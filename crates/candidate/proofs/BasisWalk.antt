@@ -63,14 +63,16 @@ from-cons rows lengths n j h l k = rw (add-one j, drop-cons rows j [] h, drop-co
     go m r e = rw e refl
 
 -- whether a word contains no other pattern from place j on
-pub basic-start : (rows : List (List ℕ)) (lengths : List ℕ) (n : ℕ) (β : List ℕ) → basic (patternsOf rows lengths n) β ≡ basic (from rows lengths n 0) β
+pub basic-start : (rows : List (List ℕ)) (lengths : List ℕ) (n : ℕ) (β : List ℕ) →
+    basic (patternsOf rows lengths n) β ≡ basic (from rows lengths n 0) β
 basic-start rows lengths n β = ap (λ P. basic P β) (from-start rows lengths n)
 
 pub basic-none : (P : List (List ℕ)) (β : List ℕ) → P ≡ [] → basic P β ≡ true
 unfolding basic
 basic-none P β e = rw e refl
 
-module _ (rows : List (List ℕ)) (lengths : List ℕ) (n : ℕ) (β : List ℕ) (j : ℕ) (h : j < length rows) (l : j < length lengths) (k : j < n) (t : Bool)
+module _ (rows : List (List ℕ)) (lengths : List ℕ) (n : ℕ) (β : List ℕ) (j : ℕ) (h : j < length rows)
+    (l : j < length lengths) (k : j < n) (t : Bool)
     (e : t ≡ same (take (getD lengths j 0) (getD rows j [])) β || not (contains (take (getD lengths j 0) (getD rows j [])) β)) where
   basic-cons : basic (from rows lengths n j) β ≡ t && basic (from rows lengths n (j + 1)) β
   unfolding basic
@@ -89,7 +91,8 @@ held items j = patternIn (getD items j noPattern)
 held-cut : (l : ℕ) (p : List ℕ) (len : ℕ) → len ≡ length (take l p) → padded len p ≡ take l p
 held-cut l p len e = padded-within len p (omega (arith, length-take l p)) ∙ ap (λ (m : ℕ). take m p) e ∙ take-again l p
 
-one-more : (f g : ℕ → List ℕ) (a n : ℕ) → ((j : ℕ) → a ≤ j → j < a + n → g j ≡ f j) → map g (row a (suc n)) ≡ map f (row a n) ++ (g (a + n) ∷ [])
+one-more : (f g : ℕ → List ℕ) (a n : ℕ) → ((j : ℕ) → a ≤ j → j < a + n → g j ≡ f j) → map g (row a (suc n)) ≡
+    map f (row a n) ++ (g (a + n) ∷ [])
 one-more f g a zero h = let e : a ≡ a + 0 = omega arith in ap {B = List (List ℕ)} (λ (m : ℕ). g m ∷ []) e
 one-more f g a (suc n) h =
     ap₂ (λ (x : List ℕ) (l : List (List ℕ)). x ∷ l) (h a (omega arith) (omega arith))
@@ -122,7 +125,8 @@ module _ (set : List (List ℕ)) (lengths : List ℕ) (count : ℕ) where
     gathered-end h few = record {
       holds =
           sym (g .parts ∙
-          ap (λ (l : List (List ℕ)). map (held items) (row 0 n) ++ keep (basic (patternsOf set lengths count)) l) (from-counted set lengths count i h) ∙
+          ap (λ (l : List (List ℕ)). map (held items) (row 0 n) ++ keep (basic (patternsOf set lengths count)) l)
+          (from-counted set lengths count i h) ∙
           append-nil (map (held items) (row 0 n)));
       few = omega (arith, g .behind, g .inside);
       short = g .short;
@@ -150,12 +154,15 @@ module _ (set : List (List ℕ)) (lengths : List ℕ) (count : ℕ) where
         short = g .short;
       }
 
-      pub gathered-take : t ≡ true → len ≤ 8 → Gathered set lengths count (set-at items n (record { digits = getD set i []; length = len })) (n + 1) (i + 1)
+      pub gathered-take : t ≡ true → len ≤ 8 →
+          Gathered set lengths count (set-at items n (record { digits = getD set i []; length = len })) (n + 1)
+          (i + 1)
       gathered-take f low =
           let p : Pattern = record { digits = getD set i []; length = len } in
           let rest : List (List ℕ) = keep (basic (patternsOf set lengths count)) (from set lengths count (i + 1)) in
           let here : getD (set-at items n p) n noPattern ≡ p = getD-set-same items n p noPattern (omega (arith, g .behind, g .room)) in
-          let more : map (held (set-at items n p)) (row 0 (n + 1)) ≡ map (held items) (row 0 n) ++ (take (getD lengths i 0) (getD set i []) ∷ []) =
+          let more : map (held (set-at items n p)) (row 0 (n + 1)) ≡
+          map (held items) (row 0 n) ++ (take (getD lengths i 0) (getD set i []) ∷ []) =
           rw (add-one n)
           (one-more (held items) (held (set-at items n p)) 0 n
           (λ (j : ℕ) (a : 0 ≤ j) (q : j < 0 + n).
@@ -174,7 +181,8 @@ module _ (set : List (List ℕ)) (lengths : List ℕ) (count : ℕ) where
             short = λ (j : ℕ) (q : j < n + 1). short-more p low j q (same-or-not j n) here;
           }
         where
-          short-more : (p : Pattern) → p .length ≤ 8 → (j : ℕ) → j < n + 1 → (j ≡ n) ⊎ (j ≡ n → ⊥) → getD (set-at items n p) n noPattern ≡ p →
+          short-more : (p : Pattern) → p .length ≤ 8 → (j : ℕ) → j < n + 1 → (j ≡ n) ⊎ (j ≡ n → ⊥) →
+              getD (set-at items n p) n noPattern ≡ p →
               (getD (set-at items n p) j noPattern) .length ≤ 8
           short-more p low j q (inl z) here = rw (z, here) low
           short-more p low j q (inr z) here = rw (getD-set-other items n j p noPattern z) (g .short j (omega arith))

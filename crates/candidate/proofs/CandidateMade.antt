@@ -7,7 +7,8 @@ use native.Mathlib.Numerals.{add-one}
 use native.Mathlib.Omega.{arith}
 use mathlib.Core.Path.{_≡_, refl, sym, ap, ap₂, _∙_}
 use mathlib.Core.Bool.{Bool, true, false, not, cond}
-use mathlib.Core.List.{List, [], _∷_, _++_, map, map-map, append-nil, List·Memᴰ, List·Memᴰ·head, List·Memᴰ·tail, Memᴰ·map, Memᴰ·of-map, Memᴰ·append-right}
+use mathlib.Core.List.{List, [], _∷_, _++_, map, map-map, append-nil, List·Memᴰ, List·Memᴰ·head, List·Memᴰ·tail}
+use mathlib.Core.List.{Memᴰ·map, Memᴰ·of-map, Memᴰ·append-right}
 use lib.ListN.{length, getD, take, drop, set, length-drop, take-append-drop}
 use lib.Seq.{take-suc-set, append-snoc, getD-take, length-take-le}
 use borrow.Author.Tests.{eq-eqb, ne-eqb}
@@ -68,11 +69,13 @@ from-keep t R i (x ∷ w) h =
     go (has i R) (t x) here (from-keep t R (suc i) w (λ (j : ℕ) (l : j < length w). rw (suc-add, ← add-suc) (h (suc j) (omega arith))))
   where
     go : (b c : Bool) → c ≡ b → withoutFrom R (suc i) w ≡ keep (λ a. not (t a)) w →
-        cond b (withoutFrom R (suc i) w) (x ∷ withoutFrom R (suc i) w) ≡ cond (not c) (x ∷ keep (λ a. not (t a)) w) (keep (λ a. not (t a)) w)
+        cond b (withoutFrom R (suc i) w) (x ∷ withoutFrom R (suc i) w) ≡
+        cond (not c) (x ∷ keep (λ a. not (t a)) w) (keep (λ a. not (t a)) w)
     go true c e ih = rw e ih
     go false c e ih = rw e (ap (λ (v : List ℕ). x ∷ v) ih)
 
-pub without-keep : (R p : List ℕ) → isPerm p ≡ true → all (within (length p)) R ≡ true → without R p ≡ keep (λ a. not (has a (map (entry p) R))) p
+pub without-keep : (R p : List ℕ) → isPerm p ≡ true → all (within (length p)) R ≡ true → without R p ≡
+    keep (λ a. not (has a (map (entry p) R))) p
 unfolding entry
 without-keep R p perm inside = without-from R p ∙ from-keep (λ a. has a (map (entry p) R)) R 1 p there
   where
@@ -94,7 +97,8 @@ keep-same f g (x ∷ l) h =
 
 -- the kept values are the actual values of what is left of the prefix
 pub kept-are : (levels gone p R g : List ℕ) → isPerm p ≡ true → length p ≤ 6 → all (within (length p)) R ≡ true → total g ≤ 8 →
-    Says levels (length p + 1) (level g) → Flags gone 9 (λ v. has v (map (entry p) R)) → keptValues levels gone p ≡ map (val g) (without R p)
+    Says levels (length p + 1) (level g) → Flags gone 9 (λ v. has v (map (entry p) R)) → keptValues levels gone p ≡
+    map (val g) (without R p)
 unfolding keptValues val
 kept-are levels gone p R g perm six inside small says flags =
     let left : List ℕ = keep (λ a. not (has a (map (entry p) R))) p in
@@ -147,5 +151,7 @@ module _ (prefix : List ℕ) (k : ℕ) (levels gone row : List ℕ) (len t : ℕ
       let size : length p ≡ k = ap length (r .prefix-is) ∙ length-take-le k prefix long in
       rw (← r .prefix-is, ← r .pattern-is)
       (ap₂ _++_
-      (kept-are levels gone p R g (r .perm) (omega arith) (rw size (r .inside)) (omega (arith, r .whole)) (rw size (r .says-levels)) (r .flags-gone))
-      (rest-are need (drop (len - t) β) g (r .says-need) (λ (y : ℕ) (m : List·Memᴰ y (drop (len - t) β)). r .small y (drop-mem (len - t) β m))))
+      (kept-are levels gone p R g (r .perm) (omega arith) (rw size (r .inside)) (omega (arith, r .whole))
+      (rw size (r .says-levels)) (r .flags-gone))
+      (rest-are need (drop (len - t) β) g (r .says-need)
+      (λ (y : ℕ) (m : List·Memᴰ y (drop (len - t) β)). r .small y (drop-mem (len - t) β m))))

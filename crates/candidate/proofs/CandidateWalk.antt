@@ -72,7 +72,8 @@ pub violates-missed : (P : List (List ℕ)) (p R g β : List ℕ) → hit p R g 
 unfolding violates
 violates-missed P p R g β e = rw e refl
 
-pub violates-hit : (P : List (List ℕ)) (p R g β w : List ℕ) → hit p R g β ≡ true → w ≡ built (without R p) g (reduce (drop (headLength β (total g)) β)) →
+pub violates-hit : (P : List (List ℕ)) (p R g β w : List ℕ) → hit p R g β ≡ true → w ≡
+    built (without R p) g (reduce (drop (headLength β (total g)) β)) →
     violates P p R g β ≡ avoids P w
 unfolding violates
 violates-hit P p R g β w e q = rw (e, q) refl
@@ -91,7 +92,8 @@ pub any-keep : (h f : List ℕ → Bool) (l : List (List ℕ)) → any f (keep h
 any-keep h f [] = refl
 any-keep h f (x ∷ l) = go (h x) (any-keep h f l)
   where
-    go : (c : Bool) → any f (keep h l) ≡ any (λ x. h x && f x) l → any f (cond c (x ∷ keep h l) (keep h l)) ≡ (c && f x) || any (λ x. h x && f x) l
+    go : (c : Bool) → any f (keep h l) ≡ any (λ x. h x && f x) l → any f (cond c (x ∷ keep h l) (keep h l)) ≡
+        (c && f x) || any (λ x. h x && f x) l
     go true e = ap (λ (b : Bool). f x || b) e
     go false e = e
 
@@ -138,7 +140,8 @@ module _ (f : List ℕ → Bool) where
   totals-later k m t h e = totals-cons k m t h ∙ rw e refl
 
 -- what `spacing_violated` looks up, for the positions R and the spacing g
-pub record Looked (set : List (List ℕ)) (lengths : List ℕ) (count : ℕ) (needs : List ℕ) (p gone levels : List ℕ) (t : ℕ) (R g : List ℕ) : Type 0 where
+pub record Looked (set : List (List ℕ)) (lengths : List ℕ) (count : ℕ) (needs : List ℕ) (p gone levels : List ℕ)
+    (t : ℕ) (R g : List ℕ) : Type 0 where
   pub given : Given set lengths count p R
   pub flags : Flags gone 9 (λ v. has v (map (entry p) R))
   pub size : length g ≡ suc (length p)
@@ -161,11 +164,15 @@ module _ (set : List (List ℕ)) (lengths : List ℕ) (count : ℕ) (needs : Lis
       false ≡ violated (patternsOf set lengths count) p R g
   passed-end i h I R g L = sym (I R g L ∙ some-counted (violates (patternsOf set lengths count) p R g) set lengths count i h)
 
-  module _ (i : ℕ) (hr : i < length set) (hl : i < length lengths) (hn : i < count) (eight : length (patternAt set lengths i) ≤ 8) (I : Passed i) where
-    pub look : (R g : List ℕ) → Looked set lengths count needs p gone levels t R g → Ready p R g (patternAt set lengths i) levels gone (needAt needs t i)
-    look R g L = ready set lengths count p R g levels gone needs t i (L .given) (L .size) (L .whole) (L .said) (L .flags) (L .needed) hn eight
+  module _ (i : ℕ) (hr : i < length set) (hl : i < length lengths) (hn : i < count)
+      (eight : length (patternAt set lengths i) ≤ 8) (I : Passed i) where
+    pub look : (R g : List ℕ) → Looked set lengths count needs p gone levels t R g →
+        Ready p R g (patternAt set lengths i) levels gone (needAt needs t i)
+    look R g L = ready set lengths count p R g levels gone needs t i (L .given) (L .size) (L .whole) (L .said)
+        (L .flags) (L .needed) hn eight
 
-    later-passed : ((R g : List ℕ) → Looked set lengths count needs p gone levels t R g → violates (patternsOf set lengths count) p R g (patternAt set lengths i) ≡ false) → Passed (i + 1)
+    later-passed : ((R g : List ℕ) → Looked set lengths count needs p gone levels t R g → violates
+        (patternsOf set lengths count) p R g (patternAt set lengths i) ≡ false) → Passed (i + 1)
     later-passed e R g L = I R g L ∙ some-later (violates (patternsOf set lengths count) p R g) set lengths count i hr hl hn (e R g L)
 
     -- a pattern that is not longer than the total
@@ -174,11 +181,13 @@ module _ (set : List (List ℕ)) (lengths : List ℕ) (count : ℕ) (needs : Lis
         later-passed (λ R g L. violates-missed (patternsOf set lengths count) p R g (patternAt set lengths i)
         (hit-short p R g (patternAt set lengths i) t (L .whole) h))
 
-    module _ (r : Bool) (hits : (R g : List ℕ) → Ready p R g (patternAt set lengths i) levels gone (needAt needs t i) → total g ≡ t → r ≡ hit p R g (patternAt set lengths i)) where
+    module _ (r : Bool) (hits : (R g : List ℕ) → Ready p R g (patternAt set lengths i) levels gone
+        (needAt needs t i) → total g ≡ t → r ≡ hit p R g (patternAt set lengths i)) where
       -- one that does not hit
       pub passed-missed : r ≡ false → Passed (i + 1)
       passed-missed e =
-          later-passed (λ R g L. violates-missed (patternsOf set lengths count) p R g (patternAt set lengths i) (sym (hits R g (look R g L) (L .whole)) ∙ e))
+          later-passed (λ R g L. violates-missed (patternsOf set lengths count) p R g (patternAt set lengths i)
+          (sym (hits R g (look R g L) (L .whole)) ∙ e))
 
       module _ (e : r ≡ true) (w : List ℕ)
           (word : (R g : List ℕ) → Looked set lengths count needs p gone levels t R g →
@@ -186,20 +195,23 @@ module _ (set : List (List ℕ)) (lengths : List ℕ) (count : ℕ) (needs : Lis
         decides : (R g : List ℕ) → Looked set lengths count needs p gone levels t R g →
             violates (patternsOf set lengths count) p R g (patternAt set lengths i) ≡ avoids (patternsOf set lengths count) w
         decides R g L =
-            violates-hit (patternsOf set lengths count) p R g (patternAt set lengths i) w (sym (hits R g (look R g L) (L .whole)) ∙ e) (word R g L)
+            violates-hit (patternsOf set lengths count) p R g (patternAt set lengths i) w
+            (sym (hits R g (look R g L) (L .whole)) ∙ e) (word R g L)
 
         -- one whose candidate contains a pattern without the deleted positions
         pub passed-contained : avoids (patternsOf set lengths count) w ≡ false → Passed (i + 1)
         passed-contained a = later-passed (λ R g L. decides R g L ∙ a)
 
         -- one whose candidate avoids: a violation
-        pub violation : avoids (patternsOf set lengths count) w ≡ true → (R g : List ℕ) → Looked set lengths count needs p gone levels t R g →
+        pub violation : avoids (patternsOf set lengths count) w ≡ true → (R g : List ℕ) →
+            Looked set lengths count needs p gone levels t R g →
             true ≡ violated (patternsOf set lengths count) p R g
         violation a R g L =
             sym (I R g L ∙ some-here (violates (patternsOf set lengths count) p R g) set lengths count i hr hl hn (decides R g L ∙ a))
 
 -- the word that was made is the candidate
-module _ (set : List (List ℕ)) (lengths : List ℕ) (count : ℕ) (needs : List ℕ) (prefix gone levels : List ℕ) (k t i len : ℕ) (wide : length (take k prefix) ≡ k)
+module _ (set : List (List ℕ)) (lengths : List ℕ) (count : ℕ) (needs : List ℕ) (prefix gone levels : List ℕ)
+    (k t i len : ℕ) (wide : length (take k prefix) ≡ k)
     (hn : i < count) (long : len ≡ length (patternAt set lengths i)) (eight : len ≤ 8) (short : t ≤ len) (w : List ℕ)
     (made : IsCandidate prefix k levels gone (getD set i []) len t (needAt needs t i) w) where
   cut : take len (getD set i []) ≡ patternAt set lengths i
@@ -242,7 +254,8 @@ abbrev pub lost : List (List ℕ) → List (List ℕ) → List ℕ → List ℕ 
 lost B P p R g = free B g && violated P p R g
 
 -- the state of the walk over the spacings of a total: those before v have no violation
-pub record Walked (set : List (List ℕ)) (lengths : List ℕ) (count : ℕ) (p gone : List ℕ) (B : List (List ℕ)) (k t : ℕ) (v : List ℕ) : Type 0 where
+pub record Walked (set : List (List ℕ)) (lengths : List ℕ) (count : ℕ) (p gone : List ℕ) (B : List (List ℕ))
+    (k t : ℕ) (v : List ℕ) : Type 0 where
   pub whole : total v ≡ t
   pub size : length v ≡ suc k
   pub rest :
@@ -290,14 +303,16 @@ pub entry-defined : (P : List (List ℕ)) (p : List ℕ) (B : List (List ℕ)) (
 unfolding irreversible
 entry-defined P p B R k m e h = rw (e, h) (any-keep (free B) (violated P p R) (each (vectors (suc (length p))) (row 0 (longest P))))
 
-mem-pattern : (set : List (List ℕ)) (lengths : List ℕ) (n : ℕ) {β : List ℕ} → List·Memᴰ β (patternsOf set lengths n) → (i : ℕ) × (i < n) × (β ≡ patternAt set lengths i)
+mem-pattern : (set : List (List ℕ)) (lengths : List ℕ) (n : ℕ) {β : List ℕ} →
+    List·Memᴰ β (patternsOf set lengths n) → (i : ℕ) × (i < n) × (β ≡ patternAt set lengths i)
 mem-pattern set lengths zero m = absurd (List·Memᴰ·not-nil m)
 mem-pattern [] lengths (suc n) m = absurd (List·Memᴰ·not-nil m)
 mem-pattern (r ∷ set) [] (suc n) m = absurd (List·Memᴰ·not-nil m)
 mem-pattern (r ∷ set) (k ∷ lengths) (suc n) (List·Memᴰ·head e) = (0, omega arith, e)
 mem-pattern (r ∷ set) (k ∷ lengths) (suc n) (List·Memᴰ·tail m) = let (i, h, e) = mem-pattern set lengths n m in (suc i, omega arith, e)
 
-pub entry-answer : (set : List (List ℕ)) (lengths : List ℕ) (count : ℕ) (p : List ℕ) (B : List (List ℕ)) (R : List ℕ) (r : Bool) → Given set lengths count p R →
+pub entry-answer : (set : List (List ℕ)) (lengths : List ℕ) (count : ℕ) (p : List ℕ) (B : List (List ℕ))
+    (R : List ℕ) (r : Bool) → Given set lengths count p R →
     r ≡ irreversible (patternsOf set lengths count) p B R → EntryAnswer (patternsOf set lengths count) p B R r
 entry-answer set lengths count p B R r G e =
     record {
@@ -312,7 +327,8 @@ entry-answer set lengths count p B R r G e =
     law = irreversible-law (patternsOf set lengths count) p R (G .perm) (G .inside) apart B
 
 -- a word that contains the pattern at a place of the set does not avoid the set
-pub not-avoided : (set : List (List ℕ)) (lengths : List ℕ) (count i : ℕ) (w : List ℕ) → i < count → count ≤ length set → count ≤ length lengths →
+pub not-avoided : (set : List (List ℕ)) (lengths : List ℕ) (count i : ℕ) (w : List ℕ) → i < count →
+    count ≤ length set → count ≤ length lengths →
     contains (patternAt set lengths i) w ≡ true → avoids (patternsOf set lengths count) w ≡ false
 not-avoided set lengths count i w h r l e = go (avoids (patternsOf set lengths count) w) refl
   where

@@ -33,7 +33,8 @@ pub hit-placed : (p R g β levels gone need : List ℕ) → Ready p R g β level
 unfolding hit
 hit-placed p R g β levels gone need r h =
     rw (lt-ltb (total g) (length β) h)
-    (place-same (under (drop (headLength β (total g)) β)) (entryOf need) (level g) (entryOf levels) (λ a. has a (map (entry p) R)) (flagged gone)
+    (place-same (under (drop (headLength β (total g)) β)) (entryOf need) (level g) (entryOf levels)
+    (λ a. has a (map (entry p) R)) (flagged gone)
     (take (length β - total g) β) p
     (λ x m. sym (r .said-need (omega arith) x (digit x (take-mem (length β - total g) β m))))
     (λ a m. sym (r .said-levels a (value a m)))
@@ -49,10 +50,12 @@ hit-placed p R g β levels gone need r h =
     flag a m = let (low, high) = perm-bounds p (r .perm) m in omega (arith, r .short)
 
 -- the same with the pattern cut out of its row
-pub hit-row : (p R g row : List ℕ) (len t : ℕ) (levels gone need : List ℕ) → len ≤ length row → Ready p R g (take len row) levels gone need → total g ≡ t →
+pub hit-row : (p R g row : List ℕ) (len t : ℕ) (levels gone need : List ℕ) → len ≤ length row →
+    Ready p R g (take len row) levels gone need → total g ≡ t →
     t < len → hit p R g (take len row) ≡ place (entryOf need) (entryOf levels) (flagged gone) false [] [] (take (len - t) row) p
 hit-row p R g row len t levels gone need l r e h =
     let long : length (take len row) ≡ len = length-take-le len row l in
     hit-placed p R g (take len row) levels gone need r (omega arith) ∙
     ap (λ (w : List ℕ). place (entryOf need) (entryOf levels) (flagged gone) false [] [] w p)
-    (ap (λ (n : ℕ). take n (take len row)) ((ap (λ (n : ℕ). n - total g) long) ∙ ap (λ (n : ℕ). len - n) e) ∙ take-take (len - t) len row (omega arith))
+    (ap (λ (n : ℕ). take n (take len row)) ((ap (λ (n : ℕ). n - total g) long) ∙ ap (λ (n : ℕ). len - n) e) ∙
+    take-take (len - t) len row (omega arith))

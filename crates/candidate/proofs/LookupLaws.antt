@@ -62,7 +62,7 @@ pub says-first : (a : List ℕ) (f : ℕ → ℕ) → getD a 0 0 ≡ f 0 → Say
 says-first a f e zero h = e
 says-first a f e (suc v) h = absurd (omega arith)
 
--- levels
+-- the level of the next value, and of the last
 
 level-next : (g : List ℕ) (v : ℕ) → v < length g → level g (suc v) ≡ level g v + getD g v 0
 unfolding level
@@ -110,7 +110,8 @@ module _ (prefix positions : List ℕ) (k n j : ℕ) (fits : k ≤ length prefix
   pub position-bounds : (1 ≤ getD positions j 0) × (getD positions j 0 ≤ k)
   position-bounds =
       let l : j < length (take n positions) = omega (arith, length-take-le n positions room) in
-      within-out k (getD positions j 0) (rw (getD-take n positions j 0 h) at (all-out (within k) (getD-mem (take n positions) j 0 l) inside))
+      within-out k (getD positions j 0) (rw (getD-take n positions j 0 h) at
+      (all-out (within k) (getD-mem (take n positions) j 0 l) inside))
 
   pub position-value : entry (take k prefix) (getD positions j 0) ≡ getD prefix (getD positions j 0 - 1) 0
   unfolding entry
@@ -158,7 +159,8 @@ lower-none lev s v (suc n) h = rw (le-ltb (lev v) s (h v (omega arith))) (lower-
 lower-shift : (x : ℕ) (g : List ℕ) (s v n : ℕ) → x < s → lower (level (x ∷ g)) s (suc v) n ≡ lower (level g) (s - x) v n
 unfolding lower level
 lower-shift x g s v zero h = refl
-lower-shift x g s v (suc n) h = ap₂ (λ (b : Bool) (m : ℕ). cond b (suc m) m) (go (below-or-not (level g v) (s - x))) (lower-shift x g s (suc v) n h)
+lower-shift x g s v (suc n) h = ap₂ (λ (b : Bool) (m : ℕ). cond b (suc m) m) (go (below-or-not (level g v) (s - x)))
+    (lower-shift x g s (suc v) n h)
   where
     go : (level g v < s - x) ⊎ (s - x ≤ level g v) → ltb (x + level g v) s ≡ ltb (level g v) (s - x)
     go (inl l) = lt-ltb (x + level g v) s (omega arith) ∙ sym (lt-ltb (level g v) (s - x) l)
@@ -195,7 +197,8 @@ lower-same f g s v (suc n) m l h =
 -- what is still to be counted, of the values v to k
 
 module _ (f : ℕ → ℕ) (s k v : ℕ) where
-  lower-head : v ≤ k → lower f s v (suc k - v) ≡ cond (ltb (f v) s) (suc (lower f s (v + 1) (suc k - (v + 1)))) (lower f s (v + 1) (suc k - (v + 1)))
+  lower-head : v ≤ k → lower f s v (suc k - v) ≡
+      cond (ltb (f v) s) (suc (lower f s (v + 1) (suc k - (v + 1)))) (lower f s (v + 1) (suc k - (v + 1)))
   unfolding lower
   lower-head h = go (suc k - v) (suc k - (v + 1)) (omega arith)
     where
@@ -216,7 +219,8 @@ module _ (f : ℕ → ℕ) (s k v : ℕ) where
       go a e = rw e refl
 
 -- the count from 1 on lifts s, by a table that says the levels of g
-pub lower-lifts : (a g : List ℕ) (k s : ℕ) → length g ≡ k + 1 → Says a (k + 1) (level g) → s ≤ total g → s + lower (entryOf a) s 1 (suc k - 1) ≡ lift g s
+pub lower-lifts : (a g : List ℕ) (k s : ℕ) → length g ≡ k + 1 → Says a (k + 1) (level g) → s ≤ total g →
+    s + lower (entryOf a) s 1 (suc k - 1) ≡ lift g s
 lower-lifts a g k s l e h =
     let q : suc k - 1 ≡ k = omega arith in
     rw (q, lower-same (entryOf a) (level g) s 1 k (k + 1) (omega arith) e) (sym (lift-count g k s (omega arith) h))

@@ -35,7 +35,8 @@ module _ (rows : List (List ℕ)) (lengths : List ℕ) where
       go (inl e) = rw (e, getD-set-same needs n y 0 room) new
       go (inr e) = rw (getD-set-other needs n a y 0 e) (F a (omega arith))
 
-  pub all-filled : (count n : ℕ) (needs : List ℕ) → length needs ≡ NEEDS → count * 72 ≤ n → Filled n needs → AllNeeds rows lengths count needs
+  pub all-filled : (count n : ℕ) (needs : List ℕ) → length needs ≡ NEEDS → count * 72 ≤ n → Filled n needs →
+      AllNeeds rows lengths count needs
   all-filled count n needs size enough F = record { sized = size; said = λ t low i h long v b. said t low i h long v b }
     where
       said : (t : ℕ) → t < DIGITS → Needs rows lengths count t needs

@@ -39,14 +39,17 @@ module _ (need lev : ℕ → ℕ) (gone : ℕ → Bool) (H P : List ℕ) where
     placed-level e = step ∙ rw (ne-eqb (lev (getD P i 0)) (need (getD H s 0)) e) refl
 
     module _ (e : lev (getD P i 0) ≡ need (getD H s 0)) where
-      pub placed-pairs : fits (take s H) (getD H s 0) (take s chosen) (getD P i 0) ≡ false → state used chosen s i ≡ state used chosen s (i + 1)
+      pub placed-pairs : fits (take s H) (getD H s 0) (take s chosen) (getD P i 0) ≡ false → state used chosen s i ≡
+          state used chosen s (i + 1)
       placed-pairs f = step ∙ rw (eq-eqb (lev (getD P i 0)) (need (getD H s 0)) e, f) refl
 
       module _ (f : fits (take s H) (getD H s 0) (take s chosen) (getD P i 0) ≡ true) where
-        tried : state used chosen s i ≡ state (used || gone (getD P i 0)) (set chosen s (getD P i 0)) (s + 1) (i + 1) || state used chosen s (i + 1)
+        tried : state used chosen s i ≡ state (used || gone (getD P i 0)) (set chosen s (getD P i 0)) (s + 1)
+            (i + 1) || state used chosen s (i + 1)
         tried = step ∙ rw (eq-eqb (lev (getD P i 0)) (need (getD H s 0)) e, f) refl
 
-        pub placed-here : state (used || gone (getD P i 0)) (set chosen s (getD P i 0)) (s + 1) (i + 1) ≡ true → state used chosen s i ≡ true
+        pub placed-here : state (used || gone (getD P i 0)) (set chosen s (getD P i 0)) (s + 1) (i + 1) ≡ true →
+            state used chosen s i ≡ true
         placed-here r = tried ∙ rw r refl
 
         pub placed-later : state (used || gone (getD P i 0)) (set chosen s (getD P i 0)) (s + 1) (i + 1) ≡ false →
@@ -55,7 +58,8 @@ module _ (need lev : ℕ → ℕ) (gone : ℕ → Bool) (H P : List ℕ) where
 
 -- placing depends on what the three functions say of the entries alone
 pub place-same : (need need′ lev lev′ : ℕ → ℕ) (gone gone′ : ℕ → Bool) (hs ps : List ℕ) →
-    ((x : ℕ) → List·Memᴰ x hs → need x ≡ need′ x) → ((a : ℕ) → List·Memᴰ a ps → lev a ≡ lev′ a) → ((a : ℕ) → List·Memᴰ a ps → gone a ≡ gone′ a) →
+    ((x : ℕ) → List·Memᴰ x hs → need x ≡ need′ x) → ((a : ℕ) → List·Memᴰ a ps → lev a ≡ lev′ a) →
+    ((a : ℕ) → List·Memᴰ a ps → gone a ≡ gone′ a) →
     (used : Bool) (b c : List ℕ) → place need lev gone used b c hs ps ≡ place need′ lev′ gone′ used b c hs ps
 unfolding place
 place-same need need′ lev lev′ gone gone′ [] ps n l d used b c = refl
@@ -65,7 +69,8 @@ place-same need need′ lev lev′ gone gone′ (x ∷ hs) (a ∷ ps) n l d used
       n x (List·Memᴰ·head refl),
       l a (List·Memᴰ·head refl),
       d a (List·Memᴰ·head refl),
-      place-same need need′ lev lev′ gone gone′ hs ps (λ y m. n y (List·Memᴰ·tail m)) (λ y m. l y (List·Memᴰ·tail m)) (λ y m. d y (List·Memᴰ·tail m))
+      place-same need need′ lev lev′ gone gone′ hs ps (λ y m. n y (List·Memᴰ·tail m))
+          (λ y m. l y (List·Memᴰ·tail m)) (λ y m. d y (List·Memᴰ·tail m))
           (used || gone′ a) (b ++ (x ∷ [])) (c ++ (a ∷ [])),
       place-same need need′ lev lev′ gone gone′ (x ∷ hs) ps n (λ y m. l y (List·Memᴰ·tail m)) (λ y m. d y (List·Memᴰ·tail m)) used b c,
     ) refl

@@ -14,4 +14,5 @@ pattern-member rows lengths zero i h r l = absurd (omega arith)
 pattern-member [] lengths (suc n) i h r l = absurd (omega arith)
 pattern-member (x ∷ rows) [] (suc n) i h r l = absurd (omega arith)
 pattern-member (x ∷ rows) (k ∷ lengths) (suc n) zero h r l = List·Memᴰ·head refl
-pattern-member (x ∷ rows) (k ∷ lengths) (suc n) (suc i) h r l = List·Memᴰ·tail (pattern-member rows lengths n i (omega arith) (omega arith) (omega arith))
+pattern-member (x ∷ rows) (k ∷ lengths) (suc n) (suc i) h r l =
+    List·Memᴰ·tail (pattern-member rows lengths n i (omega arith) (omega arith) (omega arith))

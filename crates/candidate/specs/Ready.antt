@@ -56,7 +56,7 @@ pub record Given (set : List (List ℕ)) (lengths : List ℕ) (count : ℕ) (p R
 abbrev pub FlaggedFor : List (List ℕ) → List ℕ → ℕ → List ℕ → List ℕ → List ℕ → Type 0
 FlaggedFor set lengths count p R gone = Given set lengths count p R × Flags gone VALUES (λ v. has v (map (entry p) R))
 
--- at one spacing
+-- the answer r at one spacing: whether it is violated there
 abbrev pub SpacingAnswer : List (List ℕ) → List ℕ → ℕ → List ℕ → List ℕ → List ℕ → List ℕ → ℕ → Bool → Type 0
 SpacingAnswer set lengths count needs p gone g t r =
     (R : List ℕ) → FlaggedFor set lengths count p R gone → length g ≡ suc (length p) → total g ≡ t → Needs set lengths count t needs →

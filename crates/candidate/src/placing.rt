@@ -63,7 +63,9 @@ pub fn placed(
     tables: Tables,
 ) -> bool
     requires { ⌜ length (now head) ≤ DIGITS ⌝ }
-    ensures { λ r. ⌜ r ≡ place (entryOf (tables .need)) (entryOf (tables .levels)) (flagged (tables .gone)) (state .used) (take (state .placed) (now (head .entry))) (take (state .placed) chosen) (drop (state .placed) (now (head .entry))) (drop (state .from) (now (prefix .entry))) ⌝ }
+    ensures { λ r. ⌜ r ≡ place (entryOf (tables .need)) (entryOf (tables .levels)) (flagged (tables .gone))
+        (state .used) (take (state .placed) (now (head .entry))) (take (state .placed) chosen)
+        (drop (state .placed) (now (head .entry))) (drop (state .from) (now (prefix .entry))) ⌝ }
 {
     let s = state.placed;
     let used = state.used;

@@ -78,7 +78,9 @@ fn hits(
     tables: Tables,
 ) -> bool
     requires { ⌜ (len ≤ DIGITS) × (k ≤ PREFIX) ⌝ }
-    ensures { λ r. ⌜ ((R g : List ℕ) → Ready (take k prefix) R g (take len row) (tables .levels) (tables .gone) (tables .need) → total g ≡ t → r ≡ hit (take k prefix) R g (take len row)) ⌝ }
+    ensures { λ r.
+        ⌜ ((R g : List ℕ) → Ready (take k prefix) R g (take len row) (tables .levels) (tables .gone)
+        (tables .need) → total g ≡ t → r ≡ hit (take k prefix) R g (take len row)) ⌝ }
 {
     if len <= t {
         return false;
@@ -120,8 +122,12 @@ fn spacing_violated(
     needs: &[u8],
     at: At,
 ) -> bool
-    requires { ⌜ (count ≤ PATTERNS) × (at .deleted .length ≤ PREFIX) × (total (take (at .deleted .length + 1) (at .spacing)) ≤ TOTAL) × (at .total < DIGITS) × (length (now needs) ≡ NEEDS) ⌝ }
-    ensures { λ r. ⌜ SpacingAnswer set lengths count (now (needs .entry)) (take (at .deleted .length) (at .deleted .prefix)) (at .deleted .gone) (take (at .deleted .length + 1) (at .spacing)) (at .total) r ⌝ }
+    requires { ⌜ (count ≤ PATTERNS) × (at .deleted .length ≤ PREFIX) ×
+        (total (take (at .deleted .length + 1) (at .spacing)) ≤ TOTAL) × (at .total < DIGITS) ×
+        (length (now needs) ≡ NEEDS) ⌝ }
+    ensures { λ r. ⌜ SpacingAnswer set lengths count (now (needs .entry))
+        (take (at .deleted .length) (at .deleted .prefix)) (at .deleted .gone)
+        (take (at .deleted .length + 1) (at .spacing)) (at .total) r ⌝ }
 {
     let d = at.deleted;
     let prefix = d.prefix;
@@ -168,8 +174,13 @@ fn free_and_violated(
     gaps: &[u8],
     at: At,
 ) -> bool
-    requires { ⌜ (count ≤ PATTERNS) × (at .deleted .length ≤ PREFIX) × (total (take (at .deleted .length + 1) (at .spacing)) ≤ TOTAL) × (at .total < DIGITS) × (length (now needs) ≡ NEEDS) × HasVectors (now gaps) (at .deleted .«gap_count») ⌝ }
-    ensures { λ r. ⌜ FreeAnswer set lengths count (now (needs .entry)) (take (at .deleted .length) (at .deleted .prefix)) (at .deleted .gone) (gapsOf (now (gaps .entry)) (at .deleted .length + 1) (at .deleted .«gap_count»)) (take (at .deleted .length + 1) (at .spacing)) (at .total) r ⌝ }
+    requires { ⌜ (count ≤ PATTERNS) × (at .deleted .length ≤ PREFIX) ×
+        (total (take (at .deleted .length + 1) (at .spacing)) ≤ TOTAL) × (at .total < DIGITS) ×
+        (length (now needs) ≡ NEEDS) × HasVectors (now gaps) (at .deleted .«gap_count») ⌝ }
+    ensures { λ r. ⌜ FreeAnswer set lengths count (now (needs .entry))
+        (take (at .deleted .length) (at .deleted .prefix)) (at .deleted .gone)
+        (gapsOf (now (gaps .entry)) (at .deleted .length + 1) (at .deleted .«gap_count»))
+        (take (at .deleted .length + 1) (at .spacing)) (at .total) r ⌝ }
 {
     let d = at.deleted;
     let g = at.spacing;
@@ -189,8 +200,11 @@ fn total_violated(
     gaps: &[u8],
     of: OfTotal,
 ) -> bool
-    requires { ⌜ (count ≤ PATTERNS) × (of .deleted .length ≤ PREFIX) × (of .total < DIGITS) × AllNeeds set lengths count (now needs) × HasVectors (now gaps) (of .deleted .«gap_count») ⌝ }
-    ensures { λ r. ⌜ TotalAnswer set lengths count (take (of .deleted .length) (of .deleted .prefix)) (of .deleted .gone) (gapsOf (now (gaps .entry)) (of .deleted .length + 1) (of .deleted .«gap_count»)) (of .deleted .length) (of .total) r ⌝ }
+    requires { ⌜ (count ≤ PATTERNS) × (of .deleted .length ≤ PREFIX) × (of .total < DIGITS) ×
+        AllNeeds set lengths count (now needs) × HasVectors (now gaps) (of .deleted .«gap_count») ⌝ }
+    ensures { λ r. ⌜ TotalAnswer set lengths count (take (of .deleted .length) (of .deleted .prefix))
+        (of .deleted .gone) (gapsOf (now (gaps .entry)) (of .deleted .length + 1) (of .deleted .«gap_count»))
+        (of .deleted .length) (of .total) r ⌝ }
 {
     let deleted = of.deleted;
     let t = of.total;
@@ -223,8 +237,14 @@ pub fn irreversible(
     gaps: &[u8],
     deletion: Deletion,
 ) -> bool
-    requires { ⌜ AllNeeds set lengths count (now needs) × (deletion .length ≤ PREFIX) × (deletion .«position_count» ≤ PREFIX) × (deletion .longest ≡ longest (patternsOf set lengths count)) × (deletion .longest ≤ DIGITS) × HasVectors (now gaps) (deletion .«gap_count») × Given set lengths count (take (deletion .length) (deletion .prefix)) (take (deletion .«position_count») (deletion .positions)) ⌝ }
-    ensures { λ r. ⌜ EntryAnswer (patternsOf set lengths count) (take (deletion .length) (deletion .prefix)) (gapsOf (now (gaps .entry)) (deletion .length + 1) (deletion .«gap_count»)) (take (deletion .«position_count») (deletion .positions)) r ⌝ }
+    requires { ⌜ AllNeeds set lengths count (now needs) × (deletion .length ≤ PREFIX) ×
+        (deletion .«position_count» ≤ PREFIX) × (deletion .longest ≡ longest (patternsOf set lengths count)) ×
+        (deletion .longest ≤ DIGITS) × HasVectors (now gaps) (deletion .«gap_count») ×
+        Given set lengths count (take (deletion .length) (deletion .prefix))
+        (take (deletion .«position_count») (deletion .positions)) ⌝ }
+    ensures { λ r. ⌜ EntryAnswer (patternsOf set lengths count) (take (deletion .length) (deletion .prefix))
+        (gapsOf (now (gaps .entry)) (deletion .length + 1) (deletion .«gap_count»))
+        (take (deletion .«position_count») (deletion .positions)) r ⌝ }
 {
     let prefix = deletion.prefix;
     let k = deletion.length;

@@ -156,7 +156,8 @@ pub fn kept(prefix: [u8; PREFIX], k: usize, levels: [u8; VALUES], gone: [u8; VAL
 // each by the level that it needs.
 fn with_rest(w: Word, row: [u8; DIGITS], from: usize, to: usize, tables: Tables, k: usize) -> Word
     requires { ⌜ (k ≤ PREFIX) × (from ≤ to) × (to ≤ DIGITS) × (w .length ≤ PREFIX) ⌝ }
-    ensures { λ r. ⌜ (r .length ≤ PREFIX + DIGITS) × Rest row from to (tables .need) (tables .levels) k (take (w .length) (w .entries)) (take (r .length) (r .entries)) ⌝ }
+    ensures { λ r. ⌜ (r .length ≤ PREFIX + DIGITS) × Rest row from to (tables .need) (tables .levels) k
+        (take (w .length) (w .entries)) (take (r .length) (r .entries)) ⌝ }
 {
     let need = tables.need;
     let levels = tables.levels;
@@ -186,7 +187,8 @@ pub fn candidate_word(
     tables: Tables,
 ) -> Word
     requires { ⌜ (k ≤ PREFIX) × (t ≤ len) × (len ≤ DIGITS) ⌝ }
-    ensures { λ r. ⌜ (r .length ≤ PREFIX + DIGITS) × IsCandidate prefix k (tables .levels) (tables .gone) row len t (tables .need) (take (r .length) (r .entries)) ⌝ }
+    ensures { λ r. ⌜ (r .length ≤ PREFIX + DIGITS) × IsCandidate prefix k (tables .levels) (tables .gone) row
+        len t (tables .need) (take (r .length) (r .entries)) ⌝ }
 {
     let levels = tables.levels;
     let gone = tables.gone;

@@ -11,7 +11,8 @@ use Rattle.word.specs.Lists.{all, keep}
 use Rattle.word.specs.Word.{iso, contains, avoids, longest, reduce, within, isPerm, perms}
 use Rattle.word.specs.ListLaws.{true-not-false, not-out, same-test, all-out, all-fails, keep-out, keep-in}
 use Rattle.word.specs.IsoLaws.{iso-length}
-use Rattle.word.specs.ContainsLaws.{contains-out, contains-self, contains-trans, avoids-fails, avoids-none, avoids-by, avoids-not, longest-at-least}
+use Rattle.word.specs.ContainsLaws.{contains-out, contains-self, contains-trans, avoids-fails, avoids-none}
+use Rattle.word.specs.ContainsLaws.{avoids-by, avoids-not, longest-at-least}
 use Rattle.word.specs.PermLaws.{perm-distinct, reduce-perm}
 use Rattle.cell.specs.Cell.{same, spacing, inCell, cell, total, deleted, merged}
 use Rattle.cell.specs.Claim.{GapClaim, DeletionClaim, SizesAgree}
@@ -44,7 +45,8 @@ other-test true b e = absurd (true-not-false e)
 other-test false true e = (refl, refl)
 other-test false false e = absurd (true-not-false e)
 
-pub basic-fails : (P : List (List ℕ)) (β : List ℕ) → basic P β ≡ false → (α : List ℕ) × List·Memᴰ α P × (same α β ≡ false) × (contains α β ≡ true)
+pub basic-fails : (P : List (List ℕ)) (β : List ℕ) → basic P β ≡ false → (α : List ℕ) × List·Memᴰ α P ×
+    (same α β ≡ false) × (contains α β ≡ true)
 unfolding basic
 basic-fails P β h =
     let (α, m, e) = all-fails (λ α. same α β || not (contains α β)) P h in

@@ -36,7 +36,8 @@ module _ {B : Type 0} where
 
 module _ {A B C : Type 0} where
   -- lists of the same lengths
-  each-lengths : (f : A → List B) (h : A → List C) (l : List A) → ((x : A) → length (f x) ≡ length (h x)) → length (each f l) ≡ length (each h l)
+  each-lengths : (f : A → List B) (h : A → List C) (l : List A) → ((x : A) → length (f x) ≡ length (h x)) →
+      length (each f l) ≡ length (each h l)
   each-lengths f h [] e = refl
   each-lengths f h (x ∷ l) e = length-append (f x) (each f l) ∙ ap₂ _+_ (e x) (each-lengths f h l e) ∙ sym (length-append (h x) (each h l))
 
@@ -63,7 +64,8 @@ vectors-step k t = length-append (with-first (suc t) 0) (each (with-first (suc t
     lengths : (x : ℕ) → length (with-first (suc t) (suc x)) ≡ length (with-first t x)
     lengths x =
         let e : suc t - suc x ≡ t - x = omega arith in
-        length-map (vectors k (suc t - suc x)) (λ g. suc x ∷ g) ∙ ap (λ n. length (vectors k n)) e ∙ sym (length-map (vectors k (t - x)) (λ g. x ∷ g))
+        length-map (vectors k (suc t - suc x)) (λ g. suc x ∷ g) ∙ ap (λ n. length (vectors k n)) e ∙
+        sym (length-map (vectors k (t - x)) (λ g. x ∷ g))
 
 -- the number of vectors with k + 1 components and total t
 pub vectors-number : (k t : ℕ) → length (vectors (suc k) t) ≡ binomial (t + k) k

@@ -50,7 +50,8 @@ unfolding ascends
 ascends-rest u k a = and-right (all (before u) k) (ascends k) a
 
 -- the members behind the first word
-ascends-tail : (u v : List ℕ) (k l : List (List ℕ)) → ascends (u ∷ k) ≡ true → u ≡ v → ((w : List ℕ) → List·Memᴰ w (u ∷ k) → List·Memᴰ w (v ∷ l)) →
+ascends-tail : (u v : List ℕ) (k l : List (List ℕ)) → ascends (u ∷ k) ≡ true → u ≡ v →
+    ((w : List ℕ) → List·Memᴰ w (u ∷ k) → List·Memᴰ w (v ∷ l)) →
     (w : List ℕ) → List·Memᴰ w k → List·Memᴰ w l
 ascends-tail u v k l a e f w m = go (List·Memᴰ·cases-cons (f w (List·Memᴰ·tail m)))
   where
@@ -185,7 +186,8 @@ cell-built P p g e l = ascends-same (cell P p g) (map (built p g) rests) (cell-a
     rests = keep (λ σ. avoids P (built p g σ)) (perms (total g))
 
     up : ascends (map (built p g) rests) ≡ true
-    up = ascends-map (built p g) rests (built-before p g) ∙ ascends-keep (λ σ. avoids P (built p g σ)) (perms (total g)) (perms-ascend (total g))
+    up = ascends-map (built p g) rests (built-before p g) ∙
+        ascends-keep (λ σ. avoids P (built p g σ)) (perms (total g)) (perms-ascend (total g))
 
     into : (w : List ℕ) → List·Memᴰ w (cell P p g) → List·Memᴰ w (map (built p g) rests)
     into w m =

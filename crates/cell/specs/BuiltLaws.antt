@@ -102,7 +102,8 @@ val-lift g a s h = go (below-or-not (level g a) s)
 -- two words that are cut at the same place: their parts are isomorphic, and the entries before the
 -- cut compare alike with those behind it
 
-alike-append : (x : ℕ) (u v : List ℕ) (y : ℕ) (u′ v′ : List ℕ) → alike x u y u′ ≡ true → alike x v y v′ ≡ true → alike x (u ++ v) y (u′ ++ v′) ≡ true
+alike-append : (x : ℕ) (u v : List ℕ) (y : ℕ) (u′ v′ : List ℕ) → alike x u y u′ ≡ true → alike x v y v′ ≡ true →
+    alike x (u ++ v) y (u′ ++ v′) ≡ true
 unfolding alike
 alike-append x [] v y [] v′ h k = k
 alike-append x [] v y (c ∷ u′) v′ h k = absurd (true-not-false (sym h))
@@ -122,7 +123,8 @@ alike-by x y (a ∷ v) (c ∷ v′) l f =
     (alike-by x y v v′ (omega arith) (λ j h. f (suc j) (omega arith)))
 
 pub iso-append : (u v u′ v′ : List ℕ) → iso u u′ ≡ true → iso v v′ ≡ true →
-    ((i j : ℕ) → i < length u → j < length v → ltb (getD u i 0) (getD v j 0) ≡ ltb (getD u′ i 0) (getD v′ j 0)) → iso (u ++ v) (u′ ++ v′) ≡ true
+    ((i j : ℕ) → i < length u → j < length v → ltb (getD u i 0) (getD v j 0) ≡ ltb (getD u′ i 0) (getD v′ j 0)) →
+    iso (u ++ v) (u′ ++ v′) ≡ true
 unfolding iso
 iso-append [] v [] v′ h k f = k
 iso-append [] v (c ∷ u′) v′ h k f = absurd (true-not-false (sym h))
@@ -149,7 +151,8 @@ iso-built p g σ q h τ a b pg qh f =
     iso-append (map (val g) p) (map (lift g) σ) (map (val h) q) (map (lift h) τ) (mapped (val g) (val h) (val-keeps g) (val-keeps h) p q a)
     (mapped (lift g) (lift h) (lift-keeps g) (lift-keeps h) σ τ b) crosses
   where
-    mapped : (e f : ℕ → ℕ) → ((x y : ℕ) → ltb (e x) (e y) ≡ ltb x y) → ((x y : ℕ) → ltb (f x) (f y) ≡ ltb x y) → (u v : List ℕ) → iso u v ≡ true → iso (map e u) (map f v) ≡ true
+    mapped : (e f : ℕ → ℕ) → ((x y : ℕ) → ltb (e x) (e y) ≡ ltb x y) → ((x y : ℕ) → ltb (f x) (f y) ≡ ltb x y) →
+        (u v : List ℕ) → iso u v ≡ true → iso (map e u) (map f v) ≡ true
     mapped e f ke kf u v t = iso-map f kf (map e u) v ∙ iso-sym (map e u) v ∙ iso-map e ke v u ∙ iso-sym v u ∙ t
 
     crosses : (i j : ℕ) → i < length (map (val g) p) → j < length (map (lift g) σ) →

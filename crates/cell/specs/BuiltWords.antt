@@ -110,7 +110,8 @@ lift-onto (x ∷ (z ∷ g)) (suc k) y l h b n =
 
 -- words of distinct numbers
 
-distinct-append : (u v : List ℕ) → distinct u ≡ true → distinct v ≡ true → ((x : ℕ) → List·Memᴰ x u → List·Memᴰ x v → ⊥) → distinct (u ++ v) ≡ true
+distinct-append : (u v : List ℕ) → distinct u ≡ true → distinct v ≡ true →
+    ((x : ℕ) → List·Memᴰ x u → List·Memᴰ x v → ⊥) → distinct (u ++ v) ≡ true
 distinct-append [] v d e n = e
 distinct-append (x ∷ u) v d e n =
     let p = distinct-out x u d in
@@ -130,7 +131,8 @@ distinct-parts (x ∷ u) v d =
       λ (y : ℕ) (i : List·Memᴰ y (x ∷ u)) (j : List·Memᴰ y v). apart (p .0) n y j (List·Memᴰ·cases-cons i),
     )
   where
-    apart : (List·Memᴰ x (u ++ v) → ⊥) → ((y : ℕ) → List·Memᴰ y u → List·Memᴰ y v → ⊥) → (y : ℕ) → List·Memᴰ y v → (y ≡ x) ⊎ List·Memᴰ y u → ⊥
+    apart : (List·Memᴰ x (u ++ v) → ⊥) → ((y : ℕ) → List·Memᴰ y u → List·Memᴰ y v → ⊥) → (y : ℕ) → List·Memᴰ y v →
+        (y ≡ x) ⊎ List·Memᴰ y u → ⊥
     apart f n y j (inl e) = f (Memᴰ·append-right u (Memᴰ·cast (sym e) j))
     apart f n y j (inr i) = n y i j
 
@@ -165,10 +167,12 @@ pub built-length : (p g σ : List ℕ) → length (built p g σ) ≡ length p + 
 unfolding built
 built-length p g σ = length-append (map (val g) p) (map (lift g) σ) ∙ ap₂ _+_ (length-map p (val g)) (length-map σ (lift g))
 
-pub built-perm : (p g σ : List ℕ) → isPerm p ≡ true → length g ≡ suc (length p) → isPerm σ ≡ true → length σ ≡ total g → isPerm (built p g σ) ≡ true
+pub built-perm : (p g σ : List ℕ) → isPerm p ≡ true → length g ≡ suc (length p) → isPerm σ ≡ true → length σ ≡
+    total g → isPerm (built p g σ) ≡ true
 unfolding built
 built-perm p g σ e l f t =
-    perm-in (map (val g) p ++ map (lift g) σ) (λ (x : ℕ) (m : List·Memᴰ x (built p g σ)). bounds x (List·Memᴰ·append-cases (map (val g) p) m))
+    perm-in (map (val g) p ++ map (lift g) σ) (λ (x : ℕ) (m : List·Memᴰ x (built p g σ)). bounds x
+    (List·Memᴰ·append-cases (map (val g) p) m))
     (distinct-append (map (val g) p) (map (lift g) σ) first rest apart)
   where
     bounds : (x : ℕ) → List·Memᴰ x (map (val g) p) ⊎ List·Memᴰ x (map (lift g) σ) → (1 ≤ x) × (x ≤ length (built p g σ))
@@ -184,10 +188,12 @@ built-perm p g σ e l f t =
         omega (arith, built-length p g σ, lift-at-least g s)
 
     first : distinct (map (val g) p) ≡ true
-    first = distinct-map (val g) p (λ (x y : ℕ) (m : List·Memᴰ x p) (n : List·Memᴰ y p). rises-same (val g) (val-rises g) x y) (perm-distinct p e)
+    first = distinct-map (val g) p (λ (x y : ℕ) (m : List·Memᴰ x p) (n : List·Memᴰ y p). rises-same (val g)
+        (val-rises g) x y) (perm-distinct p e)
 
     rest : distinct (map (lift g) σ) ≡ true
-    rest = distinct-map (lift g) σ (λ (x y : ℕ) (m : List·Memᴰ x σ) (n : List·Memᴰ y σ). rises-same (lift g) (lift-rises g) x y) (perm-distinct σ f)
+    rest = distinct-map (lift g) σ (λ (x y : ℕ) (m : List·Memᴰ x σ) (n : List·Memᴰ y σ). rises-same (lift g)
+        (lift-rises g) x y) (perm-distinct σ f)
 
     apart : (x : ℕ) → List·Memᴰ x (map (val g) p) → List·Memᴰ x (map (lift g) σ) → ⊥
     apart x m n =
@@ -278,7 +284,8 @@ pub built-injective : (p g σ τ : List ℕ) → built p g σ ≡ built p g τ �
 unfolding built
 built-injective p g σ τ e =
     map-rises-same (lift g) (lift-rises g) σ τ
-    (sym (drop-append-seam (map (val g) p) (map (lift g) σ)) ∙ ap (drop (length (map (val g) p))) e ∙ drop-append-seam (map (val g) p) (map (lift g) τ))
+    (sym (drop-append-seam (map (val g) p) (map (lift g) σ)) ∙ ap (drop (length (map (val g) p))) e ∙
+    drop-append-seam (map (val g) p) (map (lift g) τ))
 
 before-append : (u s t : List ℕ) → before (u ++ s) (u ++ t) ≡ before s t
 before-append [] s t = refl

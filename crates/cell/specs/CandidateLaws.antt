@@ -25,7 +25,8 @@ use Rattle.cell.specs.SublistLaws.{sublist-mem}
 use Rattle.cell.specs.RestLaws.{Within, built-sublist}
 use Rattle.cell.specs.FiniteTest.{Agrees, Clean}
 use Rattle.cell.specs.WithoutLaws.{withoutFrom, without-from}
-use Rattle.cell.specs.PlaceLaws.{Placed, place-out, place-in, headOf, tailOf, cut-joined, tail-length, tail-distinct, copy-in, Cut, copy-out}
+use Rattle.cell.specs.PlaceLaws.{Placed, place-out, place-in, headOf, tailOf, cut-joined, tail-length}
+use Rattle.cell.specs.PlaceLaws.{tail-distinct, copy-in, Cut, copy-out}
 use Rattle.cell.specs.Theorems.{prefix-within, claim-of-clean, agrees-of-claim}
 
 module _ {A : Type 0} where
@@ -42,7 +43,8 @@ module _ {A : Type 0} where
       go false e = refl
 
 -- a sublist with no entry that stands at a position of R, where the first position of w is i
-kept-from : (R : List ℕ) (i : ℕ) {a w : List ℕ} → Sublistᴰ a w → ((j : ℕ) → j < length w → has (i + j) R ≡ true → List·Memᴰ (getD w j 0) a → ⊥) →
+kept-from : (R : List ℕ) (i : ℕ) {a w : List ℕ} → Sublistᴰ a w →
+    ((j : ℕ) → j < length w → has (i + j) R ≡ true → List·Memᴰ (getD w j 0) a → ⊥) →
     Sublistᴰ a (withoutFrom R i w)
 unfolding withoutFrom
 kept-from R i Sublistᴰ·slnil h = Sublistᴰ·slnil
@@ -87,7 +89,8 @@ unfolding hit iso
 hit-out p R g β h =
     let found : Bool = place (under (tailOf β (total g))) (level g) (gone p R) false [] [] (headOf β (total g)) p in (
       ltb-true (total g) (length β) (and-left (ltb (total g) (length β)) found h),
-      place-out (under (tailOf β (total g))) (level g) (gone p R) false [] [] (headOf β (total g)) p (and-right (ltb (total g) (length β)) found h) refl,
+      place-out (under (tailOf β (total g))) (level g) (gone p R) false [] [] (headOf β (total g)) p
+          (and-right (ltb (total g) (length β)) found h) refl,
     )
 
 hit-in : (p R g β a σ : List ℕ) → Cut β a g σ → Sublistᴰ a p → any (gone p R) a ≡ true → hit p R g β ≡ true
@@ -106,11 +109,13 @@ module _ (P : List (List ℕ)) (p R : List ℕ) (perm : isPerm p ≡ true) (apar
     where
       lost : any (gone p R) a ≡ true → Cut β a g σ → avoids P (built (without R p) g σ) ≡ false
       lost e c =
-          rw (c .rest) (ap (λ (t : Bool). t && avoids P (built (without R p) g (reduce (tailOf β (total g))))) (sym (hit-in p R g β a σ c d e)) ∙
+          rw (c .rest) (ap (λ (t : Bool). t && avoids P (built (without R p) g (reduce (tailOf β (total g)))))
+          (sym (hit-in p R g β a σ c d e)) ∙
           any-fails (violates P p R g) h m)
 
       go : (t : Bool) → any (gone p R) a ≡ t → avoids P (built (without R p) g σ) ≡ false
-      go true e = lost e (copy-out β a g σ (apart β m) sp sl (λ (x : ℕ) (n : List·Memᴰ x a). prefix-within p g perm size x (sublist-mem d n)) some i)
+      go true e = lost e (copy-out β a g σ (apart β m) sp sl
+          (λ (x : ℕ) (n : List·Memᴰ x a). prefix-within p g perm size x (sublist-mem d n)) some i)
       go false e = avoids-not P (built (without R p) g σ) m (contains-in β (built-sublist g (sublist-kept R d e) (Sublistᴰ·refl σ)) i)
 
   -- .. and if no rest is lost, there is no violation.

@@ -51,7 +51,8 @@ unfolding total
 split-length [] s h k = absurd (omega arith)
 split-length (x ∷ g) s h k = go (split-length g (s - x)) (held x g s)
   where
-    go : (1 ≤ s - x → s - x ≤ total g → length (split g (s - x)) ≡ suc (length g)) → Held x g s → length (split (x ∷ g) s) ≡ suc (suc (length g))
+    go : (1 ≤ s - x → s - x ≤ total g → length (split g (s - x)) ≡ suc (length g)) → Held x g s →
+        length (split (x ∷ g) s) ≡ suc (suc (length g))
     go ih (here b q r) = ap length r
     go ih (later b q r) = ap length r ∙ ap suc (ih (omega arith) (omega arith))
 
@@ -109,7 +110,8 @@ lift-split (x ∷ g) s t h k = go (lift-split g (s - x) (t - x)) (held x g s) (b
     apart : s ≤ x → s ≤ t → (x < suc t) ⊎ (suc t ≤ x) → lift ((s - 1) ∷ ((x - s) ∷ g)) t ≡ lift (x ∷ g) (suc t)
     apart b m (inl c) =
         let e : (t - (s - 1)) - (x - s) ≡ suc t - x = omega arith in
-        let l : lift ((x - s) ∷ g) (t - (s - 1)) ≡ suc ((x - s) + lift g (suc t - x)) = lift-high (x - s) g (t - (s - 1)) (omega arith) ∙ rw e refl in
+        let l : lift ((x - s) ∷ g) (t - (s - 1)) ≡ suc ((x - s) + lift g (suc t - x)) =
+        lift-high (x - s) g (t - (s - 1)) (omega arith) ∙ rw e refl in
         rw (lift-high (s - 1) ((x - s) ∷ g) t (omega arith), l, lift-high x g (suc t) c) (omega arith)
     apart b m (inr c) =
         let l : lift ((x - s) ∷ g) (t - (s - 1)) ≡ t - (s - 1) = lift-low (x - s) g (t - (s - 1)) (omega arith) in
@@ -128,7 +130,8 @@ lift-split (x ∷ g) s t h k = go (lift-split g (s - x) (t - x)) (held x g s) (b
     above c (stays i j) = omega arith
     above c (moves i j) = omega arith
 
-    go : (1 ≤ s - x → s - x ≤ total g → lift (split g (s - x)) (t - x) ≡ lift g (bump (s - x) (t - x))) → Held x g s → Bumped s t → (x < t) ⊎ (t ≤ x) →
+    go : (1 ≤ s - x → s - x ≤ total g → lift (split g (s - x)) (t - x) ≡ lift g (bump (s - x) (t - x))) →
+        Held x g s → Bumped s t → (x < t) ⊎ (t ≤ x) →
         lift (split (x ∷ g) s) t ≡ lift (x ∷ g) (bump s t)
     go ih (here b q r) (stays m n) c = rw (r, n, lift-low (s - 1) ((x - s) ∷ g) t (omega arith), lift-low x g t (omega arith)) refl
     go ih (here b q r) (moves m n) c = rw (r, n) (apart b m (below-or-not x (suc t)))
@@ -145,12 +148,14 @@ lift-split (x ∷ g) s t h k = go (lift-split g (s - x) (t - x)) (held x g s) (b
 pub built-child : (p g : List ℕ) (s : ℕ) (τ : List ℕ) → 1 ≤ s → s ≤ total g →
     built p g (s ∷ map (bump s) τ) ≡ built (childAt p (slot g s)) (split g s) τ
 unfolding built childAt
-built-child p g s τ h k = sym (ap (λ u. u ++ map (lift (split g s)) τ) front ∙ append-assoc (map (val g) p) (lift g s ∷ []) (map (lift (split g s)) τ) ∙
+built-child p g s τ h k = sym (ap (λ u. u ++ map (lift (split g s)) τ) front ∙ append-assoc (map (val g) p)
+    (lift g s ∷ []) (map (lift (split g s)) τ) ∙
     ap (λ v. map (val g) p ++ (lift g s ∷ v)) rest)
   where
     front : map (val (split g s)) (map (bump (slot g s)) p ++ (slot g s ∷ [])) ≡ map (val g) p ++ (lift g s ∷ [])
     front = map-append (val (split g s)) (map (bump (slot g s)) p) (slot g s ∷ []) ∙
-        ap₂ _++_ (map-map (val (split g s)) (bump (slot g s)) p ∙ map-same (λ a. val (split g s) (bump (slot g s) a)) (val g) p (λ a m. val-split g s a h k))
+        ap₂ _++_ (map-map (val (split g s)) (bump (slot g s)) p ∙
+        map-same (λ a. val (split g s) (bump (slot g s) a)) (val g) p (λ a m. val-split g s a h k))
         (ap (λ v. v ∷ []) (val-slot g s h k))
 
     rest : map (lift (split g s)) τ ≡ map (lift g) (map (bump s) τ)
@@ -221,7 +226,8 @@ child-injective p a b e = sym (child-last p a) ∙ ap (λ w. getD w (length p) 0
 
 reduce-bump : (a : ℕ) (w : List ℕ) → reduce (map (bump a) w) ≡ reduce w
 unfolding reduce
-reduce-bump a w = map-map (under (map (bump a) w)) (bump a) w ∙ map-same (λ x. under (map (bump a) w) (bump a x)) (under w) w (λ x m. go x (bumped a x))
+reduce-bump a w = map-map (under (map (bump a) w)) (bump a) w ∙
+    map-same (λ x. under (map (bump a) w) (bump a x)) (under w) w (λ x m. go x (bumped a x))
   where
     go : (x : ℕ) → Bumped a x → under (map (bump a) w) (bump a x) ≡ under w x
     go x (stays h q) = rw q (under-bump-below a x w h)
@@ -230,7 +236,8 @@ reduce-bump a w = map-map (under (map (bump a) w)) (bump a) w ∙ map-same (λ x
 pub children-all : (p : List ℕ) (a : ℕ) → isPerm p ≡ true → 1 ≤ a → a ≤ suc (length p) → List·Memᴰ (childAt p a) (children p)
 unfolding children childAt
 children-all p a e h k =
-    keep-in (λ q. same (reduce (take (length p) q)) p) (perms-all (suc (length p)) (childAt p a) (child-perm p a e h k) (child-length p a)) test
+    keep-in (λ q. same (reduce (take (length p) q)) p)
+    (perms-all (suc (length p)) (childAt p a) (child-perm p a e h k) (child-length p a)) test
   where
     front : take (length p) (map (bump a) p ++ (a ∷ [])) ≡ map (bump a) p
     front = take-at (map (bump a) p) (a ∷ []) (length p) (length-map p (bump a))
@@ -306,12 +313,14 @@ built-zero p g e = append-nil (map (val g) p) ∙ map-same (val g) (λ a. a) p (
 
 -- The parameter says that a cell lists the built words of its prefix and spacing that avoid P.
 -- the cell of a child lists the members whose next entry is s
-child-built : (P : List (List ℕ)) (p g : List ℕ) (n s : ℕ) → isPerm p ≡ true → length g ≡ suc (length p) → total g ≡ suc n → 1 ≤ s → s ≤ suc n →
+child-built : (P : List (List ℕ)) (p g : List ℕ) (n s : ℕ) → isPerm p ≡ true → length g ≡ suc (length p) → total g ≡
+    suc n → 1 ≤ s → s ≤ suc n →
     cell P (childAt p (slot g s)) (split g s) ≡ members P p g (map (λ τ. s ∷ map (bump s) τ) (perms n))
 child-built P p g n s e l t h k =
     let (low, high) = slot-bounds g s h (omega arith) in
     let q : isPerm (childAt p (slot g s)) ≡ true = child-perm p (slot g s) e low (omega arith) in
-    let w : length (split g s) ≡ suc (length (childAt p (slot g s))) = omega (arith, split-length g s h (omega arith), child-length p (slot g s)) in
+    let w : length (split g s) ≡ suc (length (childAt p (slot g s))) =
+    omega (arith, split-length g s h (omega arith), child-length p (slot g s)) in
     let c : total (split g s) ≡ n = omega (arith, split-total g s h (omega arith)) in
     cell-built P (childAt p (slot g s)) (split g s) q w ∙ ap (λ m. members P (childAt p (slot g s)) (split g s) (perms m)) c ∙
     sym (members-child P p g s (perms n) h (omega arith))
@@ -343,10 +352,12 @@ child-next : (P : List (List ℕ)) (p g : List ℕ) (n s : ℕ) {w : List ℕ} �
 child-next P p g n s e l t h k m = members-next P p g s (perms n) (rw (child-built P p g n s e l t h k) at m)
 
 -- the cells of two children have no common member
-pub children-disjoint : (P : List (List ℕ)) (p g : List ℕ) (n s t : ℕ) {w : List ℕ} → isPerm p ≡ true → length g ≡ suc (length p) → total g ≡ suc n →
+pub children-disjoint : (P : List (List ℕ)) (p g : List ℕ) (n s t : ℕ) {w : List ℕ} → isPerm p ≡ true → length g ≡
+    suc (length p) → total g ≡ suc n →
     1 ≤ s → s ≤ suc n → 1 ≤ t → t ≤ suc n →
     List·Memᴰ w (cell P (childAt p (slot g s)) (split g s)) → List·Memᴰ w (cell P (childAt p (slot g t)) (split g t)) → s ≡ t
-children-disjoint P p g n s t e l o h k i j a b = lift-injective g s t (sym (child-next P p g n s e l o h k a) ∙ child-next P p g n t e l o i j b)
+children-disjoint P p g n s t e l o h k i j a b =
+    lift-injective g s t (sym (child-next P p g n s e l o h k a) ∙ child-next P p g n t e l o i j b)
 
 -- at total 0 the one member is p itself, if it avoids P
 pub cell-zero : (P : List (List ℕ)) (p g : List ℕ) → isPerm p ≡ true → length g ≡ suc (length p) → total g ≡ 0 →

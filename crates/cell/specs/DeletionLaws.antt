@@ -92,7 +92,8 @@ without-built R p g σ h =
 pub kept-sublist : (R p g σ : List ℕ) → all (within (length p)) R ≡ true → Sublistᴰ (built (without R p) g σ) (built p g σ)
 kept-sublist R p g σ h = rw (← without-built R p g σ h) (without-sublist R (built p g σ))
 
-module _ (R p g : List ℕ) (perm : isPerm p ≡ true) (size : length g ≡ suc (length p)) (inside : all (within (length p)) R ≡ true) (σ : List ℕ) where
+module _ (R p g : List ℕ) (perm : isPerm p ≡ true) (size : length g ≡ suc (length p))
+    (inside : all (within (length p)) R ≡ true) (σ : List ℕ) where
   -- the same values at the same spacing are ordered as the shorter prefix at the merged spacing
   pub built-iso : iso (built (without R p) g σ) (built (deleted R p) (merged R p g) σ) ≡ true
   unfolding deleted reduce
@@ -108,7 +109,14 @@ module _ (R p g : List ℕ) (perm : isPerm p ≡ true) (size : length g ≡ suc 
       low i h = let b = kept-bounds R p perm (kept i h) in omega arith
 
       high : (i : ℕ) → i < length (without R p) → getD (deleted R p) i 0 < length (merged R p g)
-      high i h = omega (arith, place i h, under-at-most (without R p) (getD (without R p) i 0), merged-length R p g perm size inside, deleted-length R p)
+      high i h = omega (
+        arith,
+        place i h,
+        under-at-most (without R p) (getD (without R p) i 0),
+        merged-length R p g
+            perm size inside,
+        deleted-length R p,
+      )
 
       same : (i j : ℕ) → i < length (without R p) → j < length σ →
           ltb (level g (getD (without R p) i 0)) (getD σ j 0) ≡ ltb (level (merged R p g) (getD (deleted R p) i 0)) (getD σ j 0)
@@ -127,7 +135,8 @@ module _ (R p g : List ℕ) (perm : isPerm p ≡ true) (size : length g ≡ suc 
       deleted R (built p g σ) ≡ built (deleted R p) (merged R p g) σ
   unfolding deleted
   deleted-built long short =
-      let apart : distinct (built (without R p) g σ) ≡ true = distinct-sublist (kept-sublist R p g σ inside) (perm-distinct (built p g σ) long) in
+      let apart : distinct (built (without R p) g σ) ≡ true =
+      distinct-sublist (kept-sublist R p g σ inside) (perm-distinct (built p g σ) long) in
       ap reduce (without-built R p g σ inside) ∙
       iso-reduces (built (without R p) g σ) (built (deleted R p) (merged R p g) σ) apart
       (perm-distinct (built (deleted R p) (merged R p g) σ) short) built-iso ∙

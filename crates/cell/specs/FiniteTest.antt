@@ -64,10 +64,12 @@ record Smaller (P : List (List ℕ)) (β q a g : List ℕ) (n k : ℕ) : Type 0 
   copied : Copied P β q a b τ t
 
 -- an entry of the rest that is not in r goes
-one-less : (P : List (List ℕ)) (β q a g σ r : List ℕ) (n : ℕ) → Copied P β q a g σ r → length σ ≡ suc n → length r ≤ n → Smaller P β q a g n (length r)
+one-less : (P : List (List ℕ)) (β q a g σ r : List ℕ) (n : ℕ) → Copied P β q a g σ r → length σ ≡ suc n →
+    length r ≤ n → Smaller P β q a g n (length r)
 one-less P β q a g σ r n c k l = spare (sublist-spare (c .part) (omega arith))
   where
-    shorter : (u : List ℕ) (s : ℕ) (v τ t : List ℕ) → σ ≡ u ++ (s ∷ v) → isPerm τ ≡ true → map (bump s) τ ≡ u ++ v → suc (length τ) ≡ length σ →
+    shorter : (u : List ℕ) (s : ℕ) (v τ t : List ℕ) → σ ≡ u ++ (s ∷ v) → isPerm τ ≡ true → map (bump s) τ ≡ u ++ v →
+        suc (length τ) ≡ length σ →
         1 ≤ s → s ≤ length σ → r ≡ map (bump s) t → Sublistᴰ t τ → Smaller P β q a g n (length r)
     shorter u s v τ t split p j one low high step d = record {
       b = lowered g s;
@@ -152,11 +154,14 @@ minimal-violation P p q g σ w d e l h k =
     let (a, r, es, da, dr) = sublist-of-built p g σ ds in
     go β m a r da dr (rw es at i)
   where
-    found : (β : List ℕ) → List·Memᴰ β P → (x : ℕ) (a r : List ℕ) → Sublistᴰ (x ∷ a) p → Smaller P β q (x ∷ a) g (length r) (length r) → Violation P p q g
+    found : (β : List ℕ) → List·Memᴰ β P → (x : ℕ) (a r : List ℕ) → Sublistᴰ (x ∷ a) p →
+        Smaller P β q (x ∷ a) g (length r) (length r) → Violation P p q g
     found β m x a r da f =
         let whole : f .t ≡ f .τ = sublist-whole (f .copied .part) (omega (arith, f .rest-length, f .part-length)) in
-        let copy : iso β (built (x ∷ a) (f .b) (f .τ)) ≡ true = subst (λ (z : List ℕ). iso β (built (x ∷ a) (f .b) z) ≡ true) whole (f .copied .copy) in
-        let long : length β ≡ suc (length a) + length (f .τ) = iso-length β (built (x ∷ a) (f .b) (f .τ)) copy ∙ built-length (x ∷ a) (f .b) (f .τ) in
+        let copy : iso β (built (x ∷ a) (f .b) (f .τ)) ≡ true =
+        subst (λ (z : List ℕ). iso β (built (x ∷ a) (f .b) z) ≡ true) whole (f .copied .copy) in
+        let long : length β ≡ suc (length a) + length (f .τ) = iso-length β (built (x ∷ a) (f .b) (f .τ)) copy ∙
+        built-length (x ∷ a) (f .b) (f .τ) in
         record {
           b = f .b;
           β = β;
@@ -198,7 +203,8 @@ finite-test P p q S down w d clean g i σ e l h = go (avoids P (built p g σ)) r
   where
     no : Violation P p q g → ⊥
     no v = true-not-false (sym (v .avoiding) ∙
-        clean (v .b) (down g (v .b) i (v .at-most)) (v .short) (v .β) (v .pattern) (v .a) (v .part) (v .some-part) (v .τ) (v .perm) (v .size) (v .copy))
+        clean (v .b) (down g (v .b) i (v .at-most)) (v .short) (v .β) (v .pattern) (v .a) (v .part) (v .some-part)
+        (v .τ) (v .perm) (v .size) (v .copy))
 
     go : (t : Bool) → avoids P (built p g σ) ≡ t → t ≡ true
     go true f = refl

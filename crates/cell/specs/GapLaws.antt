@@ -33,7 +33,8 @@ at-least-same (x ∷ g) (y ∷ b) h k =
     ap₂ _∷_ e (at-least-same g b r (omega arith))
 
 -- with a larger total, some component may be lowered
-pub at-least-more : (g b : List ℕ) → atLeast g b ≡ true → total b < total g → (s : ℕ) × (1 ≤ s) × (s ≤ total g) × (atLeast (lowered g s) b ≡ true)
+pub at-least-more : (g b : List ℕ) → atLeast g b ≡ true → total b < total g → (s : ℕ) × (1 ≤ s) × (s ≤ total g) ×
+    (atLeast (lowered g s) b ≡ true)
 unfolding atLeast total lowered
 at-least-more [] b h k = absurd (omega arith)
 at-least-more (x ∷ g) [] h k = absurd (true-not-false (sym h))

@@ -5,7 +5,8 @@ use native.Mathlib.Omega.{arith}
 use mathlib.Core.Path.{_≡_, refl, sym, ap, ap₂, _∙_, fun-ext}
 use mathlib.Core.Logic.{_⊎_, inl, inr}
 use mathlib.Core.Bool.{true}
-use mathlib.Core.List.{List, [], _∷_, _++_, map, List·Memᴰ, List·Memᴰ·head, List·Memᴰ·tail, List·Memᴰ·not-nil, List·Memᴰ·cases-cons, Memᴰ·map, Memᴰ·of-map}
+use mathlib.Core.List.{List, [], _∷_, _++_, map, List·Memᴰ, List·Memᴰ·head, List·Memᴰ·tail, List·Memᴰ·not-nil}
+use mathlib.Core.List.{List·Memᴰ·cases-cons, Memᴰ·map, Memᴰ·of-map}
 use mathlib.Core.List.{List·Memᴰ·eq-of-singleton, Memᴰ·append-left}
 use lib.ListN.{length, getD, take, drop, length-map, take-append-drop}
 use lib.Seq.{length-take-le}
@@ -27,7 +28,8 @@ use Rattle.cell.specs.ChildLaws.{children-are, children-all}
 
 -- "A spacing vector for a prefix p of length k has k + 1 numbers" and "Its total is n − k" (01)
 
-total-between : (a : ℕ) (u : List ℕ) (b : ℕ) → Up a u → ((x : ℕ) → List·Memᴰ x u → x < b) → a < b → suc (a + (length u + total (between a u b))) ≡ b
+total-between : (a : ℕ) (u : List ℕ) (b : ℕ) → Up a u → ((x : ℕ) → List·Memᴰ x u → x < b) → a < b →
+    suc (a + (length u + total (between a u b))) ≡ b
 unfolding between total
 total-between a [] b up low h = omega arith
 total-between a (c ∷ u) b up low h =
@@ -152,7 +154,8 @@ each-ascend f a (suc n) one across =
     across a y u v (row-out (suc a) n k .0) i m)
 
 -- lists of words behind their first entries
-heads-ascend : (f : ℕ → List (List ℕ)) (a n : ℕ) → ((x : ℕ) → ascends (f x) ≡ true) → ascends (each (λ x. map (λ g. x ∷ g) (f x)) (row a n)) ≡ true
+heads-ascend : (f : ℕ → List (List ℕ)) (a n : ℕ) → ((x : ℕ) → ascends (f x) ≡ true) →
+    ascends (each (λ x. map (λ g. x ∷ g) (f x)) (row a n)) ≡ true
 heads-ascend f a n one =
     each-ascend (λ x. map (λ g. x ∷ g) (f x)) a n (λ x. ascends-map (λ g. x ∷ g) (f x) (λ u v. before-cons x u v) ∙ one x)
     (λ (x y : ℕ) (u v : List ℕ) (h : x < y) (i : List·Memᴰ u (map (λ g. x ∷ g) (f x))) (j : List·Memᴰ v (map (λ g. y ∷ g) (f y))).
@@ -176,7 +179,8 @@ compared-ascend P k B =
     let all = each (vectors (suc k)) (row 0 (mOf P)) in
     ap ascends (sym (keep-map (λ g. free B (drop 1 g)) totalled all)) ∙
     ascends-keep (λ g. free B (drop 1 g)) (map totalled all)
-    (ap ascends (map-each totalled (vectors (suc k)) (row 0 (mOf P)) ∙ ap (λ (f : ℕ → List (List ℕ)). each f (row 0 (mOf P))) (fun-ext (λ (t : ℕ). by-total t))) ∙
+    (ap ascends (map-each totalled (vectors (suc k)) (row 0 (mOf P)) ∙
+    ap (λ (f : ℕ → List (List ℕ)). each f (row 0 (mOf P))) (fun-ext (λ (t : ℕ). by-total t))) ∙
     heads-ascend (vectors (suc k)) 0 (mOf P) (vectors-ascend (suc k)))
   where
     by-total : (t : ℕ) → map totalled (vectors (suc k) t) ≡ map (λ g. t ∷ g) (vectors (suc k) t)

@@ -33,7 +33,8 @@ kept-last vs v (suc n) = rw (add-suc v n, ← suc-add v n) (go (has v vs) (has (
   where
     go : (a b : Bool) → keptFrom vs (suc v) (suc n) ≡ cond b (keptFrom vs (suc v) n) (suc (keptFrom vs (suc v) n)) →
         cond a (keptFrom vs (suc v) (suc n)) (suc (keptFrom vs (suc v) (suc n)))
-        ≡ cond b (cond a (keptFrom vs (suc v) n) (suc (keptFrom vs (suc v) n))) (suc (cond a (keptFrom vs (suc v) n) (suc (keptFrom vs (suc v) n))))
+        ≡ cond b (cond a (keptFrom vs (suc v) n) (suc (keptFrom vs (suc v) n)))
+        (suc (cond a (keptFrom vs (suc v) n) (suc (keptFrom vs (suc v) n))))
     go true true e = e
     go true false e = e
     go false true e = ap suc e
@@ -74,7 +75,8 @@ mergeFrom-level vs v x (y ∷ g) (suc n) h e =
   where
     go : (b : Bool) → level (mergeFrom vs (suc v) (x + y) g) (suc (keptFrom vs (suc v) n)) ≡ (x + y) + level g n →
         level (mergeFrom vs (suc v) y g) (suc (keptFrom vs (suc v) n)) ≡ y + level g n →
-        level (cond b (mergeFrom vs (suc v) (x + y) g) (x ∷ mergeFrom vs (suc v) y g)) (suc (cond b (keptFrom vs (suc v) n) (suc (keptFrom vs (suc v) n))))
+        level (cond b (mergeFrom vs (suc v) (x + y) g) (x ∷ mergeFrom vs (suc v) y g))
+        (suc (cond b (keptFrom vs (suc v) n) (suc (keptFrom vs (suc v) n))))
         ≡ x + (y + level g n)
     go true p q = omega arith
     go false p q = omega arith
@@ -112,10 +114,12 @@ under-next (y ∷ u) a d =
         rw (lt-leb y (suc a) h, lt-leb y a (omega arith), ne-eqb (suc a) y (λ (q : suc a ≡ y). omega arith)) e
     go fresh e (inr h) (inl k) =
         let q : suc a ≡ y = omega arith in
-        let f : has (suc a) u ≡ false = not-true (has (suc a) u) (not-in (has (suc a) u) (λ t. fresh (Memᴰ·cast (sym q) (has-out (suc a) u t)))) in
+        let f : has (suc a) u ≡ false = not-true (has (suc a) u)
+        (not-in (has (suc a) u) (λ t. fresh (Memᴰ·cast (sym q) (has-out (suc a) u t)))) in
         rw (le-leb y (suc a) h, lt-leb y a k, eq-eqb (suc a) y q) (ap suc (rw f at e))
     go fresh e (inr h) (inr k) =
-        rw (le-leb y (suc a) h, le-leb y a k, ne-eqb (suc a) y (λ (q : suc a ≡ y). omega arith)) (spread (has (suc a) u) (under u (suc a)) (under u a) e)
+        rw (le-leb y (suc a) h, le-leb y a k, ne-eqb (suc a) y (λ (q : suc a ≡ y). omega arith))
+        (spread (has (suc a) u) (under u (suc a)) (under u a) e)
 
 -- the entries that are kept
 pub kept-bounds : (R p : List ℕ) {x : ℕ} → isPerm p ≡ true → List·Memᴰ x (without R p) → (1 ≤ x) × (x ≤ length p)
@@ -133,7 +137,8 @@ module _ (R p : List ℕ) (perm : isPerm p ≡ true) (inside : all (within (leng
       one : (i j : ℕ) → 1 ≤ i → i ≤ length p → 1 ≤ j → j ≤ length p → entry p i ≡ x → entry p j ≡ x → i ≡ j
       one i j a b c d q r = entry-injective p i j (perm-distinct p perm) a b c d (q ∙ sym r)
 
-      apart : (i : ℕ) → 1 ≤ i → i ≤ length p → entry p i ≡ x → (b : Bool) → has i R ≡ b → has x (map (entry p) R) ≡ not (has x (without R p))
+      apart : (i : ℕ) → 1 ≤ i → i ≤ length p → entry p i ≡ x → (b : Bool) → has i R ≡ b → has x (map (entry p) R) ≡
+          not (has x (without R p))
       apart i a b q true e =
           let there : has x (map (entry p) R) ≡ true = has-in (Memᴰ·cast (sym q) (Memᴰ·map (entry p) (has-out i R e))) in
           there ∙ sym (not-in (has x (without R p)) (λ t.
@@ -154,7 +159,8 @@ module _ (R p : List ℕ) (perm : isPerm p ≡ true) (inside : all (within (leng
   unfolding keptFrom
   under-kept zero h = under-none (without R p) (λ (x : ℕ) (m : List·Memᴰ x (without R p)). kept-bounds R p perm m .0)
   under-kept (suc a) h =
-      let e : has (1 + a) (map (entry p) R) ≡ not (has (suc a) (without R p)) = rw (suc-add, zero-add) (removed-or-kept (suc a) (omega arith) h) in
+      let e : has (1 + a) (map (entry p) R) ≡ not (has (suc a) (without R p)) =
+      rw (suc-add, zero-add) (removed-or-kept (suc a) (omega arith) h) in
       under-next (without R p) a (kept-distinct R p (perm-distinct p perm)) ∙
       go (has (suc a) (without R p)) (under-kept a (omega arith)) e ∙ sym (kept-last (map (entry p) R) 1 a)
     where
@@ -174,7 +180,8 @@ merged-length R p (x ∷ g) perm e inside =
     let vs : List ℕ = map (entry p) R in
     let k : length p ≡ length g = omega arith in
     mergeFrom-length vs 1 x g ∙ ap suc (rw (← k) (sym (under-kept R p perm inside (length p) (omega arith))) ∙
-    under-all (without R p) (length p) (λ (y : ℕ) (m : List·Memᴰ y (without R p)). kept-bounds R p perm m .1) ∙ sym (length-reduce (without R p)))
+    under-all (without R p) (length p) (λ (y : ℕ) (m : List·Memᴰ y (without R p)). kept-bounds R p perm m .1) ∙
+    sym (length-reduce (without R p)))
 
 -- the level of a kept value is the same before and after
 pub merged-level : (R p g : List ℕ) → isPerm p ≡ true → length g ≡ suc (length p) → all (within (length p)) R ≡ true →
@@ -186,7 +193,8 @@ merged-level R p (x ∷ g) perm e inside (suc n) m =
     let vs : List ℕ = map (entry p) R in
     let (low, high) = kept-bounds R p perm m in
     let out : has (1 + n) vs ≡ false = rw (suc-add, zero-add) (removed-or-kept R p perm inside (suc n) low high ∙ ap not (has-in m)) in
-    let place : under (without R p) (suc n) ≡ suc (keptFrom vs 1 n) = under-kept R p perm inside (suc n) high ∙ kept-last vs 1 n ∙ rw out refl in
+    let place : under (without R p) (suc n) ≡ suc (keptFrom vs 1 n) = under-kept R p perm inside (suc n) high ∙
+    kept-last vs 1 n ∙ rw out refl in
     ap (level (mergeFrom vs 1 x g)) place ∙ mergeFrom-level vs 1 x g n (omega arith) out
 
 pub merged-total : (R p g : List ℕ) → total (merged R p g) ≡ total g

@@ -52,12 +52,14 @@ module _ (need lev : ℕ → ℕ) (gone : ℕ → Bool) where
     gone-one = sym (or-assoc used (gone y) (any gone (r .at))) ∙ r .gone-one;
   }
 
-  placed-later : (used : Bool) (b c hs : List ℕ) (y : ℕ) (ps : List ℕ) → Placed need lev gone used b c hs ps → Placed need lev gone used b c hs (y ∷ ps)
+  placed-later : (used : Bool) (b c hs : List ℕ) (y : ℕ) (ps : List ℕ) → Placed need lev gone used b c hs ps →
+      Placed need lev gone used b c hs (y ∷ ps)
   placed-later used b c hs y ps r =
       record { at = r .at; part = Sublistᴰ·cons (r .part); levels = r .levels; copy = r .copy; gone-one = r .gone-one }
 
   -- where the search passes, it has found such a sublist
-  pub place-out : (used : Bool) (b c hs ps : List ℕ) → place need lev gone used b c hs ps ≡ true → iso b c ≡ true → Placed need lev gone used b c hs ps
+  pub place-out : (used : Bool) (b c hs ps : List ℕ) → place need lev gone used b c hs ps ≡ true → iso b c ≡ true →
+      Placed need lev gone used b c hs ps
   unfolding place
   place-out used b c [] ps h i = record {
     at = [];
@@ -75,14 +77,16 @@ module _ (need lev : ℕ → ℕ) (gone : ℕ → Bool) where
       more : Bool
       more = place need lev gone (used || gone y) (b ++ (x ∷ [])) (c ++ (y ∷ [])) hs ps
 
-      go : (more ≡ true → iso (b ++ (x ∷ [])) (c ++ (y ∷ [])) ≡ true → Placed need lev gone (used || gone y) (b ++ (x ∷ [])) (c ++ (y ∷ [])) hs ps) →
+      go : (more ≡ true → iso (b ++ (x ∷ [])) (c ++ (y ∷ [])) ≡ true →
+          Placed need lev gone (used || gone y) (b ++ (x ∷ [])) (c ++ (y ∷ [])) hs ps) →
           (place need lev gone used b c (x ∷ hs) ps ≡ true → iso b c ≡ true → Placed need lev gone used b c (x ∷ hs) ps) →
           (eqb (lev y) (need x) && (fits b x c y && more) ≡ true) ⊎ (place need lev gone used b c (x ∷ hs) ps ≡ true) →
           Placed need lev gone used b c (x ∷ hs) (y ∷ ps)
       go here later (inl t) =
           let both : fits b x c y && more ≡ true = and-right (eqb (lev y) (need x)) (fits b x c y && more) t in
           placed-here used b c x hs y ps (eqb-true (lev y) (need x) (and-left (eqb (lev y) (need x)) (fits b x c y && more) t))
-          (here (and-right (fits b x c y) more both) (iso-snoc b x c y ∙ and-in (iso b c) (fits b x c y) i (and-left (fits b x c y) more both)))
+          (here (and-right (fits b x c y) more both) (iso-snoc b x c y ∙ and-in (iso b c) (fits b x c y) i
+          (and-left (fits b x c y) more both)))
       go here later (inr t) = placed-later used b c (x ∷ hs) y ps (later t i)
 
   -- it has an entry for each of hs
@@ -101,7 +105,8 @@ module _ (need lev : ℕ → ℕ) (gone : ℕ → Bool) where
   place-in used b c [] {a} {ps} d l e i g = used-before used a e g
   place-in used b c (x ∷ hs) Sublistᴰ·slnil l e i g = let z : _≡_ {A = ℕ} 0 1 = cc in absurd (omega arith)
   place-in used b c (x ∷ hs) (Sublistᴰ·cons {a = y} {l₁ = a} {l₂ = ps} d) l e i g =
-      let here : Bool = eqb (lev y) (need x) && (fits b x c y && place need lev gone (used || gone y) (b ++ (x ∷ [])) (c ++ (y ∷ [])) hs ps) in
+      let here : Bool = eqb (lev y) (need x) && (fits b x c y && place need lev gone (used || gone y)
+      (b ++ (x ∷ [])) (c ++ (y ∷ [])) hs ps) in
       ap (_||_ here) (place-in used b c (x ∷ hs) d l e i g) ∙ or-true here
   place-in used b c (x ∷ hs) (Sublistᴰ·cons-cons {a = z} {b = y} {l₁ = a} {l₂ = ps} q d) l e i g =
       let first : lev y ≡ need x = cc in
@@ -110,7 +115,8 @@ module _ (need lev : ℕ → ℕ) (gone : ℕ → Bool) where
       let k : length (b ++ (x ∷ [])) ≡ length (c ++ (y ∷ [])) = simp length-append (omega arith) in
       let more : Bool = place need lev gone (used || gone y) (b ++ (x ∷ [])) (c ++ (y ∷ [])) hs ps in
       let s : iso b c && fits b x c y ≡ true = sym (iso-snoc b x c y) ∙ iso-prefix (b ++ (x ∷ [])) hs (c ++ (y ∷ [])) a k j in
-      let m : more ≡ true = place-in (used || gone y) (b ++ (x ∷ [])) (c ++ (y ∷ [])) hs d k later j (or-assoc used (gone y) (any gone a) ∙ (rw q at g)) in
+      let m : more ≡ true = place-in (used || gone y) (b ++ (x ∷ [])) (c ++ (y ∷ [])) hs d k later j
+      (or-assoc used (gone y) (any gone a) ∙ (rw q at g)) in
       ap (λ (t : Bool). t || place need lev gone used b c (x ∷ hs) ps)
       (and-in (eqb (lev y) (need x)) (fits b x c y && more) (eq-eqb (lev y) (need x) first)
       (and-in (fits b x c y) more (and-right (iso b c) (fits b x c y) s) m))
@@ -148,7 +154,8 @@ under-against u x y n = go (ltb x y) refl
     go false e = le-ltb (under u x) (under u y) (under-mono u y x (ltb-false x y e))
 
 -- the head placed at a with the levels that it needs, and the tail as the rest, are a copy
-pub copy-in : (h u a g : List ℕ) → Within a g → iso h a ≡ true → map (level g) a ≡ map (under u) h → iso (h ++ u) (built a g (reduce u)) ≡ true
+pub copy-in : (h u a g : List ℕ) → Within a g → iso h a ≡ true → map (level g) a ≡ map (under u) h →
+    iso (h ++ u) (built a g (reduce u)) ≡ true
 unfolding built reduce
 copy-in h u a g w i e =
     iso-append h u (map (val g) a) (map (lift g) (map (under u) u)) (iso-map (val g) (val-keeps g) h a ∙ i)
@@ -167,7 +174,8 @@ copy-in h u a g w i e =
 
 -- what follows in isomorphic words after as many entries
 
-alike-suffix : (x : ℕ) (h u : List ℕ) (y : ℕ) (k v : List ℕ) → length h ≡ length k → alike x (h ++ u) y (k ++ v) ≡ true → alike x u y v ≡ true
+alike-suffix : (x : ℕ) (h u : List ℕ) (y : ℕ) (k v : List ℕ) → length h ≡ length k → alike x (h ++ u) y (k ++ v) ≡
+    true → alike x u y v ≡ true
 unfolding alike
 alike-suffix x [] u y [] v l e = e
 alike-suffix x [] u y (c ∷ k) v l e = absurd (omega arith)
@@ -184,7 +192,8 @@ iso-suffix (a ∷ h) u (c ∷ k) v l e = iso-suffix h u k v (omega arith) (and-r
 
 -- an entry d at the prefix value a: as many entries of u are at most d as entries of the rest are
 -- at most the level of a
-alike-level : (d : ℕ) (u g : List ℕ) (a : ℕ) (σ : List ℕ) → a < length g → alike d u (val g a) (map (lift g) σ) ≡ true → under u d ≡ under σ (level g a)
+alike-level : (d : ℕ) (u g : List ℕ) (a : ℕ) (σ : List ℕ) → a < length g → alike d u (val g a) (map (lift g) σ) ≡
+    true → under u d ≡ under σ (level g a)
 unfolding alike under
 alike-level d [] g a [] l e = refl
 alike-level d [] g a (s ∷ σ) l e = absurd (true-not-false (sym e))
@@ -211,7 +220,8 @@ copy-levels (d ∷ h) u (x ∷ a) g σ l w p t e =
     let first : Bool = alike d (h ++ u) (val g x) (map (val g) a ++ map (lift g) σ) in
     let rest : Bool = iso (h ++ u) (map (val g) a ++ map (lift g) σ) in
     let k : length h ≡ length (map (val g) a) = omega (arith, length-map a (val g)) in
-    let i : alike d u (val g x) (map (lift g) σ) ≡ true = alike-suffix d h u (val g x) (map (val g) a) (map (lift g) σ) k (and-left first rest e) in
+    let i : alike d u (val g x) (map (lift g) σ) ≡ true =
+    alike-suffix d h u (val g x) (map (val g) a) (map (lift g) σ) k (and-left first rest e) in
     let high : level g x ≤ length σ = omega (arith, level-at-most g x) in
     ap₂ _∷_ (sym (alike-level d u g x σ (w x (List·Memᴰ·head refl)) i ∙ under-perm σ (level g x) p high))
     (copy-levels h u a g σ (omega arith) (λ (y : ℕ) (m : List·Memᴰ y a). w y (List·Memᴰ·tail m)) p t (and-right first rest e))

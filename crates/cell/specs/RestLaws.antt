@@ -56,7 +56,8 @@ unfolding total
 total-lowered [] s p h = absurd (omega arith)
 total-lowered (x ∷ g) s p h = go (total-lowered g (s - x)) (lowers x g s)
   where
-    go : (1 ≤ s - x → s - x ≤ total g → total (lowered g (s - x)) + 1 ≡ total g) → Lowered x g s → total (lowered (x ∷ g) s) + 1 ≡ x + total g
+    go : (1 ≤ s - x → s - x ≤ total g → total (lowered g (s - x)) + 1 ≡ total g) → Lowered x g s →
+        total (lowered (x ∷ g) s) + 1 ≡ x + total g
     go ih (here k e) = rw e (omega arith)
     go ih (later k e) = rw e (omega (arith, ih (omega arith) (omega arith)))
 
@@ -67,7 +68,8 @@ level-lowered-below g s zero p h = refl
 level-lowered-below [] s (suc a) p h = refl
 level-lowered-below (x ∷ g) s (suc a) p h = go (level-lowered-below g (s - x) a) (lowers x g s)
   where
-    go : (1 ≤ s - x → level g a < s - x → level (lowered g (s - x)) a ≡ level g a) → Lowered x g s → level (lowered (x ∷ g) s) (suc a) ≡ x + level g a
+    go : (1 ≤ s - x → level g a < s - x → level (lowered g (s - x)) a ≡ level g a) → Lowered x g s →
+        level (lowered (x ∷ g) s) (suc a) ≡ x + level g a
     go ih (here k e) = absurd (omega arith)
     go ih (later k e) = rw e (omega (arith, ih (omega arith) (omega arith)))
 
@@ -151,7 +153,8 @@ Within q g = (x : ℕ) → List·Memᴰ x q → x < length g
 
 -- The word over the lowered spacing is isomorphic to the word whose rest r steps over s: for σ ≡ u
 -- ++ (s ∷ v) and r ≡ u ++ v, to the built word without the entry s of its rest.
-pub iso-lowered : (q g r : List ℕ) (s : ℕ) (τ : List ℕ) → 1 ≤ s → Within q g → map (bump s) τ ≡ r → iso (built q (lowered g s) τ) (built q g r) ≡ true
+pub iso-lowered : (q g r : List ℕ) (s : ℕ) (τ : List ℕ) → 1 ≤ s → Within q g → map (bump s) τ ≡ r →
+    iso (built q (lowered g s) τ) (built q g r) ≡ true
 iso-lowered q g r s τ p w e =
     rw (← e) (iso-built q (lowered g s) τ q g (map (bump s) τ) (iso-refl q) (iso-map (bump s) (bump-keeps s) τ τ ∙ iso-refl τ)
     (λ (i : ℕ) (h : i < length q). rw (length-lowered g s) (below i h)) below crosses)

@@ -151,7 +151,8 @@ shift c d x k g e =
     ap (map (λ i. c + val (x ∷ g) i)) (row-suc 1 k) ∙ map-map (λ i. c + val (x ∷ g) i) suc (oneTo k) ∙
     map-same (λ i. c + val (x ∷ g) (suc i)) (λ i. d + val g i) (oneTo k) (λ (i : ℕ) (m : List·Memᴰ i (oneTo k)). omega arith)
 
-between-values : (c k b : ℕ) (g : List ℕ) → length g ≡ suc k → b ≡ suc (c + (k + total g)) → between c (map (λ i. c + val g i) (oneTo k)) b ≡ g
+between-values : (c k b : ℕ) (g : List ℕ) → length g ≡ suc k → b ≡ suc (c + (k + total g)) →
+    between c (map (λ i. c + val g i) (oneTo k)) b ≡ g
 unfolding between val
 between-values c k b [] l e = absurd (omega arith)
 between-values c zero b (x ∷ []) l e = let h : b - c - 1 ≡ x = omega arith in ap (λ (t : ℕ). t ∷ []) h
@@ -160,7 +161,8 @@ between-values c zero b (x ∷ (y ∷ g)) l e = absurd (omega arith)
 between-values c (suc k) b (x ∷ (y ∷ g)) l e =
     let d : ℕ = c + val (x ∷ (y ∷ g)) 1 in
     let h : d - c - 1 ≡ x = omega arith in
-    ap₂ _∷_ h (ap (λ (u : List ℕ). between d u b) (shift c d x k (y ∷ g) (omega arith)) ∙ between-values d k b (y ∷ g) (omega arith) (omega arith))
+    ap₂ _∷_ h (ap (λ (u : List ℕ). between d u b) (shift c d x k (y ∷ g) (omega arith)) ∙
+    between-values d k b (y ∷ g) (omega arith) (omega arith))
 
 values-between : (c b : ℕ) (u : List ℕ) → Up c u → u ≡ map (λ i. c + val (between c u b) i) (oneTo (length u))
 unfolding between val
@@ -177,7 +179,8 @@ from-zero g l = map-same (λ i. 0 + val g i) (val g) l (λ i m. zero-add (val g 
 -- spacing
 pub between-val : (k : ℕ) (g : List ℕ) → length g ≡ suc k → between 0 (map (val g) (oneTo k)) (suc (k + total g)) ≡ g
 between-val k g l =
-    ap (λ (u : List ℕ). between 0 u (suc (k + total g))) (sym (from-zero g (oneTo k))) ∙ between-values 0 k (suc (k + total g)) g l (omega arith)
+    ap (λ (u : List ℕ). between 0 u (suc (k + total g))) (sym (from-zero g (oneTo k))) ∙
+    between-values 0 k (suc (k + total g)) g l (omega arith)
 
 pub val-spacing : (n : ℕ) (u : List ℕ) → Up 0 (sort u) → sort u ≡ map (val (spacing n u)) (oneTo (length u))
 unfolding spacing

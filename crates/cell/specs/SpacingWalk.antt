@@ -4,7 +4,8 @@ use Prim.Native.Nat.{ℕ, zero, suc, _+_, _-_, _≤_, _<_}
 use mathlib.Core.Path.{_≡_, refl, sym, ap, _∙_, subst}
 use mathlib.Core.Logic.{_⊎_, inl, inr}
 use mathlib.Core.Bool.{Bool, true, false, not, cond}
-use mathlib.Core.List.{List, [], _∷_, map, List·Memᴰ, List·Memᴰ·head, List·Memᴰ·tail, List·Memᴰ·not-nil, List·Memᴰ·eq-of-singleton, List·Memᴰ·cases-cons}
+use mathlib.Core.List.{List, [], _∷_, map, List·Memᴰ, List·Memᴰ·head, List·Memᴰ·tail, List·Memᴰ·not-nil}
+use mathlib.Core.List.{List·Memᴰ·eq-of-singleton, List·Memᴰ·cases-cons}
 use mathlib.Core.List.{Memᴰ·map, Memᴰ·of-map}
 use native.Mathlib.Omega.{arith}
 use lib.ListN.{length}
@@ -97,7 +98,8 @@ compared-all P k B g l h f =
 -- element.
 
 module _ {A : Type 0} where
-  pub keep-fewer : (f h : A → Bool) (l : List A) → ((x : A) → List·Memᴰ x l → f x ≡ true → h x ≡ true) → length (keep f l) ≤ length (keep h l)
+  pub keep-fewer : (f h : A → Bool) (l : List A) → ((x : A) → List·Memᴰ x l → f x ≡ true → h x ≡ true) →
+      length (keep f l) ≤ length (keep h l)
   keep-fewer f h [] i = omega arith
   keep-fewer f h (x ∷ l) i = go (f x) (h x) (i x (List·Memᴰ·head refl)) (keep-fewer f h l (λ y m. i y (List·Memᴰ·tail m)))
     where
@@ -108,7 +110,8 @@ module _ {A : Type 0} where
       go false true e k = omega arith
       go false false e k = k
 
-  pub keep-sizes : (f h : A → Bool) (l : List A) → ((x : A) → List·Memᴰ x l → f x ≡ true → h x ≡ true) → length (keep f l) ≡ length (keep h l) →
+  pub keep-sizes : (f h : A → Bool) (l : List A) → ((x : A) → List·Memᴰ x l → f x ≡ true → h x ≡ true) →
+      length (keep f l) ≡ length (keep h l) →
       (x : A) → List·Memᴰ x l → f x ≡ h x
   keep-sizes f h [] i e x m = absurd (List·Memᴰ·not-nil m)
   keep-sizes f h (y ∷ l) i e x m =

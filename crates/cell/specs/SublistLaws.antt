@@ -37,14 +37,16 @@ module _ {A : Type 0} where
   sublist-whole (Sublistᴰ·cons-cons e d) h = ap₂ _∷_ e (sublist-whole d (omega arith))
 
   -- a shorter sublist leaves out an entry x
-  pub sublist-spare : {s l : List A} → Sublistᴰ s l → length s < length l → (u : List A) × (x : A) × (v : List A) × (l ≡ u ++ (x ∷ v)) × Sublistᴰ s (u ++ v)
+  pub sublist-spare : {s l : List A} → Sublistᴰ s l → length s < length l → (u : List A) × (x : A) × (v : List A) ×
+      (l ≡ u ++ (x ∷ v)) × Sublistᴰ s (u ++ v)
   sublist-spare Sublistᴰ·slnil h = absurd (omega arith)
   sublist-spare (Sublistᴰ·cons {a = x} {l₂ = l} d) h = ([], x, l, refl, d)
   sublist-spare (Sublistᴰ·cons-cons {b = y} e d) h =
       let (u, x, v, q, t) = sublist-spare d (omega arith) in (y ∷ u, x, v, ap (λ (k : List A). y ∷ k) q, Sublistᴰ·cons-cons e t)
 
   -- a sublist of two joined lists is a sublist of each, joined
-  pub sublist-of-append : (u v : List A) {s : List A} → Sublistᴰ s (u ++ v) → (a : List A) × (r : List A) × (s ≡ a ++ r) × Sublistᴰ a u × Sublistᴰ r v
+  pub sublist-of-append : (u v : List A) {s : List A} → Sublistᴰ s (u ++ v) → (a : List A) × (r : List A) ×
+      (s ≡ a ++ r) × Sublistᴰ a u × Sublistᴰ r v
   sublist-of-append [] v {s} d = ([], s, refl, Sublistᴰ·slnil, d)
   sublist-of-append (x ∷ u) v {s} d = go (λ (t : List A) (e : Sublistᴰ t (u ++ v)). sublist-of-append u v e) (Sublistᴰ·cases-cons d)
     where

@@ -36,7 +36,8 @@ prefix-within p g perm size x m = let (low, high) = perm-bounds p perm m in omeg
 pub gap-law : (P : List (List ℕ)) (p b : List ℕ) → isPerm p ≡ true → (cell P p b ≡ []) ↔ GapClaim P p b
 gap-law P p b perm = (up, λ claim. claim b (atLeast-refl b))
   where
-    below : (g : List ℕ) → atLeast g b ≡ true → length g ≡ suc (length p) → (w : List ℕ) → List·Memᴰ w (cell P p g) → (v : List ℕ) × List·Memᴰ v (cell P p b)
+    below : (g : List ℕ) → atLeast g b ≡ true → length g ≡ suc (length p) → (w : List ℕ) →
+        List·Memᴰ w (cell P p g) → (v : List ℕ) × List·Memᴰ v (cell P p b)
     below g h size w m =
         let (σ, s, a, e) = cell-out P p g m in
         let (sp, sl) = perms-are (total g) s in
@@ -51,14 +52,15 @@ gap-law P p b perm = (up, λ claim. claim b (atLeast-refl b))
         go (inr wide) = cell-width P p g wide
 
 module _ (P : List (List ℕ)) (p R : List ℕ) (perm : isPerm p ≡ true) (inside : all (within (length p)) R ≡ true) where
-  -- for one spacing
+  -- deleting, on the cell at one spacing
   module _ (g : List ℕ) (size : length g ≡ suc (length p)) where
     shorter-size : length (merged R p g) ≡ suc (length (deleted R p))
     shorter-size = merged-length R p g perm size inside
 
     -- the rests of the shorter cell
     shorter-out : {w : List ℕ} → List·Memᴰ w (cell P (deleted R p) (merged R p g)) →
-        (σ : List ℕ) × List·Memᴰ σ (perms (total g)) × (avoids P (built (deleted R p) (merged R p g) σ) ≡ true) × (w ≡ built (deleted R p) (merged R p g) σ)
+        (σ : List ℕ) × List·Memᴰ σ (perms (total g)) × (avoids P (built (deleted R p) (merged R p g) σ) ≡ true) ×
+        (w ≡ built (deleted R p) (merged R p g) σ)
     shorter-out m = rw (merged-total R p g) at (cell-out P (deleted R p) (merged R p g) m)
 
     shorter-in : (σ : List ℕ) → List·Memᴰ σ (perms (total g)) → avoids P (built (deleted R p) (merged R p g) σ) ≡ true →
@@ -80,17 +82,19 @@ module _ (P : List (List ℕ)) (p R : List ℕ) (perm : isPerm p ≡ true) (insi
             List·Memᴰ (deleted R w) (cell P (deleted R p) (merged R p g))
         go σ s a e = rw (e, removed σ s) (shorter-in σ s (deleted-avoids R p g perm size inside σ P a))
 
-    -- .. and one-one.
+    -- no two members of a cell lose different entries and become the same word
     pub removal-one-one : (v w : List ℕ) → List·Memᴰ v (cell P p g) → List·Memᴰ w (cell P p g) → deleted R v ≡ deleted R w → v ≡ w
     removal-one-one v w m n e =
         let (σ, s, a, d) = cell-out P p g m in
         let (τ, t, b, f) = cell-out P p g n in
         go σ s d τ t f
       where
-        go : (σ : List ℕ) → List·Memᴰ σ (perms (total g)) → v ≡ built p g σ → (τ : List ℕ) → List·Memᴰ τ (perms (total g)) → w ≡ built p g τ → v ≡ w
+        go : (σ : List ℕ) → List·Memᴰ σ (perms (total g)) → v ≡ built p g σ → (τ : List ℕ) →
+            List·Memᴰ τ (perms (total g)) → w ≡ built p g τ → v ≡ w
         go σ s d τ t f =
             let same : σ ≡ τ =
-            built-injective (deleted R p) (merged R p g) σ τ (sym (removed σ s) ∙ ap (deleted R) (sym d) ∙ e ∙ ap (deleted R) f ∙ removed τ t) in
+            built-injective (deleted R p) (merged R p g) σ τ
+            (sym (removed σ s) ∙ ap (deleted R) (sym d) ∙ e ∙ ap (deleted R) f ∙ removed τ t) in
             d ∙ ap (built p g) same ∙ sym f
 
     -- The sizes agree exactly if every avoiding rest of the shorter prefix is one of the prefix.
@@ -112,7 +116,8 @@ module _ (P : List (List ℕ)) (p R : List ℕ) (perm : isPerm p ≡ true) (insi
     pub sizes-of-agrees : Agrees P p (without R p) g → length (cell P p g) ≡ length (cell P (deleted R p) (merged R p g))
     sizes-of-agrees agree =
         cell-size P p g perm size ∙
-        ap length (keep-same (λ τ. avoids P (built p g τ)) (λ τ. avoids P (built (deleted R p) (merged R p g) τ)) (perms (total g)) (agrees-test agree)) ∙
+        ap length (keep-same (λ τ. avoids P (built p g τ)) (λ τ. avoids P (built (deleted R p) (merged R p g) τ))
+        (perms (total g)) (agrees-test agree)) ∙
         sym (cell-size P (deleted R p) (merged R p g) (deleted-perm R p perm) shorter-size ∙
         ap (λ (t : ℕ). length (keep (λ τ. avoids P (built (deleted R p) (merged R p g) τ)) (perms t))) (merged-total R p g))
 
@@ -120,7 +125,8 @@ module _ (P : List (List ℕ)) (p R : List ℕ) (perm : isPerm p ≡ true) (insi
     pub carries-of-agrees : Agrees P p (without R p) g → Carries (deleted R) (cell P p g) (cell P (deleted R p) (merged R p g))
     carries-of-agrees agree = record { into = removal-into; one-one = removal-one-one; onto = back }
       where
-        back : (v : List ℕ) → List·Memᴰ v (cell P (deleted R p) (merged R p g)) → (w : List ℕ) × List·Memᴰ w (cell P p g) × (deleted R w ≡ v)
+        back : (v : List ℕ) → List·Memᴰ v (cell P (deleted R p) (merged R p g)) → (w : List ℕ) ×
+            List·Memᴰ w (cell P p g) × (deleted R w ≡ v)
         back v m = let (σ, s, a, e) = shorter-out m in go σ s a e
           where
             go : (σ : List ℕ) → List·Memᴰ σ (perms (total g)) → avoids P (built (deleted R p) (merged R p g) σ) ≡ true →
@@ -130,7 +136,8 @@ module _ (P : List (List ℕ)) (p R : List ℕ) (perm : isPerm p ≡ true) (insi
     pub agrees-of-carries : Carries (deleted R) (cell P p g) (cell P (deleted R p) (merged R p g)) → Agrees P p (without R p) g
     agrees-of-carries carries σ sp sl a =
         let s = perms-all (total g) σ sp sl in
-        let (w, m, e) = carries .onto (built (deleted R p) (merged R p g) σ) (shorter-in σ s (built-deleted-avoids R p g perm size inside σ P ∙ a)) in
+        let (w, m, e) = carries .onto (built (deleted R p) (merged R p g) σ)
+        (shorter-in σ s (built-deleted-avoids R p g perm size inside σ P ∙ a)) in
         let (τ, t, b, f) = cell-out P p g m in
         go s w e τ t b f
       where
@@ -141,21 +148,25 @@ module _ (P : List (List ℕ)) (p R : List ℕ) (perm : isPerm p ≡ true) (insi
             ap (λ (x : List ℕ). avoids P (built p g x)) (sym same) ∙ b
 
     -- The sizes are equal exactly if each member of the shorter cell has a partner in the cell.
-    pub sizes-equal : ((v : List ℕ) → List·Memᴰ v (cell P (deleted R p) (merged R p g)) → (w : List ℕ) × List·Memᴰ w (cell P p g) × (deleted R w ≡ v)) →
+    pub sizes-equal : ((v : List ℕ) → List·Memᴰ v (cell P (deleted R p) (merged R p g)) → (w : List ℕ) × List·Memᴰ w
+        (cell P p g) × (deleted R w ≡ v)) →
         length (cell P p g) ≡ length (cell P (deleted R p) (merged R p g))
     sizes-equal back = sizes-of-agrees (agrees-of-carries (record { into = removal-into; one-one = removal-one-one; onto = back }))
 
     pub sizes-differ : (v : List ℕ) → List·Memᴰ v (cell P (deleted R p) (merged R p g)) →
-        ((w : List ℕ) → List·Memᴰ w (cell P p g) → deleted R w ≡ v → ⊥) → length (cell P p g) ≡ length (cell P (deleted R p) (merged R p g)) → ⊥
+        ((w : List ℕ) → List·Memᴰ w (cell P p g) → deleted R w ≡ v → ⊥) → length (cell P p g) ≡
+        length (cell P (deleted R p) (merged R p g)) → ⊥
     sizes-differ v m alone e = let (w, n, q) = carries-of-agrees (agrees-of-sizes e) .onto v m in alone w n q
 
     -- A member of the shorter cell without a partner gives a violation that is the prefix and one
     -- copy of a pattern, at a spacing at most g.
     pub least-violation : (v : List ℕ) → List·Memᴰ v (cell P (deleted R p) (merged R p g)) →
         ((w : List ℕ) → List·Memᴰ w (cell P p g) → deleted R w ≡ v → ⊥) → Violation P p (without R p) g
-    least-violation v m alone = let (σ, s, a, e) = shorter-out m in let (sp, sl) = perms-are (total g) s in go σ s sp sl a e (avoids P (built p g σ)) refl
+    least-violation v m alone = let (σ, s, a, e) = shorter-out m in let (sp, sl) = perms-are (total g) s in
+        go σ s sp sl a e (avoids P (built p g σ)) refl
       where
-        go : (σ : List ℕ) → List·Memᴰ σ (perms (total g)) → isPerm σ ≡ true → length σ ≡ total g → avoids P (built (deleted R p) (merged R p g) σ) ≡ true →
+        go : (σ : List ℕ) → List·Memᴰ σ (perms (total g)) → isPerm σ ≡ true → length σ ≡ total g →
+            avoids P (built (deleted R p) (merged R p g) σ) ≡ true →
             v ≡ built (deleted R p) (merged R p g) σ → (t : Bool) → avoids P (built p g σ) ≡ t → Violation P p (without R p) g
         go σ s sp sl a e true f = absurd (alone (built p g σ) (cell-in P p g σ perm size s f) (removed σ s ∙ sym e))
         go σ s sp sl a e false f =

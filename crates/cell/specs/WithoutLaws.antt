@@ -47,7 +47,8 @@ unfolding withoutFrom
 from-sublist R i [] = Sublistᴰ·slnil
 from-sublist R i (x ∷ w) = go (has i R) (from-sublist R (suc i) w)
   where
-    go : (b : Bool) → Sublistᴰ (withoutFrom R (suc i) w) w → Sublistᴰ (cond b (withoutFrom R (suc i) w) (x ∷ withoutFrom R (suc i) w)) (x ∷ w)
+    go : (b : Bool) → Sublistᴰ (withoutFrom R (suc i) w) w →
+        Sublistᴰ (cond b (withoutFrom R (suc i) w) (x ∷ withoutFrom R (suc i) w)) (x ∷ w)
     go true d = Sublistᴰ·cons d
     go false d = Sublistᴰ·cons-cons refl d
 
@@ -74,19 +75,22 @@ unfolding withoutFrom
 from-none R i [] h = refl
 from-none R i (x ∷ w) h = rw (h i (omega arith), from-none R (suc i) w (λ (j : ℕ) (l : suc i ≤ j). h j (omega arith)))
 
-from-append : (R : List ℕ) (i : ℕ) (u v : List ℕ) → ((j : ℕ) → i + length u ≤ j → has j R ≡ false) → withoutFrom R i (u ++ v) ≡ withoutFrom R i u ++ v
+from-append : (R : List ℕ) (i : ℕ) (u v : List ℕ) → ((j : ℕ) → i + length u ≤ j → has j R ≡ false) →
+    withoutFrom R i (u ++ v) ≡ withoutFrom R i u ++ v
 unfolding withoutFrom
 from-append R i [] v h = from-none R i v (λ (j : ℕ) (l : i ≤ j). h j (omega arith))
 from-append R i (x ∷ u) v h = go (has i R) (from-append R (suc i) u v (λ (j : ℕ) (l : suc i + length u ≤ j). h j (omega arith)))
   where
     go : (b : Bool) → withoutFrom R (suc i) (u ++ v) ≡ withoutFrom R (suc i) u ++ v →
-        cond b (withoutFrom R (suc i) (u ++ v)) (x ∷ withoutFrom R (suc i) (u ++ v)) ≡ cond b (withoutFrom R (suc i) u) (x ∷ withoutFrom R (suc i) u) ++ v
+        cond b (withoutFrom R (suc i) (u ++ v)) (x ∷ withoutFrom R (suc i) (u ++ v)) ≡
+        cond b (withoutFrom R (suc i) u) (x ∷ withoutFrom R (suc i) u) ++ v
     go true e = e
     go false e = ap (λ (t : List ℕ). x ∷ t) e
 
 -- a number beyond n is no position within n
 within-has : (R : List ℕ) (n j : ℕ) → all (within n) R ≡ true → n < j → has j R ≡ false
-within-has R n j h l = not-true (has j R) (not-in (has j R) (λ e. let t = within-out n j (all-out (within n) (has-out j R e) h) in omega arith))
+within-has R n j h l = not-true (has j R) (not-in (has j R)
+    (λ e. let t = within-out n j (all-out (within n) (has-out j R e) h) in omega arith))
 
 -- what follows the word in which all the positions lie stays
 pub without-append : (R u v : List ℕ) → all (within (length u)) R ≡ true → without R (u ++ v) ≡ without R u ++ v
@@ -118,14 +122,16 @@ getD-injective (x ∷ w) zero (suc j) d h k q = absurd (distinct-out x w d .0 (M
 getD-injective (x ∷ w) (suc i) zero d h k q = absurd (distinct-out x w d .0 (Memᴰ·cast (sym q) (getD-mem w i 0 (omega arith))))
 getD-injective (x ∷ w) (suc i) (suc j) d h k q = ap suc (getD-injective w i j (distinct-out x w d .1) (omega arith) (omega arith) q)
 
-pub entry-injective : (w : List ℕ) (i j : ℕ) → distinct w ≡ true → 1 ≤ i → i ≤ length w → 1 ≤ j → j ≤ length w → entry w i ≡ entry w j → i ≡ j
+pub entry-injective : (w : List ℕ) (i j : ℕ) → distinct w ≡ true → 1 ≤ i → i ≤ length w → 1 ≤ j → j ≤ length w →
+    entry w i ≡ entry w j → i ≡ j
 unfolding entry
 entry-injective w zero j d a b c e q = absurd (omega arith)
 entry-injective w (suc i) zero d a b c e q = absurd (omega arith)
 entry-injective w (suc i) (suc j) d a b c e q = ap suc (getD-injective w i j d (omega arith) (omega arith) q)
 
 -- the members of a word with the positions R left out
-pub without-out : (R w : List ℕ) {x : ℕ} → List·Memᴰ x (without R w) → (i : ℕ) × (1 ≤ i) × (i ≤ length w) × (has i R ≡ false) × (entry w i ≡ x)
+pub without-out : (R w : List ℕ) {x : ℕ} → List·Memᴰ x (without R w) → (i : ℕ) × (1 ≤ i) × (i ≤ length w) ×
+    (has i R ≡ false) × (entry w i ≡ x)
 unfolding without
 without-out R w m =
     let (i, k, q) = Memᴰ·of-map (entry w) (keep (λ i. not (has i R)) (oneTo (length w))) m in

@@ -60,12 +60,14 @@ kept-all p g levels k low says small =
         rw e (omega arith)
 
 -- the parts of a vector of k + 1 components; `parts` is its array
-pub gap-is : (b : Gap) (k : ℕ) (parts : List ℕ) → b .width ≡ suc k → parts ≡ b .parts → length parts ≡ COMPONENTS → k ≤ PREFIX → gapIn b ≡ take (k + 1) parts
+pub gap-is : (b : Gap) (k : ℕ) (parts : List ℕ) → b .width ≡ suc k → parts ≡ b .parts → length parts ≡ COMPONENTS →
+    k ≤ PREFIX → gapIn b ≡ take (k + 1) parts
 gap-is b k parts wide same seven short =
     ap₂ padded (wide ∙ sym (add-one k)) (sym same) ∙ padded-within (k + 1) parts (omega (arith, seven))
 
 -- A spacing of k + 1 components in an array of seven.
-module _ (k : ℕ) (parts : List ℕ) (seven : length parts ≡ COMPONENTS) (short : k ≤ PREFIX) (small : total (take (k + 1) parts) ≤ TOTAL) (levels : List ℕ)
+module _ (k : ℕ) (parts : List ℕ) (seven : length parts ≡ COMPONENTS) (short : k ≤ PREFIX)
+    (small : total (take (k + 1) parts) ≤ TOTAL) (levels : List ℕ)
     (says : Says levels (k + 1) (level (take (k + 1) parts))) where
   spacing-size : length (take (k + 1) parts) ≡ k + 1
   spacing-size = length-take-le (k + 1) parts (omega (arith, seven))
@@ -77,8 +79,10 @@ module _ (k : ℕ) (parts : List ℕ) (seven : length parts ≡ COMPONENTS) (sho
       ap (level (take (k + 1) parts)) (sym spacing-size) ∙ level-whole (take (k + 1) parts)
 
   -- the first entries can be completed exactly if the cell is not empty
-  pub live-is : (P : List (List ℕ)) (prefix entries : List ℕ) (n len : ℕ) → length prefix ≡ PREFIX → isPerm (take k prefix) ≡ true → length entries ≡ WORD →
-      len ≤ PREFIX → take len entries ≡ keptValues levels (replicate (DIGITS + 1) 0) (take k prefix) → n ≡ k + (getD levels k 0 + getD parts k 0) →
+  pub live-is : (P : List (List ℕ)) (prefix entries : List ℕ) (n len : ℕ) → length prefix ≡ PREFIX →
+      isPerm (take k prefix) ≡ true → length entries ≡ WORD →
+      len ≤ PREFIX → take len entries ≡ keptValues levels (replicate (DIGITS + 1) 0) (take k prefix) → n ≡
+      k + (getD levels k 0 + getD parts k 0) →
       completable P n (take k entries) ≡ not (isEmpty (cell P (take k prefix) (take (k + 1) parts)))
   live-is P prefix entries n len six perm twenty few kept whole =
       let p = take k prefix in

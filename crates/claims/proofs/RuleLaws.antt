@@ -41,7 +41,8 @@ first-position [] r h = absurd (omega arith)
 first-position (x ∷ l) r h = refl
 
 -- an expanding entry
-pub expands-differs : (P : List (List ℕ)) (e : Entry) → e .rule ≡ Expand → differs P ((entryIn e) .prefix) ((entryIn e) .gaps) ((entryIn e) .rule) ≡ false
+pub expands-differs : (P : List (List ℕ)) (e : Entry) → e .rule ≡ Expand →
+    differs P ((entryIn e) .prefix) ((entryIn e) .gaps) ((entryIn e) .rule) ≡ false
 unfolding differs
 expands-differs P e q = ap (λ (x : Rule). differs P ((entryIn e) .prefix) ((entryIn e) .gaps) (doesOf x)) q
 
@@ -63,18 +64,20 @@ module _ (e : Entry) (proper : ProperEntry (entryIn e)) (six : length (e .prefix
           (and-left (within (length ((entryIn e) .prefix)) r) true (position-inside (length ((entryIn e) .prefix)) r deletes-inside)) .1
 
   -- what the search is given
-  pub given : (set : List (List ℕ)) (lengths : List ℕ) (count : ℕ) → length set ≡ PATTERNS → length lengths ≡ PATTERNS → ProperSet set lengths count →
+  pub given : (set : List (List ℕ)) (lengths : List ℕ) (count : ℕ) → length set ≡ PATTERNS → length lengths ≡
+      PATTERNS → ProperSet set lengths count →
       Given set lengths count (take (e .length) (e .prefix)) (r ∷ [])
   given set lengths count hs hl q =
       record {
         few = q .few;
-        patterns = λ (i : ℕ) (h : i < count). q .perms (patternAt set lengths i) (pattern-member set lengths count i h (omega (arith, q .few)) (omega (arith, q .few)));
+        patterns = λ (i : ℕ) (h : i < count). q .perms (patternAt set lengths i)
+            (pattern-member set lengths count i h (omega (arith, q .few)) (omega (arith, q .few)));
         perm = prefix-perm e proper six;
         short = omega (arith, entry-short e proper, length-take-le (e .length) (e .prefix) (omega (arith, entry-short e proper)));
         inside = positions-inside;
       }
 
-  -- what it answers
+  -- what the search answers is test 11 on the entry
   pub answers : (P : List (List ℕ)) (b : Bool) → length (e .gaps) ≡ PARTS →
       EntryAnswer P (take (e .length) (e .prefix)) (gapsOf (e .gaps) (e .length + 1) (e .«gap_count»)) (r ∷ []) b →
       b ≡ differs P ((entryIn e) .prefix) ((entryIn e) .gaps) ((entryIn e) .rule)
@@ -95,15 +98,23 @@ expands-compared m e q =
     }
 
 pub deletes-compared : (m : ℕ) (e : Entry) (r n : ℕ) → m ≤ DIGITS → ProperEntry (entryIn e) → e .rule ≡ Delete r →
-    length (e .gaps) ≡ PARTS → n ≡ length (keep (free (gapsOf (e .gaps) (e .length + 1) (e .«gap_count»))) (each (vectors (suc (e .length))) (row 0 m))) →
+    length (e .gaps) ≡ PARTS → n ≡ length (keep (free (gapsOf (e .gaps) (e .length + 1) (e .«gap_count»)))
+    (each (vectors (suc (e .length))) (row 0 m))) →
     ComparedAnswer m (entryIn e) n
 unfolding comparedWith compared
 deletes-compared m e r n low proper q all is =
     record {
       compares = λ P h.
           is ∙
-          ap₂ (λ (B : List (List ℕ)) (i : ℕ). length (keep (free B) (each (vectors (suc (e .length))) (row 0 i)))) (gaps-hold e proper all) (sym h) ∙
-          ap (λ (k : ℕ). length (keep (free ((entryIn e) .gaps)) (each (vectors (suc k)) (row 0 (mOf P))))) (sym (length-padded (e .length) (e .prefix))) ∙
+          ap₂ (λ (B : List (List ℕ)) (i : ℕ). length (keep (free B) (each (vectors (suc (e .length))) (row 0 i))))
+          (gaps-hold e proper all) (sym h) ∙
+          ap (λ (k : ℕ). length (keep (free ((entryIn e) .gaps)) (each (vectors (suc k)) (row 0 (mOf P)))))
+          (sym (length-padded (e .length) (e .prefix))) ∙
           ap (λ (x : Rule). comparedWith P ((entryIn e) .prefix) ((entryIn e) .gaps) (doesOf x)) (sym q);
-      small = omega (arith, is, compared-small m (e .length) (gapsOf (e .gaps) (e .length + 1) (e .«gap_count»)) low (entry-short e proper));
+      small = omega (
+        arith,
+        is,
+        compared-small m (e .length) (gapsOf (e .gaps) (e .length + 1) (e .«gap_count»)) low
+            (entry-short e proper),
+      );
     }

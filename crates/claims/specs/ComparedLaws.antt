@@ -24,8 +24,10 @@ pub binomial-small : (m k : ℕ) → m ≤ DIGITS → k ≤ PREFIX → binomial 
 binomial-small m k h l =
     leb-true (binomial (m + k) (suc k)) COMPARED
     (all-out (λ (i : ℕ). leb (binomial (i + k) (suc k)) COMPARED) (row-in 0 (DIGITS + 1) m (omega arith) (omega arith))
-    (all-out (λ (j : ℕ). all (λ (i : ℕ). leb (binomial (i + j) (suc j)) COMPARED) (row 0 (DIGITS + 1))) (row-in 0 COMPONENTS k (omega arith) (omega arith)) small-binomials))
+    (all-out (λ (j : ℕ). all (λ (i : ℕ). leb (binomial (i + j) (suc j)) COMPARED) (row 0 (DIGITS + 1)))
+    (row-in 0 COMPONENTS k (omega arith) (omega arith)) small-binomials))
 
-pub compared-small : (m k : ℕ) (B : List (List ℕ)) → m ≤ DIGITS → k ≤ PREFIX → length (keep (free B) (each (vectors (suc k)) (row 0 m))) ≤ COMPARED
+pub compared-small : (m k : ℕ) (B : List (List ℕ)) → m ≤ DIGITS → k ≤ PREFIX →
+    length (keep (free B) (each (vectors (suc k)) (row 0 m))) ≤ COMPARED
 compared-small m k B h l =
     omega (arith, binomial-small m k h l, vectors-below k m, keep-shorter (free B) (each (vectors (suc k)) (row 0 m)))

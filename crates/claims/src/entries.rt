@@ -61,7 +61,8 @@ pub fn is_irreversible(
     m: usize,
     e: Entry,
 ) -> bool
-    requires { ⌜ AllNeeds set lengths count (now needs) × ProperSet set lengths count × (m ≡ longest (patternsOf set lengths count)) × (m ≤ DIGITS) × ProperEntry (entryIn e) ⌝ }
+    requires { ⌜ AllNeeds set lengths count (now needs) × ProperSet set lengths count ×
+        (m ≡ longest (patternsOf set lengths count)) × (m ≤ DIGITS) × ProperEntry (entryIn e) ⌝ }
     ensures { λ r. ⌜ r ≡ differs (patternsOf set lengths count) ((entryIn e) .prefix) ((entryIn e) .gaps) ((entryIn e) .rule) ⌝ }
 {
     let rule = e.rule;
@@ -86,7 +87,9 @@ fn loses(
     e: Entry,
     cut: Cut,
 ) -> bool
-    requires { ⌜ AllNeeds set lengths count (now needs) × ProperSet set lengths count × (cut .longest ≡ longest (patternsOf set lengths count)) × (cut .longest ≤ DIGITS) × ProperEntry (entryIn e) × DeletesAt e (cut .position) ⌝ }
+    requires { ⌜ AllNeeds set lengths count (now needs) × ProperSet set lengths count ×
+        (cut .longest ≡ longest (patternsOf set lengths count)) × (cut .longest ≤ DIGITS) ×
+        ProperEntry (entryIn e) × DeletesAt e (cut .position) ⌝ }
     ensures { λ r. ⌜ r ≡ differs (patternsOf set lengths count) ((entryIn e) .prefix) ((entryIn e) .gaps) ((entryIn e) .rule) ⌝ }
 {
     let prefix = e.prefix;

@@ -135,7 +135,8 @@ fn has_empty(
     t: usize,
 ) -> bool
     requires { ⌜ (at .length ≤ PREFIX) × (isPerm (take (at .length) (at .prefix)) ≡ true) × (t ≤ TOTAL) ⌝ }
-    ensures { λ r. ⌜ r ≡ emptyAt (patternsOf set lengths count) (take (at .length) (at .prefix)) (take (at .length + 1) (at .parts)) (at .length) t ⌝ }
+    ensures { λ r. ⌜ r ≡ emptyAt (patternsOf set lengths count) (take (at .length) (at .prefix))
+        (take (at .length + 1) (at .parts)) (at .length) t ⌝ }
 {
     let k = at.length;
     let mut g = first_spacing(k, t as u8);
@@ -160,7 +161,8 @@ fn is_empty_below(
     g: [u8; COMPONENTS],
 ) -> bool
     requires { ⌜ (at .length ≤ PREFIX) × (isPerm (take (at .length) (at .prefix)) ≡ true) × (total (take (at .length + 1) g) ≤ TOTAL) ⌝ }
-    ensures { λ r. ⌜ r ≡ showsEmpty (patternsOf set lengths count) (take (at .length) (at .prefix)) (take (at .length + 1) (at .parts)) (take (at .length + 1) g) ⌝ }
+    ensures { λ r. ⌜ r ≡ showsEmpty (patternsOf set lengths count) (take (at .length) (at .prefix))
+        (take (at .length + 1) (at .parts)) (take (at .length + 1) g) ⌝ }
 {
     let k = at.length;
     let parts = at.parts;

@@ -38,7 +38,8 @@ unfolding allAllowed
 allowed-start P n u = ap (all (allowed P u)) (values-all n)
 
 -- a word of all entries: the answer is whether it contains no pattern
-pub whole-answer : (P : List (List ℕ)) (n : ℕ) (u : List ℕ) (r : Bool) → r ≡ not (avoids P u) → begun n u ≡ true → length u ≡ n → not r ≡ completable P n u
+pub whole-answer : (P : List (List ℕ)) (n : ℕ) (u : List ℕ) (r : Bool) → r ≡ not (avoids P u) → begun n u ≡ true →
+    length u ≡ n → not r ≡ completable P n u
 whole-answer P n u r e b l = ap not e ∙ twice (avoids P u) ∙ sym (completable-whole P n u b l)
   where
     twice : (t : Bool) → not (not t) ≡ t
@@ -55,7 +56,8 @@ module _ (P : List (List ℕ)) (u : List ℕ) (v : ℕ) (n : ℕ) (h : v ≤ n) 
   unfolding allowed
   allowed-stands e = rw (values-cons v n h, e) refl
 
-  pub allowed-fits : has v u ≡ false → avoids P (u ++ (v ∷ [])) ≡ true → all (allowed P u) (values v n) ≡ all (allowed P u) (values (v + 1) n)
+  pub allowed-fits : has v u ≡ false → avoids P (u ++ (v ∷ [])) ≡ true → all (allowed P u) (values v n) ≡
+      all (allowed P u) (values (v + 1) n)
   unfolding allowed
   allowed-fits e a = rw (values-cons v n h, e, a) refl
 
@@ -100,6 +102,7 @@ begun-fails n w i len h k f = go (begun n (take len w)) refl
   where
     go : (b : Bool) → begun n (take len w) ≡ b → b ≡ false
     go true e =
-        let (l, m, q) = begun-last n (take i w) (getD w i 0) (take (len - suc i) (drop (suc i) w)) (ap (begun n) (sym (front-cut w i len h k)) ∙ e) in
+        let (l, m, q) = begun-last n (take i w) (getD w i 0) (take (len - suc i) (drop (suc i) w))
+        (ap (begun n) (sym (front-cut w i len h k)) ∙ e) in
         absurd (f l m q)
     go false e = refl

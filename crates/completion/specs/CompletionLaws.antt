@@ -12,9 +12,11 @@ use lib.ListN.{length, take, drop, length-append, take-append-drop}
 use lib.Seq.{take-append-seam}
 use Rattle.word.specs.Lists.{all, any, oneTo}
 use Rattle.word.specs.Word.{avoids, avoiders, has, distinct, within, isPerm}
-use Rattle.word.specs.ListLaws.{true-not-false, and-left, and-right, and-in, not-in, same-test, fails-with, any-out, any-in, all-out, all-in, all-append, row-out, row-in}
+use Rattle.word.specs.ListLaws.{true-not-false, and-left, and-right, and-in, not-in, same-test, fails-with}
+use Rattle.word.specs.ListLaws.{any-out, any-in, all-out, all-in, all-append, row-out, row-in}
 use Rattle.word.specs.ContainsLaws.{avoids-sublist}
-use Rattle.word.specs.PermLaws.{has-out, has-in, within-out, within-in, distinct-out, distinct-in, perm-bounds, perm-distinct, perm-in, perm-has}
+use Rattle.word.specs.PermLaws.{has-out, has-in, within-out, within-in, distinct-out, distinct-in, perm-bounds}
+use Rattle.word.specs.PermLaws.{perm-distinct, perm-in, perm-has}
 use Rattle.word.specs.AscendLaws.{avoiders-are, avoiders-all}
 use Rattle.cell.specs.BuiltCells.{same-out, same-refl}
 use Rattle.completion.specs.Completion.{begins, completable, begun, allowed, allAllowed, goesOn}
@@ -22,8 +24,11 @@ use Rattle.completion.specs.Completion.{begins, completable, begun, allo
 -- a word that begins with u is u and a rest
 pub begins-out : (u w : List ℕ) → begins u w ≡ true → (r : List ℕ) × (u ++ r ≡ w)
 unfolding begins
-begins-out u w e =
-    (drop (length u) w, ap (λ (t : List ℕ). t ++ drop (length u) w) (sym (same-out (take (length u) w) u e)) ∙ take-append-drop (length u) w)
+begins-out u w e = (
+  drop (length u) w,
+  ap (λ (t : List ℕ). t ++ drop (length u) w) (sym (same-out (take (length u) w) u e)) ∙
+      take-append-drop (length u) w,
+)
 
 pub begins-in : (u r : List ℕ) → begins u (u ++ r) ≡ true
 unfolding begins
@@ -86,7 +91,8 @@ unfolding begun
 completable-begun P n u e =
     let (r, p, l, a) = completable-out P n u e in
     and-in (all (within n) u) (distinct u)
-    (all-in (within n) u (λ (x : ℕ) (m : List·Memᴰ x u). let (h, k) = perm-bounds (u ++ r) p (Memᴰ·append-left r m) in within-in n x h (omega arith)))
+    (all-in (within n) u (λ (x : ℕ) (m : List·Memᴰ x u). let (h, k) = perm-bounds (u ++ r) p
+    (Memᴰ·append-left r m) in within-in n x h (omega arith)))
     (distinct-front u r (perm-distinct (u ++ r) p))
 
 pub completable-length : (P : List (List ℕ)) (n : ℕ) (u : List ℕ) → completable P n u ≡ true → length u ≤ n
@@ -118,7 +124,8 @@ begun-snoc n u v e h k f =
 pub begun-last : (n : ℕ) (u : List ℕ) (v : ℕ) (r : List ℕ) → begun n (u ++ (v ∷ r)) ≡ true → (1 ≤ v) × (v ≤ n) × (has v u ≡ false)
 unfolding begun
 begun-last n u v r e =
-    let (h, k) = within-out n v (all-out (within n) (Memᴰ·append-right u (List·Memᴰ·head refl)) (and-left (all (within n) (u ++ (v ∷ r))) (distinct (u ++ (v ∷ r))) e)) in
+    let (h, k) = within-out n v (all-out (within n) (Memᴰ·append-right u (List·Memᴰ·head refl))
+    (and-left (all (within n) (u ++ (v ∷ r))) (distinct (u ++ (v ∷ r))) e)) in
     (h, k, fresh (has v u) refl)
   where
     fresh : (b : Bool) → has v u ≡ b → has v u ≡ false
@@ -135,7 +142,8 @@ completable-whole P n u b l =
   where
     perm : isPerm u ≡ true
     perm = perm-in u
-        (λ (x : ℕ) (m : List·Memᴰ x u). let (h, k) = within-out n x (all-out (within n) m (and-left (all (within n) u) (distinct u) b)) in (h, omega arith))
+        (λ (x : ℕ) (m : List·Memᴰ x u). let (h, k) =
+        within-out n x (all-out (within n) m (and-left (all (within n) u) (distinct u) b)) in (h, omega arith))
         (and-right (all (within n) u) (distinct u) b)
 
 -- a shorter word can be completed if it can with some next entry
@@ -165,10 +173,13 @@ completable-next P n u h = same-test (completable P n u) (any (goesOn P n u) (on
 
 -- where u can be completed, u followed by a value of 1 to n that does not stand in it avoids the
 -- patterns: the value stands behind u in the completion
-pub completable-fits : (P : List (List ℕ)) (n : ℕ) (u : List ℕ) (v : ℕ) → completable P n u ≡ true → 1 ≤ v → v ≤ n → has v u ≡ false → avoids P (u ++ (v ∷ [])) ≡ true
+pub completable-fits : (P : List (List ℕ)) (n : ℕ) (u : List ℕ) (v : ℕ) → completable P n u ≡ true → 1 ≤ v → v ≤ n →
+    has v u ≡ false → avoids P (u ++ (v ∷ [])) ≡ true
 completable-fits P n u v e h k f =
     let (r, p, l, a) = completable-out P n u e in
-    avoids-sublist P (Sublistᴰ·append (Sublistᴰ·refl u) (one-of (behind r (List·Memᴰ·append-cases u (has-out v (u ++ r) (perm-has (u ++ r) v p h (omega arith))))))) a
+    avoids-sublist P (Sublistᴰ·append (Sublistᴰ·refl u)
+    (one-of (behind r (List·Memᴰ·append-cases u (has-out v (u ++ r) (perm-has (u ++ r) v p h (omega arith)))))))
+    a
   where
     behind : (r : List ℕ) → List·Memᴰ v u ⊎ List·Memᴰ v r → List·Memᴰ v r
     behind r (inl m) = absurd (true-not-false (sym (has-in m) ∙ f))
@@ -183,7 +194,8 @@ completable-allowed P n u e = all-in (allowed P u) (oneTo n) each-one
     decide v false q f = f q
 
     each-one : (v : ℕ) → List·Memᴰ v (oneTo n) → has v u || avoids P (u ++ (v ∷ [])) ≡ true
-    each-one v m = let (h, k) = row-out 1 n m in decide v (has v u) refl (λ (f : has v u ≡ false). completable-fits P n u v e h (omega arith) f)
+    each-one v m = let (h, k) = row-out 1 n m in
+        decide v (has v u) refl (λ (f : has v u ≡ false). completable-fits P n u v e h (omega arith) f)
 
 -- so a word after which some value is not allowed begins no avoider
 pub not-allowed : (P : List (List ℕ)) (n : ℕ) (u : List ℕ) → allAllowed P n u ≡ false → completable P n u ≡ false

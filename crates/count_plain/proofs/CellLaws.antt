@@ -50,7 +50,8 @@ record Deleting (s : Scheme) (e : ℕ) (sheet : List ℕ) (w : ℕ) : Type 0 whe
   high : w ≤ length (prefixAt s e)
   names : Names s (deleted (suc r ∷ []) (prefixAt s e)) (fieldOf sheet e FIELDS)
 
-module _ (P : List (List ℕ)) (s : Scheme) (sheet : List ℕ) (e : ℕ) (proper : Proper (schemeIn s)) (inside : e < s .count) (row-e : Row P s sheet e) where
+module _ (P : List (List ℕ)) (s : Scheme) (sheet : List ℕ) (e : ℕ) (proper : Proper (schemeIn s))
+    (inside : e < s .count) (row-e : Row P s sheet e) where
   deleting : (w : ℕ) → w ≡ fieldOf sheet e 1 → (w ≡ 0 → ⊥) → Deleting s e sheet w
   deleting w q n = go ((entryAt s e) .rule) refl (row-e .rule)
     where
@@ -106,18 +107,24 @@ module _ (sheet : List ℕ) (e : ℕ) (g : List ℕ) (t : ℕ) (c : CellAt sheet
           solved .solves e (c .inside) (take (lengthAt (c .of .s) e + 1) g)
           (length-take-le (lengthAt (c .of .s) e + 1) g (omega (arith, c .seven, entry-short (c .of .s) (c .of .proper) e (c .inside))) ∙
           add-one (lengthAt (c .of .s) e) ∙ ap suc (sym (prefix-length (c .of .s) e))) ∙
-          ap (λ b. cond b (ruleValue v (c .of .P) (prefixAt (c .of .s) e) (take (lengthAt (c .of .s) e + 1) g) ((entryAt (c .of .s) e) .rule)) 0)
+          ap (λ b. cond b (ruleValue v (c .of .P) (prefixAt (c .of .s) e) (take (lengthAt (c .of .s) e + 1) g)
+          ((entryAt (c .of .s) e) .rule)) 0)
           (ap₂ free (sym (row-at .gaps) ∙ ap (gapsAt sheet e) (sym k-is)) (sym spacing-is))
 
-      pub covered-value : free (gapsAt sheet e k) (take (k + 1) g) ≡ false → 0 ≡ v (prefixAt (c .of .s) e) (take (lengthAt (c .of .s) e + 1) g)
+      pub covered-value : free (gapsAt sheet e k) (take (k + 1) g) ≡ false → 0 ≡
+          v (prefixAt (c .of .s) e) (take (lengthAt (c .of .s) e + 1) g)
       covered-value f =
-          sym (value-is ∙ ap (λ b. cond b (ruleValue v (c .of .P) (prefixAt (c .of .s) e) (take (lengthAt (c .of .s) e + 1) g) ((entryAt (c .of .s) e) .rule)) 0) f)
+          sym (value-is ∙ ap
+          (λ b. cond b (ruleValue v (c .of .P) (prefixAt (c .of .s) e) (take (lengthAt (c .of .s) e + 1) g)
+          ((entryAt (c .of .s) e) .rule)) 0) f)
 
       rule-value : free (gapsAt sheet e k) (take (k + 1) g) ≡ true → (rule : Does) → (entryAt (c .of .s) e) .rule ≡ rule →
           v (prefixAt (c .of .s) e) (take (lengthAt (c .of .s) e + 1) g) ≡
           ruleValue v (c .of .P) (prefixAt (c .of .s) e) (take (lengthAt (c .of .s) e + 1) g) rule
       rule-value f rule r =
-          value-is ∙ ap (λ b. cond b (ruleValue v (c .of .P) (prefixAt (c .of .s) e) (take (lengthAt (c .of .s) e + 1) g) ((entryAt (c .of .s) e) .rule)) 0) f ∙
+          value-is ∙ ap
+          (λ b. cond b (ruleValue v (c .of .P) (prefixAt (c .of .s) e) (take (lengthAt (c .of .s) e + 1) g)
+          ((entryAt (c .of .s) e) .rule)) 0) f ∙
           ap (ruleValue v (c .of .P) (prefixAt (c .of .s) e) (take (lengthAt (c .of .s) e + 1) g)) r
 
       -- an expanding entry
@@ -137,14 +144,21 @@ module _ (sheet : List ℕ) (e : ℕ) (g : List ℕ) (t : ℕ) (c : CellAt sheet
             x ≡ v (prefixAt (c .of .s) e) (take (lengthAt (c .of .s) e + 1) g)
         unfolding ruleValue
         sum-value x n q =
-            let is : v (prefixAt (c .of .s) e) (take (lengthAt (c .of .s) e + 1) g) ≡ sumFrom v (prefixAt (c .of .s) e) (take (lengthAt (c .of .s) e + 1) g) 1 t =
+            let is : v (prefixAt (c .of .s) e) (take (lengthAt (c .of .s) e + 1) g) ≡
+            sumFrom v (prefixAt (c .of .s) e) (take (lengthAt (c .of .s) e + 1) g) 1 t =
             rule-value f expands (rest .0) ∙
             ap (λ b. cond b (cond (avoids (c .of .P) (prefixAt (c .of .s) e)) 1 0)
             (sumFrom v (prefixAt (c .of .s) e) (take (lengthAt (c .of .s) e + 1) g) 1 (total (take (lengthAt (c .of .s) e + 1) g))))
-            (ne-eqb (total (take (lengthAt (c .of .s) e + 1) g)) 0 (λ (y : total (take (lengthAt (c .of .s) e + 1) g) ≡ 0). n (sym (c .whole) ∙ y))) ∙
+            (ne-eqb (total (take (lengthAt (c .of .s) e + 1) g)) 0
+            (λ (y : total (take (lengthAt (c .of .s) e + 1) g) ≡ 0). n (sym (c .whole) ∙ y))) ∙
             ap (sumFrom v (prefixAt (c .of .s) e) (take (lengthAt (c .of .s) e + 1) g) 1) (c .whole) in
             q ∙ below-cap (sumFrom v (prefixAt (c .of .s) e) (take (lengthAt (c .of .s) e + 1) g) 1 t)
-            (omega (arith, solved .fits (prefixAt (c .of .s) e) (take (lengthAt (c .of .s) e + 1) g) (omega (arith, c .whole, c .fits)), is)) ∙ sym is
+            (omega (
+              arith,
+              solved .fits (prefixAt (c .of .s) e) (take (lengthAt (c .of .s) e + 1) g)
+                  (omega (arith, c .whole, c .fits)),
+              is,
+            )) ∙ sym is
 
     -- the entry that deletes
     module _ (w : ℕ) (q : w ≡ fieldOf sheet e 1) (n : w ≡ 0 → ⊥) where
@@ -171,7 +185,8 @@ module _ (sheet : List ℕ) (e : ℕ) (g : List ℕ) (t : ℕ) (c : CellAt sheet
           )
 
       module _ (h : List ℕ) (long : length h ≡ COMPONENTS) (m : take k h ≡ mergeValues (w ∷ []) (take (k + 1) g)) where
-        target-spacing : take (lengthAt (c .of .s) (fieldOf sheet e FIELDS) + 1) h ≡ merged (suc (del .r) ∷ []) (prefixAt (c .of .s) e) (take (k + 1) g)
+        target-spacing : take (lengthAt (c .of .s) (fieldOf sheet e FIELDS) + 1) h ≡
+            merged (suc (del .r) ∷ []) (prefixAt (c .of .s) e) (take (k + 1) g)
         unfolding merged
         target-spacing = ap (λ x. take x h) target-length ∙ m ∙ ap (λ (x : ℕ). mergeValues (x ∷ []) (take (k + 1) g)) (del .value)
 
@@ -185,10 +200,12 @@ module _ (sheet : List ℕ) (e : ℕ) (g : List ℕ) (t : ℕ) (c : CellAt sheet
               fits = omega (arith, target-length, k-is, c .fits);
             }
 
-        pub target-falls : 2 * (8 * (fieldOf sheet (fieldOf sheet e FIELDS) 0 + t) - fieldOf sheet (fieldOf sheet e FIELDS) 0) < 2 * (8 * (fieldOf sheet e 0 + t) - fieldOf sheet e 0)
+        pub target-falls : 2 * (8 * (fieldOf sheet (fieldOf sheet e FIELDS) 0 + t) - fieldOf sheet
+            (fieldOf sheet e FIELDS) 0) < 2 * (8 * (fieldOf sheet e 0 + t) - fieldOf sheet e 0)
         target-falls = omega (arith, c .of .rows (fieldOf sheet e FIELDS) (del .names .inside) .size, target-length, ke)
 
-        target-value : (v : List ℕ → List ℕ → ℕ) → Solves v (c .of .P) (c .of .s) → free (gapsAt sheet e k) (take (k + 1) g) ≡ true → (x : ℕ) →
+        target-value : (v : List ℕ → List ℕ → ℕ) → Solves v (c .of .P) (c .of .s) →
+            free (gapsAt sheet e k) (take (k + 1) g) ≡ true → (x : ℕ) →
             x ≡ v (prefixAt (c .of .s) (fieldOf sheet e FIELDS)) (take (lengthAt (c .of .s) (fieldOf sheet e FIELDS) + 1) h) →
             x ≡ v (prefixAt (c .of .s) e) (take (lengthAt (c .of .s) e + 1) g)
         unfolding ruleValue
@@ -196,7 +213,8 @@ module _ (sheet : List ℕ) (e : ℕ) (g : List ℕ) (t : ℕ) (c : CellAt sheet
             y ∙ ap₂ v (del .names .named) (target-spacing ∙ ap (merged (suc (del .r) ∷ []) (prefixAt (c .of .s) e)) spacing-is) ∙
             sym (rule-value v solved f (deletes (suc (del .r))) (del .rule))
 
-        pub target-evaluates : (v : List ℕ → List ℕ → ℕ) → Solves v (c .of .P) (c .of .s) → free (gapsAt sheet e k) (take (k + 1) g) ≡ true → (x : ℕ) →
+        pub target-evaluates : (v : List ℕ → List ℕ → ℕ) → Solves v (c .of .P) (c .of .s) →
+            free (gapsAt sheet e k) (take (k + 1) g) ≡ true → (x : ℕ) →
             Evaluates sheet (fieldOf sheet e FIELDS) h t x → x ≡ v (prefixAt (c .of .s) e) (take (lengthAt (c .of .s) e + 1) g)
         unfolding target-at
         target-evaluates v solved f x ev = target-value v solved f x (ev target-at v solved)
@@ -242,19 +260,23 @@ module _ (sheet : List ℕ) (e : ℕ) (g : List ℕ) (t : ℕ) (c : CellAt sheet
             less : total (split (take (lengthAt (c .of .s) e + 1) g) q) ≡ t - 1
             less = omega (arith, split-total (take (lengthAt (c .of .s) e + 1) g) q one (omega (arith, c .whole)), c .whole)
 
-        pub child-falls : 2 * (8 * (fieldOf sheet (fieldOf sheet e (FIELDS + i)) 0 + (t - 1)) - fieldOf sheet (fieldOf sheet e (FIELDS + i)) 0) <
+        pub child-falls : 2 * (8 * (fieldOf sheet (fieldOf sheet e (FIELDS + i)) 0 + (t - 1)) - fieldOf sheet
+            (fieldOf sheet e (FIELDS + i)) 0) <
             2 * (8 * (fieldOf sheet e 0 + t) - fieldOf sheet e 0) - 1
         child-falls = omega (arith, c .of .rows (fieldOf sheet e (FIELDS + i)) (names .inside) .size, child-size, ke)
 
         child-value : (v : List ℕ → List ℕ → ℕ) (x : ℕ) →
             x ≡ v (prefixAt (c .of .s) (fieldOf sheet e (FIELDS + i))) (take (lengthAt (c .of .s) (fieldOf sheet e (FIELDS + i)) + 1) h) →
-            x ≡ v (childAt (prefixAt (c .of .s) e) (slot (take (lengthAt (c .of .s) e + 1) g) q)) (split (take (lengthAt (c .of .s) e + 1) g) q)
+            x ≡ v (childAt (prefixAt (c .of .s) e) (slot (take (lengthAt (c .of .s) e + 1) g) q))
+            (split (take (lengthAt (c .of .s) e + 1) g) q)
         child-value v x y =
             let sl : slot (take (lengthAt (c .of .s) e + 1) g) q ≡ suc i = ap (λ (u : List ℕ). slot u q) (sym spacing-is) ∙ held .slot-is in
             y ∙ ap₂ v (names .named ∙ ap (childAt (prefixAt (c .of .s) e)) (sym sl)) child-spacing
 
-        pub child-evaluates : (v : List ℕ → List ℕ → ℕ) → Solves v (c .of .P) (c .of .s) → (x : ℕ) → Evaluates sheet (fieldOf sheet e (FIELDS + i)) h (t - 1) x →
-            x ≡ v (childAt (prefixAt (c .of .s) e) (slot (take (lengthAt (c .of .s) e + 1) g) q)) (split (take (lengthAt (c .of .s) e + 1) g) q)
+        pub child-evaluates : (v : List ℕ → List ℕ → ℕ) → Solves v (c .of .P) (c .of .s) → (x : ℕ) →
+            Evaluates sheet (fieldOf sheet e (FIELDS + i)) h (t - 1) x →
+            x ≡ v (childAt (prefixAt (c .of .s) e) (slot (take (lengthAt (c .of .s) e + 1) g) q))
+            (split (take (lengthAt (c .of .s) e + 1) g) q)
         unfolding child-at
         child-evaluates v solved x ev = child-value v x (ev child-at v solved)
 
@@ -275,7 +297,8 @@ module _ (sheet : List ℕ) (e : ℕ) (g : List ℕ) (t : ℕ) where
 
   pub sum-more : (q sum y : ℕ) (x : ℕ) → q ≤ t → SumTo sheet e g t q sum → y ≡ capped (sum + x) →
       ((c : CellAt sheet e g t) (v : List ℕ → List ℕ → ℕ) → Solves v (c .of .P) (c .of .s) → fieldOf sheet e 1 ≡ 0 →
-      x ≡ v (childAt (prefixAt (c .of .s) e) (slot (take (lengthAt (c .of .s) e + 1) g) q)) (split (take (lengthAt (c .of .s) e + 1) g) q)) →
+      x ≡ v (childAt (prefixAt (c .of .s) e) (slot (take (lengthAt (c .of .s) e + 1) g) q))
+      (split (take (lengthAt (c .of .s) e + 1) g) q)) →
       SumTo sheet e g t (q + 1) y
   unfolding total
   sum-more q sum y x h s ye is c v solved z =

@@ -1,4 +1,4 @@
--- The plain evaluation.
+-- The definitions and laws of the plain evaluation.
 pub mod Pieces
 pub mod PieceLaws
 pub mod Reading

@@ -63,7 +63,8 @@ module _ (g : List ℕ) (k s i l : ℕ) (size : length g ≡ suc k) (w : Walk g 
         low = w .low;
         high = b;
         slot-is = w .slot-is ∙ ap (λ n. i + n) (ap (λ (u : List ℕ). slot u l) cut ∙ rw (le-leb l (getD g i 0) b) refl) ∙ add-one i;
-        split-is = w .split-is ∙ ap (λ (u : List ℕ). take i g ++ u) (ap (λ (u : List ℕ). split u l) cut ∙ rw (le-leb l (getD g i 0) b) refl);
+        split-is = w .split-is ∙ ap (λ (u : List ℕ). take i g ++ u)
+            (ap (λ (u : List ℕ). split u l) cut ∙ rw (le-leb l (getD g i 0) b) refl);
       }
 
   -- the last component holds what is left
@@ -78,7 +79,12 @@ module _ (g : List ℕ) (k s i l : ℕ) (size : length g ≡ suc k) (w : Walk g 
 
 pub split-length : (g : List ℕ) (i l : ℕ) → i < length g → length (splitAt g i l) ≡ suc (length g)
 split-length g i l h =
-    omega (arith, length-append (take i g) ((l - 1) ∷ ((getD g i 0 - l) ∷ drop (suc i) g)), length-take-le i g (omega arith), length-drop (suc i) g)
+    omega (
+      arith,
+      length-append (take i g) ((l - 1) ∷ ((getD g i 0 - l) ∷ drop (suc i) g)),
+      length-take-le i g (omega arith),
+      length-drop (suc i) g,
+    )
 
 module _ (g : List ℕ) (i : ℕ) (h : i ≤ length g) (u : List ℕ) where
   size : length (take i g) ≡ i
@@ -110,10 +116,12 @@ module _ (g : List ℕ) (i l : ℕ) (h : i < length g) where
   split-after j k =
       let z : j - i ≡ suc (suc (j - i - 2)) = omega arith in
       let m : suc i + (j - i - 2) ≡ j - 1 = omega arith in
-      back g i (omega arith) ((l - 1) ∷ ((getD g i 0 - l) ∷ drop (suc i) g)) j (omega arith) ∙ rw z (getD-drop (suc i) g (j - i - 2) 0 ∙ ap (λ n. getD g n 0) m)
+      back g i (omega arith) ((l - 1) ∷ ((getD g i 0 - l) ∷ drop (suc i) g)) j (omega arith) ∙
+      rw z (getD-drop (suc i) g (j - i - 2) 0 ∙ ap (λ n. getD g n 0) m)
 
 -- one piece more of a list
-pub more : (r u : List ℕ) (j x : ℕ) → j < length r → j < length u → x ≡ getD u j 0 → take j r ≡ take j u → take (j + 1) (set r j x) ≡ take (j + 1) u
+pub more : (r u : List ℕ) (j x : ℕ) → j < length r → j < length u → x ≡ getD u j 0 → take j r ≡ take j u →
+    take (j + 1) (set r j x) ≡ take (j + 1) u
 more r u j x a b e q = rw (add-one, take-suc-set r j x a, take-suc u j 0 b, q, e) refl
 
 -- Merging
@@ -122,7 +130,8 @@ more r u j x a b e q = rw (add-one, take-suc-set r j x a, take-suc u j 0 b, q, e
 merge-later : (v u x : ℕ) (g : List ℕ) → v < u → mergeFrom (v ∷ []) u x g ≡ x ∷ g
 unfolding mergeFrom has
 merge-later v u x [] h = refl
-merge-later v u x (y ∷ g) h = rw (ne-eqb u v (λ (e : u ≡ v). omega arith)) (ap (λ (l : List ℕ). x ∷ l) (merge-later v (suc u) y g (omega arith)))
+merge-later v u x (y ∷ g) h = rw (ne-eqb u v (λ (e : u ≡ v). omega arith))
+    (ap (λ (l : List ℕ). x ∷ l) (merge-later v (suc u) y g (omega arith)))
 
 merge-from : (v u m x : ℕ) (g : List ℕ) → v ≡ u + m → m < length g →
     mergeFrom (v ∷ []) u x g ≡ take m (x ∷ g) ++ ((getD (x ∷ g) m 0 + getD (x ∷ g) (suc m) 0) ∷ drop (suc (suc m)) (x ∷ g))
@@ -142,7 +151,12 @@ merge-at v (x ∷ g) l h =
 
 pub merge-length : (g : List ℕ) (v : ℕ) → 1 ≤ v → v < length g → length (mergeAt g v) + 1 ≡ length g
 merge-length g v l h =
-    omega (arith, length-append (take (v - 1) g) ((getD g (v - 1) 0 + getD g v 0) ∷ drop (suc v) g), length-take-le (v - 1) g (omega arith), length-drop (suc v) g)
+    omega (
+      arith,
+      length-append (take (v - 1) g) ((getD g (v - 1) 0 + getD g v 0) ∷ drop (suc v) g),
+      length-take-le (v - 1) g (omega arith),
+      length-drop (suc v) g,
+    )
 
 module _ (g : List ℕ) (v : ℕ) (l : 1 ≤ v) (h : v < length g) where
   pub merge-before : (j : ℕ) → j + 1 < v → getD (mergeAt g v) j 0 ≡ getD g j 0
@@ -152,13 +166,15 @@ module _ (g : List ℕ) (v : ℕ) (l : 1 ≤ v) (h : v < length g) where
   merge-here j q =
       let z : j - (v - 1) ≡ 0 = omega arith in
       let a : v - 1 ≡ j = omega arith in
-      back g (v - 1) (omega arith) ((getD g (v - 1) 0 + getD g v 0) ∷ drop (suc v) g) j (omega arith) ∙ rw z (ap₂ (λ m n. getD g m 0 + getD g n 0) a (sym q))
+      back g (v - 1) (omega arith) ((getD g (v - 1) 0 + getD g v 0) ∷ drop (suc v) g) j (omega arith) ∙
+      rw z (ap₂ (λ m n. getD g m 0 + getD g n 0) a (sym q))
 
   pub merge-after : (j : ℕ) → v < j + 1 → getD (mergeAt g v) j 0 ≡ getD g (j + 1) 0
   merge-after j k =
       let z : j - (v - 1) ≡ suc (j - v) = omega arith in
       let m : suc v + (j - v) ≡ j + 1 = omega arith in
-      back g (v - 1) (omega arith) ((getD g (v - 1) 0 + getD g v 0) ∷ drop (suc v) g) j (omega arith) ∙ rw z (getD-drop (suc v) g (j - v) 0 ∙ ap (λ n. getD g n 0) m)
+      back g (v - 1) (omega arith) ((getD g (v - 1) 0 + getD g v 0) ∷ drop (suc v) g) j (omega arith) ∙
+      rw z (getD-drop (suc v) g (j - v) 0 ∙ ap (λ n. getD g n 0) m)
 
 -- two components are at most the total
 parts-small : (l : List ℕ) (j : ℕ) → getD l j 0 + getD l (suc j) 0 ≤ total l
@@ -181,27 +197,38 @@ module _ (g : List ℕ) (k : ℕ) (fits : k + 1 ≤ length g) where
     where
       go : (j < i) ⊎ (i ≤ j) → (j ≡ i) ⊎ (j ≡ i → ⊥) → (j ≡ suc i) ⊎ (j ≡ suc i → ⊥) →
           getD (splitAt g i l) j 0 ≡ getD (splitAt (take (k + 1) g) i l) j 0
-      go (inl a) b c = split-before g i l (omega arith) j a ∙ sym (part j (omega arith)) ∙ sym (split-before (take (k + 1) g) i l (omega (arith, long)) j a)
+      go (inl a) b c = split-before g i l (omega arith) j a ∙ sym (part j (omega arith)) ∙
+          sym (split-before (take (k + 1) g) i l (omega (arith, long)) j a)
       go (inr a) (inl b) c = split-low g i l (omega arith) j b ∙ sym (split-low (take (k + 1) g) i l (omega (arith, long)) j b)
       go (inr a) (inr b) (inl c) =
-          split-high g i l (omega arith) j c ∙ ap (λ n. n - l) (sym (part i h)) ∙ sym (split-high (take (k + 1) g) i l (omega (arith, long)) j c)
+          split-high g i l (omega arith) j c ∙ ap (λ n. n - l) (sym (part i h)) ∙
+          sym (split-high (take (k + 1) g) i l (omega (arith, long)) j c)
       go (inr a) (inr b) (inr c) =
           let d : suc i < j = omega arith in
-          split-after g i l (omega arith) j d ∙ sym (part (j - 1) (omega arith)) ∙ sym (split-after (take (k + 1) g) i l (omega (arith, long)) j d)
+          split-after g i l (omega arith) j d ∙ sym (part (j - 1) (omega arith)) ∙
+          sym (split-after (take (k + 1) g) i l (omega (arith, long)) j d)
 
   pub merge-take : (v j : ℕ) → 1 ≤ v → v ≤ k → j < k → getD (mergeAt g v) j 0 ≡ getD (mergeAt (take (k + 1) g) v) j 0
   merge-take v j l h m = go (below-or-not (j + 1) v) (same-or-not (j + 1) v)
     where
       go : (j + 1 < v) ⊎ (v ≤ j + 1) → (j + 1 ≡ v) ⊎ (j + 1 ≡ v → ⊥) → getD (mergeAt g v) j 0 ≡ getD (mergeAt (take (k + 1) g) v) j 0
-      go (inl a) b = merge-before g v l (omega arith) j a ∙ sym (part j (omega arith)) ∙ sym (merge-before (take (k + 1) g) v l (omega (arith, long)) j a)
+      go (inl a) b = merge-before g v l (omega arith) j a ∙ sym (part j (omega arith)) ∙
+          sym (merge-before (take (k + 1) g) v l (omega (arith, long)) j a)
       go (inr a) (inl b) =
           merge-here g v l (omega arith) j b ∙ ap₂ _+_ (sym (part j (omega arith))) (sym (part (j + 1) (omega arith))) ∙
           sym (merge-here (take (k + 1) g) v l (omega (arith, long)) j b)
       go (inr a) (inr b) =
           let d : v < j + 1 = omega arith in
-          merge-after g v l (omega arith) j d ∙ sym (part (j + 1) (omega arith)) ∙ sym (merge-after (take (k + 1) g) v l (omega (arith, long)) j d)
+          merge-after g v l (omega arith) j d ∙ sym (part (j + 1) (omega arith)) ∙
+          sym (merge-after (take (k + 1) g) v l (omega (arith, long)) j d)
 
   -- two components in turn are at most the total
   pub two-small : (j : ℕ) → j < k → getD g j 0 + getD g (j + 1) 0 ≤ total (take (k + 1) g)
   two-small j h =
-      omega (arith, parts-small (take (k + 1) g) j, part j (omega arith), part (j + 1) (omega arith), ap (λ n. getD (take (k + 1) g) n 0) (add-one j))
+      omega (
+        arith,
+        parts-small (take (k + 1) g) j,
+        part j (omega arith),
+        part (j + 1) (omega arith),
+        ap (λ n. getD (take (k + 1) g) n 0) (add-one j),
+      )

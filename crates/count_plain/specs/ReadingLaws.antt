@@ -22,7 +22,8 @@ use Rattle.count_rows.specs.RunLaws.{sizes-solved}
 use Rattle.count_plain.specs.Reading.{CellAt, Evaluates}
 
 -- the cell of ε with spacing (n)
-unfoldable pub root-cell : (sheet : List ℕ) (o : Sheet sheet) (e n : ℕ) (g : List ℕ) → Names (o .s) [] e → n ≤ PLAIN_LENGTH → length g ≡ COMPONENTS →
+unfoldable pub root-cell : (sheet : List ℕ) (o : Sheet sheet) (e n : ℕ) (g : List ℕ) → Names (o .s) [] e →
+    n ≤ PLAIN_LENGTH → length g ≡ COMPONENTS →
     take 1 g ≡ n ∷ [] → CellAt sheet e g n
 unfolding total
 root-cell sheet o e n g names h seven q =
@@ -32,7 +33,8 @@ root-cell sheet o e n g names h seven q =
 
 pub root-value : (sheet : List ℕ) (o : Sheet sheet) (e n : ℕ) (g : List ℕ) → Names (o .s) [] e → n ≤ PLAIN_LENGTH → length g ≡ COMPONENTS →
     take 1 g ≡ n ∷ [] →
-    WellFormed (o .P) (schemeIn (o .s)) → AllTrue (o .P) (schemeIn (o .s)) → (x : ℕ) → Evaluates sheet e g n x → x ≡ countOf (o .P) (schemeIn (o .s)) n
+    WellFormed (o .P) (schemeIn (o .s)) → AllTrue (o .P) (schemeIn (o .s)) → (x : ℕ) → Evaluates sheet e g n x → x ≡
+    countOf (o .P) (schemeIn (o .s)) n
 unfolding root-cell
 root-value sheet o e n g names h seven q formed truth x ev =
     let z : lengthAt (o .s) e ≡ 0 = sym (prefix-length (o .s) e) ∙ ap length (names .named) in
@@ -40,7 +42,8 @@ root-value sheet o e n g names h seven q formed truth x ev =
     ap₂ (size (o .P)) (names .named) (ap (λ m. take (m + 1) g) z ∙ q) ∙ sym (count-size (o .P) (schemeIn (o .s)) formed truth n)
 
 -- the same for the sheet of a scheme
-module _ (P : List (List ℕ)) (s : Scheme) (sheet : List ℕ) (proper : Proper (schemeIn s)) (t : SheetTo P s (s .count) sheet) (e n : ℕ) (g : List ℕ)
+module _ (P : List (List ℕ)) (s : Scheme) (sheet : List ℕ) (proper : Proper (schemeIn s))
+    (t : SheetTo P s (s .count) sheet) (e n : ℕ) (g : List ℕ)
     (names : Names s [] e) (h : n ≤ PLAIN_LENGTH) (seven : length g ≡ COMPONENTS) (q : take 1 g ≡ n ∷ []) where
   pub counted-cell : CellAt sheet e g n
   counted-cell = root-cell sheet (sheet-of P s sheet proper t) e n g names h seven q

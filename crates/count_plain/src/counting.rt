@@ -22,7 +22,8 @@ pub fn plain_count(
     s: Scheme,
     n: usize,
 ) -> u64
-    requires { ⌜ (n ≤ PLAIN_LENGTH) × WellFormed (patternsOf set lengths count) (schemeIn s) × AllTrue (patternsOf set lengths count) (schemeIn s) ⌝ }
+    requires { ⌜ (n ≤ PLAIN_LENGTH) × WellFormed (patternsOf set lengths count) (schemeIn s) ×
+        AllTrue (patternsOf set lengths count) (schemeIn s) ⌝ }
     ensures { λ r. ⌜ r ≡ countOf (patternsOf set lengths count) (schemeIn s) n ⌝ }
 {
     let mut sheet = [0u8; SHEET];

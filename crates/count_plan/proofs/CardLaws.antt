@@ -63,7 +63,8 @@ found-names s q l = go (findIn (prefixesIn s) q) refl
 pub links-start : (ps : List (List ℕ)) (p links : List ℕ) → length links ≡ LINKS → ChildLinks ps p 0 links
 links-start ps p links e = record { size = e; at = λ (a : ℕ) (h : a < 0). absurd (omega arith) }
 
-pub links-more : (ps : List (List ℕ)) (p links : List ℕ) (m x : ℕ) → m < LINKS → x ≡ indexIn ps (childAt p (m + 1)) → ChildLinks ps p m links →
+pub links-more : (ps : List (List ℕ)) (p links : List ℕ) (m x : ℕ) → m < LINKS → x ≡
+    indexIn ps (childAt p (m + 1)) → ChildLinks ps p m links →
     ChildLinks ps p (m + 1) (set links m x)
 links-more ps p links m x h e c =
     record {
@@ -72,7 +73,8 @@ links-more ps p links m x h e c =
           (e ∙ ap (λ a. indexIn ps (childAt p a)) (add-one m)) (c .at);
     }
 
-pub links-sized : (ps : List (List ℕ)) (p links : List ℕ) (k : ℕ) → length p ≡ k → ChildLinks ps p (k + 1) links → ChildLinks ps p (suc (length p)) links
+pub links-sized : (ps : List (List ℕ)) (p links : List ℕ) (k : ℕ) → length p ≡ k → ChildLinks ps p (k + 1) links →
+    ChildLinks ps p (suc (length p)) links
 links-sized ps p links k e c = let q : k + 1 ≡ suc (length p) = omega arith in rw (← q) c
 
 -- What the tests say of an entry
@@ -87,7 +89,8 @@ module _ (s : Scheme) (proper : Proper (schemeIn s)) (i : ℕ) (h : i < s .count
 
   pub position : (r : ℕ) → (entryAt s i) .rule ≡ deletes r → (1 ≤ r) × (r ≤ lengthAt s i)
   position r e =
-      let o : outside (length (prefixAt s i)) (deletes r) ≡ false = ap (outside (length (prefixAt s i))) (sym e) ∙ entry-proper s proper i h .inside in
+      let o : outside (length (prefixAt s i)) (deletes r) ≡ false = ap (outside (length (prefixAt s i))) (sym e) ∙
+      entry-proper s proper i h .inside in
       let n : r ≡ 0 → ⊥ = eqb-false r 0 (or-left (eqb r 0) (ltb (length (prefixAt s i)) r) o) in
       let m : r ≤ length (prefixAt s i) = ltb-false (length (prefixAt s i)) r (or-right (eqb r 0) (ltb (length (prefixAt s i)) r) o) in
       (omega arith, omega (arith, m, prefix-length s i))
@@ -96,7 +99,12 @@ module _ (s : Scheme) (proper : Proper (schemeIn s)) (i : ℕ) (h : i < s .count
   pub entry-linked : LinkedEntry (getD (s .entries) i noEntry)
   entry-linked =
       let q = entry-proper s proper i h in
-      record { short = entry-short s proper i h; perm = q .perm; inside = ap (λ n. outside n ((entryAt s i) .rule)) (sym (prefix-length s i)) ∙ q .inside }
+      record {
+        short = entry-short s proper i h;
+        perm = q .perm;
+        inside =
+            ap (λ n. outside n ((entryAt s i) .rule)) (sym (prefix-length s i)) ∙ q .inside;
+      }
 
 -- an entry in memory
 module _ (P ps : List (List ℕ)) (t : Card) (k : ℕ) (l : List ℕ) (rule : Rule) (h : k ≤ length l) where

@@ -42,14 +42,16 @@ put-more at part m before after h p =
     go f l (inl a) = getD-set-other after (at + m) (at + f) (getD part m 0) 0 (λ (q : at + f ≡ at + m). omega arith) ∙ p .here f a
     go f l (inr a) =
         let q : f ≡ m = omega arith in
-        ap (λ n. getD (set after (at + m) (getD part m 0)) (at + n) 0) q ∙ getD-set-same after (at + m) (getD part m 0) 0 (omega (arith, p .size)) ∙
+        ap (λ n. getD (set after (at + m) (getD part m 0)) (at + n) 0) q ∙
+        getD-set-same after (at + m) (getD part m 0) 0 (omega (arith, p .size)) ∙
         ap (λ n. getD part n 0) (sym q)
 
     far : (x : ℕ) → (x < at) ⊎ (at + (m + 1) ≤ x) → getD (set after (at + m) (getD part m 0)) x 0 ≡ getD before x 0
     far x (inl a) = getD-set-other after (at + m) x (getD part m 0) 0 (λ (q : x ≡ at + m). omega arith) ∙ p .other x (inl a)
     far x (inr a) = getD-set-other after (at + m) x (getD part m 0) 0 (λ (q : x ≡ at + m). omega arith) ∙ p .other x (inr (omega arith))
 
-pub put-end : (at : ℕ) (part : List ℕ) (m : ℕ) (before after : List ℕ) → PutTo at part m before after → m ≡ length part → Put at part before after
+pub put-end : (at : ℕ) (part : List ℕ) (m : ℕ) (before after : List ℕ) → PutTo at part m before after → m ≡
+    length part → Put at part before after
 put-end at part m before after p e =
     record {
       size = p .size;
@@ -62,7 +64,8 @@ put-end at part m before after p e =
     far x (inr a) = inr (omega arith)
 
 -- an entry: its first bytes, and then its gap vectors
-pub card-made : (e : Entry) (t : Card) (at : ℕ) (before now after head : List ℕ) → head ≡ headOf t (e .«gap_count») → Put at head before now →
+pub card-made : (e : Entry) (t : Card) (at : ℕ) (before now after head : List ℕ) → head ≡
+    headOf t (e .«gap_count») → Put at head before now →
     GapsIn e (at + HEAD) now after → CardIn e t at before after
 card-made e t at before now after head q p g =
     let l : length head ≡ HEAD = ap length q in
@@ -83,7 +86,8 @@ card-made e t at before now after head q p g =
 
 -- the cards of other entries stay
 pub sheet-more : (P : List (List ℕ)) (s : Scheme) (m : ℕ) (sheet after : List ℕ) (card : Card) → SheetTo P s m sheet →
-    EntryCard P (prefixesIn s) (entryAt s m) card → CardIn (getD (s .entries) m noEntry) card (CARD * m) sheet after → SheetTo P s (m + 1) after
+    EntryCard P (prefixesIn s) (entryAt s m) card →
+    CardIn (getD (s .entries) m noEntry) card (CARD * m) sheet after → SheetTo P s (m + 1) after
 sheet-more P s m sheet after card st is c =
     record {
       long = c .size ∙ st .long;

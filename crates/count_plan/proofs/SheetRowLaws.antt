@@ -60,7 +60,8 @@ module _ (P : List (List ℕ)) (s : Scheme) (proper : Proper (schemeIn s)) (shee
   parts-are : partsAt sheet e ≡ (getD (s .entries) e noEntry) .gaps
   parts-are =
       let size = parts-long sheet e (omega (arith, count-few s proper)) long in
-      ext-getD 0 (partsAt sheet e) ((getD (s .entries) e noEntry) .gaps) (size ∙ sym (c .written .long)) (λ (f : ℕ) (h : f < length (partsAt sheet e)). at f (omega arith))
+      ext-getD 0 (partsAt sheet e) ((getD (s .entries) e noEntry) .gaps) (size ∙ sym (c .written .long))
+      (λ (f : ℕ) (h : f < length (partsAt sheet e)). at f (omega arith))
     where
       at : (f : ℕ) → f < PARTS → getD (partsAt sheet e) f 0 ≡ getD ((getD (s .entries) e noEntry) .gaps) f 0
       at f h = getD-take PARTS (drop (CARD * e + HEAD) sheet) f 0 h ∙ getD-drop (CARD * e + HEAD) sheet f 0 ∙ c .written .gaps f h
@@ -73,7 +74,8 @@ module _ (P : List (List ℕ)) (s : Scheme) (proper : Proper (schemeIn s)) (shee
 
   link-is : (a d : ℕ) → a < LINKS → getD (c .card .links) a 0 ≡ d → d < ENTRIES → fieldOf sheet e (FIELDS + a) ≡ d
   link-is a d h q l =
-      c .written .head (FIELDS + a) (omega arith) ∙ head-link (c .card) ((getD (s .entries) e noEntry) .«gap_count») a h ∙ ap (λ n. n % 256) q ∙
+      c .written .head (FIELDS + a) (omega arith) ∙
+      head-link (c .card) ((getD (s .entries) e noEntry) .«gap_count») a h ∙ ap (λ n. n % 256) q ∙
       mod-eq-of-lt (omega arith)
 
   small : (x y : ℕ) → x ≡ y → y ≤ PREFIX → x % 256 ≡ y
@@ -104,7 +106,8 @@ module _ (P : List (List ℕ)) (s : Scheme) (proper : Proper (schemeIn s)) (shee
           let names = found-names s (childAt (prefixAt s e) (suc a))
           (child-listed [] (schemeIn s) proper (entryAt s e) (entry-member s e inside) r (suc a) (omega arith) (omega arith)) in
           subst (λ (d : ℕ). Names s (childAt (prefixAt s e) (suc a)) d)
-          (sym (link-is a _ (omega (arith, prefix-length s e)) (x .links .at a (omega arith)) (omega (arith, names .inside, count-few s proper)))) names
+          (sym (link-is a _ (omega (arith, prefix-length s e)) (x .links .at a (omega arith))
+          (omega (arith, names .inside, count-few s proper)))) names
   rule-row (deletes zero) r x = absurd (let o = position s proper e inside zero r in omega (arith, o .0))
   rule-row (deletes (suc m)) r x =
       let short = entry-short s proper e inside in
@@ -116,7 +119,8 @@ module _ (P : List (List ℕ)) (s : Scheme) (proper : Proper (schemeIn s)) (shee
       (target-listed [] (schemeIn s) proper (entryAt s e) (entry-member s e inside) (suc m) r) in (
         c .written .head 0 (omega arith) ∙ small (c .card .length) (lengthAt s e) (x .size ∙ pl) short,
         (
-          c .written .head 1 (omega arith) ∙ small (c .card .deleted) (getD (prefixAt s e) m 0) (x .value ∙ ap (λ n. getD (prefixAt s e) n 0) q)
+          c .written .head 1 (omega arith) ∙
+              small (c .card .deleted) (getD (prefixAt s e) m 0) (x .value ∙ ap (λ n. getD (prefixAt s e) n 0) q)
               (omega (arith, b .1)),
           b .0,
           b .1,
@@ -133,7 +137,14 @@ module _ (P : List (List ℕ)) (s : Scheme) (proper : Proper (schemeIn s)) (shee
 -- the sheet of a scheme, by what was written
 abbrev pub sheet-of : (P : List (List ℕ)) (s : Scheme) (sheet : List ℕ) → Proper (schemeIn s) → SheetTo P s (s .count) sheet → Sheet sheet
 sheet-of P s sheet proper t =
-    record { P = P; s = s; proper = proper; long = t .long; rows = λ (e : ℕ) (h : e < s .count). row-of P s proper sheet (t .long) e h (t .cards e h) }
+    record {
+      P = P;
+      s = s;
+      proper = proper;
+      long = t .long;
+      rows =
+          λ (e : ℕ) (h : e < s .count). row-of P s proper sheet (t .long) e h (t .cards e h);
+    }
 
 -- the entry for ε
 pub root-names : (s : Scheme) → Proper (schemeIn s) → Names s [] (indexIn (prefixesIn s) [])

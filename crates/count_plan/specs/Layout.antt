@@ -16,7 +16,7 @@ entryAt s i = entryIn (getD (s .entries) i noEntry)
 abbrev pub prefixAt : Scheme → ℕ → List ℕ
 prefixAt s i = (entryAt s i) .prefix
 
--- its length
+-- the length of the prefix of the entry with index i
 abbrev pub lengthAt : Scheme → ℕ → ℕ
 lengthAt s i = (getD (s .entries) i noEntry) .length
 

@@ -125,7 +125,8 @@ places-start n s =
     go (suc m) zero = omega arith
     go (suc m) (suc d) = go m d
 
-pub places-more : (n : ℕ) (s : Scheme) (i : ℕ) (places : List ℕ) (at c : ℕ) → PlacesTo n s i places at → i < ENTRIES → n ≤ LENGTH → c ≡ binomial n
+pub places-more : (n : ℕ) (s : Scheme) (i : ℕ) (places : List ℕ) (at c : ℕ) → PlacesTo n s i places at →
+    i < ENTRIES → n ≤ LENGTH → c ≡ binomial n
     (lengthAt s i) →
     PlacesTo n s (i + 1) (set places (i + 1) (at + c)) (at + c)
 places-more n s i places at c p h m e =

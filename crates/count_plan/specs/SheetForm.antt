@@ -26,7 +26,8 @@ pub record Put (at : ℕ) (part before after : List ℕ) : Type 0 where
 abbrev pub headOf : Card → ℕ → List ℕ
 headOf t n =
     t .length % 256 ∷ t .deleted % 256 ∷ t .alone % 256 ∷ n % 256 ∷ 0 ∷ 0 ∷ 0 ∷ 0 ∷ getD (t .links) 0 0 % 256 ∷ getD (t .links) 1 0 % 256 ∷
-    getD (t .links) 2 0 % 256 ∷ getD (t .links) 3 0 % 256 ∷ getD (t .links) 4 0 % 256 ∷ getD (t .links) 5 0 % 256 ∷ getD (t .links) 6 0 % 256 ∷
+    getD (t .links) 2 0 % 256 ∷ getD (t .links) 3 0 % 256 ∷ getD (t .links) 4 0 % 256 ∷ getD (t .links) 5 0 %
+    256 ∷ getD (t .links) 6 0 % 256 ∷
     getD (t .links) 7 0 % 256 ∷ []
 
 -- the components of the gap vectors, one byte each, stand from `at` on, and nothing else is changed

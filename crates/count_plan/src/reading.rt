@@ -1,4 +1,4 @@
-// Reading the sheet.
+// Reading the fields of the cards of a sheet.
 use crate::sheet::CARD;
 use crate::sheet::HEAD;
 use word::bytes::wide;

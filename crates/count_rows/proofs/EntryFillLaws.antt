@@ -94,9 +94,11 @@ entry-given sheet places w o e h reach =
     }
 
 -- what a row is given in a run
-abbrev pub run-row : (sheet places : List ℕ) (f : Frame) (o : RunGiven sheet places f) (j here before : ℕ) → j ≤ f .last → here ≡ blockOf (f .last)
+abbrev pub run-row : (sheet places : List ℕ) (f : Frame) (o : RunGiven sheet places f) (j here before : ℕ) →
+    j ≤ f .last → here ≡ blockOf (f .last)
     (o .of .s) j →
-    before ≡ blockOf (f .last) (o .of .s) (j + 1) → RowGiven sheet places (record { length = j; here = here; before = before; entries = f .entries })
+    before ≡ blockOf (f .last) (o .of .s) (j + 1) →
+    RowGiven sheet places (record { length = j; here = here; before = before; entries = f .entries })
 run-row sheet places f o j here before low h b =
     record {
       of = o .of;
@@ -105,8 +107,10 @@ run-row sheet places f o j here before low h b =
     }
 
 -- what a run is given: the sheet that was written, and the places
-module _ (P : List (List ℕ)) (s : Scheme) (sheet places : List ℕ) (proper : Proper (schemeIn s)) (t : SheetTo P s (s .count) sheet) (n : ℕ) (small : n ≤ LENGTH)
-    (p : Places n s places) (width root index : ℕ) (w : width ≡ getD places (s .count) 0) (r : root ≡ getD places index 0) (names : Names s [] index) where
+module _ (P : List (List ℕ)) (s : Scheme) (sheet places : List ℕ) (proper : Proper (schemeIn s))
+    (t : SheetTo P s (s .count) sheet) (n : ℕ) (small : n ≤ LENGTH)
+    (p : Places n s places) (width root index : ℕ) (w : width ≡ getD places (s .count) 0)
+    (r : root ≡ getD places index 0) (names : Names s [] index) where
   pub width-is : width ≡ widthOf n s
   width-is = w ∙ p .at (s .count) (omega arith)
 

@@ -34,7 +34,7 @@ pub record EntryGiven (sheet places : List ℕ) (e : ℕ) (w : RowAt) : Type 0 w
   pub few : fieldOf sheet e 3 ≤ GAPS
   pub fits : Fits (itemOf sheet places e) (w .length) (w .here) (w .before)
 
--- one row
+-- what the filling of one row is given
 pub record RowGiven (sheet places : List ℕ) (w : RowAt) : Type 0 where
   pub of : Sheet sheet
   pub counted : w .entries ≡ of .s .count
@@ -50,7 +50,7 @@ abbrev pub RowFilledTo : (sheet places : List ℕ) (w : RowAt) (k : ℕ) → Lis
 RowFilledTo sheet places w k T₀ T =
     (o : RowGiven sheet places w) → RowGoesTo (o .of .s) (itemOf sheet places) (w .length) (w .here) (w .before) k T₀ T
 
--- all rows
+-- what the filling of all rows is given
 pub record RunGiven (sheet places : List ℕ) (f : Frame) : Type 0 where
   pub of : Sheet sheet
   pub counted : f .entries ≡ of .s .count

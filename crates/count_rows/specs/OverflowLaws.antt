@@ -36,7 +36,7 @@ use Rattle.count_rows.specs.RunLaws.{sizes-solved}
 -- a sum that is made for the cell at the prefix p and the spacing g
 pub record SumFits (P : List (List ℕ)) (p g : List ℕ) (sum : ℕ) : Type 0 where
   pub cell : sum ≤ size P p g
-  -- 20!
+  -- 20!, the number of permutations of the largest length
   pub most : sum ≤ HIGHEST
   pub fits : sum < VALUES
   -- so the sum with the cap is the sum
@@ -54,7 +54,8 @@ run-at-most f q n t low high =
     let sums : total (map f (row 1 t)) ≡ total (map f (row 1 d)) + (total (map f (row q n)) + total (map f (row (q + n) r))) =
     ap (λ (l : List ℕ). total (map f l)) cut ∙ ap total (map-append f (row 1 d) (row q n ++ row (q + n) r)) ∙
     total-append (map f (row 1 d)) (map f (row q n ++ row (q + n) r)) ∙
-    ap (λ m. total (map f (row 1 d)) + m) (ap total (map-append f (row q n) (row (q + n) r)) ∙ total-append (map f (row q n)) (map f (row (q + n) r))) in
+    ap (λ m. total (map f (row 1 d)) + m) (ap total (map-append f (row q n) (row (q + n) r)) ∙ total-append
+    (map f (row q n)) (map f (row (q + n) r))) in
     omega (arith, sums)
 
 -- what is at most the size of a cell with a total of at most LENGTH
@@ -62,7 +63,8 @@ sum-fits : (P : List (List ℕ)) (p g : List ℕ) (sum : ℕ) → total g ≤ LE
 unfolding size
 sum-fits P p g sum h k =
     let m : sum ≤ HIGHEST =
-    at-most sum (size P p g) HIGHEST k (at-most (size P p g) (factorial (total g)) HIGHEST (cell-at-most P p g) (factorial-at-most (total g) h)) in
+    at-most sum (size P p g) HIGHEST k (at-most (size P p g) (factorial (total g)) HIGHEST (cell-at-most P p g)
+    (factorial-at-most (total g) h)) in
     record {
       cell = k;
       most = m;
@@ -80,7 +82,8 @@ module _ (P : List (List ℕ)) (E : List EntryList) (formed : WellFormed P E) (t
       ap (ruleValue (size P) P (e .prefix) g) r ∙
       ap (λ b. cond b (cond (avoids P (e .prefix)) 1 0) (sumFrom (size P) (e .prefix) g 1 (total g))) (ne-eqb (total g) 0 n)
 
-  pub value-sums-fit : total g ≤ LENGTH → (q n : ℕ) → 1 ≤ q → q + n ≤ suc (total g) → SumFits P (e .prefix) g (sumFrom (size P) (e .prefix) g q n)
+  pub value-sums-fit : total g ≤ LENGTH → (q n : ℕ) → 1 ≤ q → q + n ≤ suc (total g) →
+      SumFits P (e .prefix) g (sumFrom (size P) (e .prefix) g q n)
   unfolding total
   value-sums-fit h q n low high = sum-fits P (e .prefix) g (sumFrom (size P) (e .prefix) g q n) h (go (total g) refl)
     where
@@ -102,9 +105,11 @@ module _ (s : Scheme) (items : ℕ → Item) (j here before : ℕ) (r : Setting 
       SumFits (r .P) (prefixAt s e) g
       (total (map (nextCell T (map (λ x. readsFrom (items e) here before + x) ((items e) .links)) 0 0 0 g) (row q n)))
   step-sums-fit q n low high =
-      rw (cells-are (size (r .P)) (r .P) s (r .n) (sizes-solved (r .P) s formed truth) (r .proper) e inside (items e) (r .plan e inside) j here before
+      rw (cells-are (size (r .P)) (r .P) s (r .n) (sizes-solved (r .P) s formed truth) (r .proper) e inside
+      (items e) (r .plan e inside) j here before
       (omega (arith, r .low, r .small)) (r .here-is) (r .before-is) T (state .longer) (state .before) g wide whole rule q n low high)
-      (value-sums-fit (r .P) (schemeIn s) formed truth (entryAt s e) (entry-member s e inside) rule g (wide ∙ ap suc (sym (prefix-length s e))) f
+      (value-sums-fit (r .P) (schemeIn s) formed truth (entryAt s e) (entry-member s e inside) rule g
+      (wide ∙ ap suc (sym (prefix-length s e))) f
       (omega (arith, r .low, r .small)) q n low high)
 
   -- The whole sum of a step. What a loop of the step has summed and what is still to come make this

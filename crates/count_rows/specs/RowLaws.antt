@@ -50,7 +50,9 @@ parity (suc j) = go (parity j)
     go (inr (a, b)) = inl (b, suc-mod (suc j) 2 ∙ ap (λ m. suc m % 2) b)
 
 module _ (n : ℕ) (s : Scheme) where
-  pub blocks : (j : ℕ) → ((blockOf n s j ≡ 0) × (blockOf n s (suc j) ≡ widthOf n s)) ⊎ ((blockOf n s j ≡ widthOf n s) × (blockOf n s (suc j) ≡ 0))
+  pub blocks : (j : ℕ) →
+      ((blockOf n s j ≡ 0) × (blockOf n s (suc j) ≡ widthOf n s)) ⊎ ((blockOf n s j ≡ widthOf n s) ×
+      (blockOf n s (suc j) ≡ 0))
   blocks j = go (parity j)
     where
       first : (m : ℕ) → m ≡ 0 → m * widthOf n s ≡ 0
@@ -67,7 +69,8 @@ module _ (n : ℕ) (s : Scheme) where
   pub block-high : (j : ℕ) → blockOf n s j ≤ widthOf n s
   block-high j = go (blocks j)
     where
-      go : ((blockOf n s j ≡ 0) × (blockOf n s (suc j) ≡ widthOf n s)) ⊎ ((blockOf n s j ≡ widthOf n s) × (blockOf n s (suc j) ≡ 0)) → blockOf n s j ≤ widthOf n s
+      go : ((blockOf n s j ≡ 0) × (blockOf n s (suc j) ≡ widthOf n s)) ⊎ ((blockOf n s j ≡ widthOf n s) ×
+          (blockOf n s (suc j) ≡ 0)) → blockOf n s j ≤ widthOf n s
       go (inl (a, b)) = omega arith
       go (inr (a, b)) = omega arith
 
@@ -86,7 +89,8 @@ module _ (n : ℕ) (s : Scheme) where
     apart-entry e j h ne = go (below-or-not d e)
       where
         go : (d < e) ⊎ (e ≤ d) →
-            (cellAt n s i d g < blockOf n s i + placeAt n s e) ⊎ (blockOf n s i + placeAt n s e + binomial j (lengthAt s e) ≤ cellAt n s i d g)
+            (cellAt n s i d g < blockOf n s i + placeAt n s e) ⊎ (blockOf n s i + placeAt n s e + binomial j
+            (lengthAt s e) ≤ cellAt n s i d g)
         go (inl k) = inl (omega (arith, rank-low, place-apart n s d e k))
         go (inr k) =
             let k′ : e < d = strict k (same-or-not d e) in
@@ -110,7 +114,8 @@ module _ (n : ℕ) (s : Scheme) where
 
 -- What a step stores
 
-module _ (v : List ℕ → List ℕ → ℕ) (P : List (List ℕ)) (s : Scheme) (n : ℕ) (solved : Solves v P s) (proper : Proper (schemeIn s)) (e : ℕ) (inside : e < s .count)
+module _ (v : List ℕ → List ℕ → ℕ) (P : List (List ℕ)) (s : Scheme) (n : ℕ) (solved : Solves v P s)
+    (proper : Proper (schemeIn s)) (e : ℕ) (inside : e < s .count)
     (t : Item) (planned : Planned n P s e t) (j here before : ℕ) (high : j ≤ LENGTH) (here-is : here ≡ blockOf n s j)
     (before-is : (i : ℕ) → suc i ≡ j → before ≡ blockOf n s i) (T : List ℕ)
     (longer : (d : ℕ) → d < s .count → lengthAt s e < lengthAt s d → Holds v n s T j d) (done : (i : ℕ) → suc i ≡ j → RowDone v n s T i)
@@ -130,7 +135,8 @@ module _ (v : List ℕ → List ℕ → ℕ) (P : List (List ℕ)) (s : Scheme) 
   -- the cell of a child
   child-cell : t .deleted ≡ 0 → ((a : ℕ) → a ≤ length (prefixAt s e) → LeadsTo n s (childAt (prefixAt s e) (suc a)) (getD (t .links) a 0)) →
       (q : ℕ) → 1 ≤ q → q ≤ total g →
-      getD T (getD (map (λ x. readsFrom t here before + x) (t .links)) (slot g q - 1) 0 + rankOf (split g q)) 0 ≡ v (childAt (prefixAt s e) (slot g q)) (split g q)
+      getD T (getD (map (λ x. readsFrom t here before + x) (t .links)) (slot g q - 1) 0 + rankOf (split g q)) 0 ≡
+      v (childAt (prefixAt s e) (slot g q)) (split g q)
   child-cell zero-is leads q low hi =
       let (a, b) = slot-bounds g q low hi in
       let l = leads (slot g q - 1) (omega (arith, size)) in
@@ -139,14 +145,17 @@ module _ (v : List ℕ → List ℕ → ℕ) (P : List (List ℕ)) (s : Scheme) 
       let len : lengthAt s (l .index) ≡ suc (lengthAt s e) =
       omega (arith, sym (prefix-length s (l .index)), ap length named, child-length (prefixAt s e) (slot g q), size) in
       let short = entry-short s proper (l .index) (l .inside) in
-      let at : getD (map (λ x. readsFrom t here before + x) (t .links)) (slot g q - 1) 0 + rankOf (split g q) ≡ cellAt n s j (l .index) (split g q) =
+      let at : getD (map (λ x. readsFrom t here before + x) (t .links)) (slot g q - 1) 0 + rankOf (split g q) ≡
+      cellAt n s j (l .index) (split g q) =
       omega (arith, link (slot g q - 1) (omega arith), l .placed, reads-here zero-is, here-is) in
       ap (λ m. getD T m 0) at ∙
-      longer (l .index) (l .inside) (omega arith) (split g q) (omega (arith, split-length g q low hi)) (omega (arith, split-total g q low hi)) ∙
+      longer (l .index) (l .inside) (omega arith) (split g q) (omega (arith, split-length g q low hi))
+      (omega (arith, split-total g q low hi)) ∙
       ap (λ (w : List ℕ). v w (split g q)) named
 
   -- the cell of the target
-  target-cell : (r : ℕ) → r < length (prefixAt s e) → outside (length (prefixAt s e)) (deletes (suc r)) ≡ false → t .deleted ≡ entry (prefixAt s e) (suc r) →
+  target-cell : (r : ℕ) → r < length (prefixAt s e) → outside (length (prefixAt s e)) (deletes (suc r)) ≡ false →
+      t .deleted ≡ entry (prefixAt s e) (suc r) →
       1 ≤ entry (prefixAt s e) (suc r) → LeadsTo n s (deleted (suc r ∷ []) (prefixAt s e)) (getD (t .links) 0 0) →
       getD T (getD (map (λ x. readsFrom t here before + x) (t .links)) 0 0 + rankOf (mergeValues (t .deleted ∷ []) g)) 0 ≡
       v (deleted (suc r ∷ []) (prefixAt s e)) (merged (suc r ∷ []) (prefixAt s e) g)
@@ -156,11 +165,20 @@ module _ (v : List ℕ → List ℕ → ℕ) (P : List (List ℕ)) (s : Scheme) 
       let m : mergeValues (t .deleted ∷ []) g ≡ merged (suc r ∷ []) (prefixAt s e) g = ap (λ (x : ℕ). mergeValues (x ∷ []) g) value in
       let j1 : suc (j - 1) ≡ j = omega (arith, size) in
       let cut = deleted-size r (prefixAt s e) perm h in
-      let len : lengthAt s (l .index) + 1 ≡ lengthAt s e = omega (arith, sym (prefix-length s (l .index)), ap length (l .named), cut, size) in
+      let len : lengthAt s (l .index) + 1 ≡ lengthAt s e =
+      omega (arith, sym (prefix-length s (l .index)), ap length (l .named), cut, size) in
       let at : getD (map (λ x. readsFrom t here before + x) (t .links)) 0 0 + rankOf (mergeValues (t .deleted ∷ []) g) ≡
       cellAt n s (j - 1) (l .index) (merged (suc r ∷ []) (prefixAt s e) g) =
-      omega (arith, link 0 (omega arith), l .placed, reads-before (λ (z : t .deleted ≡ 0). omega arith), before-is (j - 1) j1, ap rankOf m) in
-      let wide-is = merged-length (suc r ∷ []) (prefixAt s e) g perm (omega (arith, size)) (position-inside (length (prefixAt s e)) (suc r) o) in
+      omega (
+        arith,
+        link 0 (omega arith),
+        l .placed,
+        reads-before (λ (z : t .deleted ≡ 0). omega arith),
+        before-is (j - 1) j1,
+        ap rankOf m,
+      ) in
+      let wide-is = merged-length (suc r ∷ []) (prefixAt s e) g perm (omega (arith, size))
+      (position-inside (length (prefixAt s e)) (suc r) o) in
       ap (λ k. getD T k 0) at ∙
       done (j - 1) j1 (l .index) (l .inside) (merged (suc r ∷ []) (prefixAt s e) g) (omega (arith, wide-is, cut, size))
       (omega (arith, merged-total (suc r ∷ []) (prefixAt s e) g, size)) ∙
@@ -174,11 +192,13 @@ module _ (v : List ℕ → List ℕ → ℕ) (P : List (List ℕ)) (s : Scheme) 
       of-rule : (rule : Does) → rule ≡ expands → RulePlan n P s (prefixAt s e) rule t → 1 ≤ q → q + m ≤ suc (total g) →
           total (map (nextCell T (map (λ x. readsFrom t here before + x) (t .links)) 0 0 0 g) (row q m)) ≡ sumFrom v (prefixAt s e) g q m
       of-rule expands r (zero-is, alone-is, leads) =
-          cells-sum T (map (λ x. readsFrom t here before + x) (t .links)) (λ a h. v (childAt (prefixAt s e) a) h) g (child-cell zero-is leads) q m
+          cells-sum T (map (λ x. readsFrom t here before + x) (t .links)) (λ a h. v (childAt (prefixAt s e) a) h) g
+          (child-cell zero-is leads) q m
       of-rule (deletes i) r plan = let z : _≡_ {A = ℕ} 0 1 = cc in absurd (omega arith)
 
   -- where no gap vector covers the spacing
-  rule-step : (rule : Does) → (entryAt s e) .rule ≡ rule → RulePlan n P s (prefixAt s e) rule t → v (prefixAt s e) g ≡ ruleValue v P (prefixAt s e) g rule →
+  rule-step : (rule : Does) → (entryAt s e) .rule ≡ rule → RulePlan n P s (prefixAt s e) rule t →
+      v (prefixAt s e) g ≡ ruleValue v P (prefixAt s e) g rule →
       cond (eqb (t .deleted) 0)
       (cond (eqb (total g) 0) (t .alone) (capped (childrenOf T (map (λ x. readsFrom t here before + x) (t .links)) g)))
       (getD T (getD (map (λ x. readsFrom t here before + x) (t .links)) 0 0 + rankOf (mergeValues (t .deleted ∷ []) g)) 0) ≡
@@ -186,21 +206,27 @@ module _ (v : List ℕ → List ℕ → ℕ) (P : List (List ℕ)) (s : Scheme) 
   unfolding ruleValue
   rule-step expands r (zero-is, alone-is, leads) is =
       ap (λ b. cond b (cond (eqb (total g) 0) (t .alone) (capped (childrenOf T (map (λ x. readsFrom t here before + x) (t .links)) g)))
-      (getD T (getD (map (λ x. readsFrom t here before + x) (t .links)) 0 0 + rankOf (mergeValues (t .deleted ∷ []) g)) 0)) (eq-eqb (t .deleted) 0 zero-is) ∙
+      (getD T (getD (map (λ x. readsFrom t here before + x) (t .links)) 0 0 + rankOf
+      (mergeValues (t .deleted ∷ []) g)) 0)) (eq-eqb (t .deleted) 0 zero-is) ∙
       go (eqb (total g) 0) is
     where
-      sum-is : childrenOf T (map (λ x. readsFrom t here before + x) (t .links)) g ≡ total (map (λ q. v (childAt (prefixAt s e) (slot g q)) (split g q)) (oneTo (total g)))
-      sum-is = children-sum T (map (λ x. readsFrom t here before + x) (t .links)) (λ a h. v (childAt (prefixAt s e) a) h) g (child-cell zero-is leads)
+      sum-is : childrenOf T (map (λ x. readsFrom t here before + x) (t .links)) g ≡
+          total (map (λ q. v (childAt (prefixAt s e) (slot g q)) (split g q)) (oneTo (total g)))
+      sum-is = children-sum T (map (λ x. readsFrom t here before + x) (t .links))
+          (λ a h. v (childAt (prefixAt s e) a) h) g (child-cell zero-is leads)
 
       go : (b : Bool) →
-          v (prefixAt s e) g ≡ cond b (cond (avoids P (prefixAt s e)) 1 0) (total (map (λ q. v (childAt (prefixAt s e) (slot g q)) (split g q)) (oneTo (total g)))) →
+          v (prefixAt s e) g ≡ cond b (cond (avoids P (prefixAt s e)) 1 0)
+          (total (map (λ q. v (childAt (prefixAt s e) (slot g q)) (split g q)) (oneTo (total g)))) →
           cond b (t .alone) (capped (childrenOf T (map (λ x. readsFrom t here before + x) (t .links)) g)) ≡
-          cond b (cond (avoids P (prefixAt s e)) 1 0) (total (map (λ q. v (childAt (prefixAt s e) (slot g q)) (split g q)) (oneTo (total g))))
+          cond b (cond (avoids P (prefixAt s e)) 1 0)
+          (total (map (λ q. v (childAt (prefixAt s e) (slot g q)) (split g q)) (oneTo (total g))))
       go true q = alone-is
       go false q =
           ap capped sum-is ∙ below-cap (total (map (λ q. v (childAt (prefixAt s e) (slot g q)) (split g q)) (oneTo (total g))))
           (omega (arith, solved .fits (prefixAt s e) g (omega arith), q))
-  rule-step (deletes zero) r plan is = absurd (true-not-false (ap (outside (length (prefixAt s e))) (sym r) ∙ entry-proper s proper e inside .inside))
+  rule-step (deletes zero) r plan is = absurd (true-not-false
+      (ap (outside (length (prefixAt s e))) (sym r) ∙ entry-proper s proper e inside .inside))
   rule-step (deletes (suc r)) q (value, low, leads) is =
       let o = ap (outside (length (prefixAt s e))) (sym q) ∙ entry-proper s proper e inside .inside in
       let h : r < length (prefixAt s e) = position-high (length (prefixAt s e)) (suc r) o in
@@ -219,6 +245,7 @@ module _ (v : List ℕ → List ℕ → ℕ) (P : List (List ℕ)) (s : Scheme) 
           v (prefixAt s e) g ≡ cond (free ((entryAt s e) .gaps) g) (ruleValue v P (prefixAt s e) g ((entryAt s e) .rule)) 0 →
           stepOf T ((entryAt s e) .gaps) (t .deleted) (t .alone) (map (λ x. readsFrom t here before + x) (t .links)) g ≡ v (prefixAt s e) g
       go true f q =
-          let is : v (prefixAt s e) g ≡ ruleValue v P (prefixAt s e) g ((entryAt s e) .rule) = q ∙ ap (λ b. cond b (ruleValue v P (prefixAt s e) g ((entryAt s e) .rule)) 0) f in
+          let is : v (prefixAt s e) g ≡ ruleValue v P (prefixAt s e) g ((entryAt s e) .rule) = q ∙
+          ap (λ b. cond b (ruleValue v P (prefixAt s e) g ((entryAt s e) .rule)) 0) f in
           rw f (rule-step ((entryAt s e) .rule) refl (planned .rule) is ∙ sym is)
       go false f q = rw f (sym (q ∙ ap (λ b. cond b (ruleValue v P (prefixAt s e) g ((entryAt s e) .rule)) 0) f))

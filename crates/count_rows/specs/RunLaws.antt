@@ -38,7 +38,8 @@ pub block-twice : (n : ℕ) (s : Scheme) (j : ℕ) → blockOf n s j ≡ blockOf
 block-twice n s j = go (blocks n s j) (blocks n s (suc j))
   where
     go : ((blockOf n s j ≡ 0) × (blockOf n s (suc j) ≡ widthOf n s)) ⊎ ((blockOf n s j ≡ widthOf n s) × (blockOf n s (suc j) ≡ 0)) →
-        ((blockOf n s (suc j) ≡ 0) × (blockOf n s (suc (suc j)) ≡ widthOf n s)) ⊎ ((blockOf n s (suc j) ≡ widthOf n s) × (blockOf n s (suc (suc j)) ≡ 0)) →
+        ((blockOf n s (suc j) ≡ 0) × (blockOf n s (suc (suc j)) ≡ widthOf n s)) ⊎ ((blockOf n s (suc j) ≡ widthOf n
+        s) × (blockOf n s (suc (suc j)) ≡ 0)) →
         blockOf n s j ≡ blockOf n s (suc (suc j))
     go (inl (a, b)) (inl (c, d)) = omega arith
     go (inl (a, b)) (inr (c, d)) = omega arith
@@ -46,7 +47,8 @@ block-twice n s j = go (blocks n s j) (blocks n s (suc j))
     go (inr (a, b)) (inr (c, d)) = omega arith
 
 -- a row as part of a run
-unfoldable pub run-setting : (s : Scheme) (items : ℕ → Item) (n width root j here before : ℕ) → Outlook s items n width root → j ≤ n → here ≡ blockOf n s j →
+unfoldable pub run-setting : (s : Scheme) (items : ℕ → Item) (n width root j here before : ℕ) →
+    Outlook s items n width root → j ≤ n → here ≡ blockOf n s j →
     before ≡ blockOf n s (j + 1) → Setting s items j here before
 run-setting s items n width root j here before o low h b =
     record {
@@ -109,7 +111,8 @@ module _ (s : Scheme) (items : ℕ → Item) (n width root : ℕ) (T₀ : List �
               let zero-length : lengthAt s (l .index) ≡ 0 = sym (prefix-length s (l .index)) ∙ ap length (l .named) in
               let cell : here + root ≡ cellAt n s j (l .index) (j ∷ []) = omega (arith, h, l .placed) in
               e ∙ ap (λ m. getD U m 0) cell ∙
-              row-end v n s j U (done .0) (l .index) (l .inside) (j ∷ []) (omega arith) (omega arith) ∙ ap (λ (p : List ℕ). v p (j ∷ [])) (l .named)
+              row-end v n s j U (done .0) (l .index) (l .inside) (j ∷ []) (omega arith) (omega arith) ∙
+              ap (λ (p : List ℕ). v p (j ∷ [])) (l .named)
 
           at : (i : ℕ) → i < j + 1 → (i < j) ⊎ (j ≤ i) → getD (set counts j x) i 0 ≡ v [] (i ∷ [])
           at i l (inl a) = getD-set-other counts j i x 0 (λ (q : i ≡ j). omega arith) ∙ counted .below i a

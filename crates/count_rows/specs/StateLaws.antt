@@ -18,7 +18,8 @@ use Rattle.count_plan.specs.LayoutLaws.{count-few, entry-short, place-small}
 use Rattle.count_plan.specs.Plan.{Item, Planned}
 use Rattle.forms.specs.SchemeMemory.{schemeIn}
 use Rattle.scheme.specs.Proper.{Proper}
-use Rattle.count_rows.specs.Rows.{itemStep, Fits, Solves, Holds, RowDone, State, Kept, Setting, Goes, EntryFilled, RowTo, Top, RowGoesTo}
+use Rattle.count_rows.specs.Rows.{itemStep, Fits, Solves, Holds, RowDone, State, Kept, Setting, Goes}
+use Rattle.count_rows.specs.Rows.{EntryFilled, RowTo, Top, RowGoesTo}
 use Rattle.count_rows.specs.RowLaws.{block-high, within-row, apart-entry, apart-row, step-value}
 
 pub kept-refl : (n : ℕ) (s : Scheme) (T : List ℕ) → Kept n s T T
@@ -75,7 +76,15 @@ module _ (v : List ℕ → List ℕ → ℕ) (s : Scheme) (items : ℕ → Item)
       fresh : Holds v (r .n) s T j e
       fresh g wide whole =
           let room : here + (items e) .place + binomial j ((items e) .length) ≤ length T₀ =
-          omega (arith, at-is, amount-is, block-high (r .n) s j, within-row (r .n) s e inside, binomial-mono j (r .n) (lengthAt s e) (r .low), state .room) in
+          omega (
+            arith,
+            at-is,
+            amount-is,
+            block-high (r .n) s j,
+            within-row (r .n) s e inside,
+            binomial-mono j (r .n) (lengthAt s e) (r .low),
+            state .room,
+          ) in
           let c : here + (items e) .place + rankOf g ≡ cellAt (r .n) s j e g = omega (arith, at-is) in
           ap (λ x. getD T x 0) (sym c) ∙
           f .cells (v (prefixAt s e)) steady room g (wide ∙ ap suc (sym (plan .size))) (omega (arith, plan .size))
@@ -125,7 +134,8 @@ module _ (v : List ℕ → List ℕ → ℕ) (n : ℕ) (s : Scheme) (j : ℕ) (T
 
 -- What an entry is given
 
-pub setting-fits : (s : Scheme) (items : ℕ → Item) (j here before : ℕ) → Setting s items j here before → (e : ℕ) → e < s .count → lengthAt s e ≤ j →
+pub setting-fits : (s : Scheme) (items : ℕ → Item) (j here before : ℕ) → Setting s items j here before → (e : ℕ) →
+    e < s .count → lengthAt s e ≤ j →
     Fits (items e) j here before
 setting-fits s items j here before r e inside reach =
     let p = r .plan e inside in
@@ -163,7 +173,8 @@ module _ (v : List ℕ → List ℕ → ℕ) (n : ℕ) (s : Scheme) (j : ℕ) (T
       go d h l (inl q) = st .done d h q (omega arith)
       go d h l (inr q) = st .longer d h (omega arith)
 
-  pub row-start : (k : ℕ) → Proper (schemeIn s) → 2 * widthOf n s ≤ length T → ((i : ℕ) → suc i ≡ j → RowDone v n s T i) → Top j k → RowTo v n s j k T
+  pub row-start : (k : ℕ) → Proper (schemeIn s) → 2 * widthOf n s ≤ length T →
+      ((i : ℕ) → suc i ≡ j → RowDone v n s T i) → Top j k → RowTo v n s j k T
   row-start k proper room before top =
       record { room = room; before = before; longer = λ (d : ℕ) (h : d < s .count) (l : k ≤ lengthAt s d). none d h l (top .all) }
     where
@@ -194,7 +205,8 @@ module _ (s : Scheme) (items : ℕ → Item) (j here before : ℕ) (T₀ : List 
       (state-skip v (r .n) s j T k e (λ (q : lengthAt s e ≡ k). ne (r .plan e inside .size ∙ q)) now, kept)
 
   -- one length more
-  pub goes-length : (k : ℕ) (T U : List ℕ) → RowGoesTo s items j here before (suc k) T₀ T → Goes s items j here before k 0 k (s .count) T U →
+  pub goes-length : (k : ℕ) (T U : List ℕ) → RowGoesTo s items j here before (suc k) T₀ T →
+      Goes s items j here before k 0 k (s .count) T U →
       RowGoesTo s items j here before k T₀ U
   goes-length k T U done go r v solved room before-rows =
       let (now, kept) = done r v solved room before-rows in

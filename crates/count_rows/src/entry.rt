@@ -41,7 +41,8 @@ fn offset_of(deleted: usize, here: usize, before: usize) -> usize
 // Where the cells of each entry begin that the links of an entry name, in the row that begins at
 // `offset`.
 fn links_from(sheet: &[u8], places: &[usize], e: usize, offset: usize) -> [usize; LINKS]
-    requires { ⌜ (e < ENTRIES) × (length (now sheet) ≡ SHEET) × (offset ≤ NEAR) × ((a : ℕ) → getD (linksAt (now sheet) (now places) e) a 0 ≤ NEAR) ⌝ }
+    requires { ⌜ (e < ENTRIES) × (length (now sheet) ≡ SHEET) × (offset ≤ NEAR) ×
+        ((a : ℕ) → getD (linksAt (now sheet) (now places) e) a 0 ≤ NEAR) ⌝ }
     ensures { λ r. ⌜ r ≡ map (λ x. offset + x) (linksAt (now (sheet .entry)) (now (places .entry)) e) ⌝ }
 {
     let mut from = [0usize; LINKS];
@@ -84,7 +85,8 @@ pub fn fill_entry(
     b: &[usize],
 )
     requires { ⌜ EntryGiven (now sheet) (now places) e w × Pascal (now b) ⌝ }
-    ensures { λ r. ⌜ EntryFilled (itemOf (now (sheet .entry)) (now (places .entry)) e) (w .length) (w .here) (w .before) (now (table .entry)) (now (table .exit)) ⌝ }
+    ensures { λ r. ⌜ EntryFilled (itemOf (now (sheet .entry)) (now (places .entry)) e) (w .length) (w .here)
+        (w .before) (now (table .entry)) (now (table .exit)) ⌝ }
 {
     let task = task_of(sheet, places, e, w);
     let at = w.here + place_at(places, e);

@@ -32,7 +32,7 @@ fn fill_length(table: &mut [u64], sheet: &[u8], places: &[usize], k: usize, w: R
     }
 }
 
-// Fills a row.
+// Fills the cells of one length, entry by entry.
 pub fn fill_row(table: &mut [u64], sheet: &[u8], places: &[usize], w: RowAt, b: &[usize])
     requires { ⌜ RowGiven (now sheet) (now places) w × Pascal (now b) ⌝ }
     ensures { λ r. ⌜ RowFilledTo (now (sheet .entry)) (now (places .entry)) w 0 (now (table .entry)) (now (table .exit)) ⌝ }

@@ -69,7 +69,8 @@ module _ (step : List ℕ → List ℕ → ℕ) (k t at n : ℕ) (count : n ≡ 
     stored =
         record {
           size = length-set T (at + p) (step T g) ∙ f .filled .outside .size;
-          same = λ (i : ℕ) (o : (i < at) ⊎ (at + n ≤ i)). getD-set-other T (at + p) i (step T g) 0 (apart i o) ∙ f .filled .outside .same i o;
+          same = λ (i : ℕ) (o : (i < at) ⊎ (at + n ≤ i)). getD-set-other T (at + p) i (step T g) 0 (apart i o) ∙
+              f .filled .outside .same i o;
         }
       where
         apart : (i : ℕ) → (i < at) ⊎ (at + n ≤ i) → i ≡ at + p → ⊥
@@ -81,7 +82,8 @@ module _ (step : List ℕ → List ℕ → ℕ) (k t at n : ℕ) (count : n ≡ 
       where
         go : (rankOf u < p) ⊎ (p ≤ rankOf u) → getD (set T (at + p) (step T g)) (at + rankOf u) 0 ≡ v u
         go (inl a) =
-            getD-set-other T (at + p) (at + rankOf u) (step T g) 0 (λ (e : at + rankOf u ≡ at + p). omega arith) ∙ f .filled .cells v s room u wide whole a
+            getD-set-other T (at + p) (at + rankOf u) (step T g) 0 (λ (e : at + rankOf u ≡ at + p). omega arith) ∙
+            f .filled .cells v s room u wide whole a
         go (inr a) =
             let r : rankOf u ≡ p = omega arith in
             let same : u ≡ g = rank-injective u g (wide ∙ sym (f .wide)) (whole ∙ sym (f .whole)) (r ∙ sym (f .ranked h)) in
@@ -97,7 +99,8 @@ module _ (step : List ℕ → List ℕ → ℕ) (k t at n : ℕ) (count : n ≡ 
           whole = ap total q ∙ next-total g ∙ f .whole;
           reach = omega arith;
           ranked = λ (l : p + 1 < n). ap rankOf q ∙
-              next-rank g k (k + t) (f .wide) (ap (λ m. k + m) (f .whole)) (omega (arith, f .ranked h)) ∙ ap suc (f .ranked h) ∙ sym (add-one p);
+              next-rank g k (k + t) (f .wide) (ap (λ m. k + m) (f .whole)) (omega (arith, f .ranked h)) ∙
+              ap suc (f .ranked h) ∙ sym (add-one p);
         }
 
   pub filling-end : (p : ℕ) (T g : List ℕ) → Filling step k t at n p T₀ T g → n ≤ p → Filled step k t at n n T₀ T

@@ -164,7 +164,8 @@ module _ (M : ℕ) (T links G : List ℕ) (k : ℕ) (size : length G ≡ k + 1) 
               reach = omega arith;
             }
 
-      pub sums-end : (p n : ℕ) → k ≤ i → p ≡ min (partSum T (getD links k 0 + below) (k + 1) z x) M → n ≡ min (sum + p) M → n ≡ min (childrenOf T links G) M
+      pub sums-end : (p n : ℕ) → k ≤ i → p ≡ min (partSum T (getD links k 0 + below) (k + 1) z x) M → n ≡
+          min (sum + p) M → n ≡ min (childrenOf T links G) M
       unfolding childSum rankFrom
       sums-end p n h pe ne =
           let q : i ≡ k = omega (arith, s .reach) in

@@ -21,7 +21,8 @@ unfoldable pub childSum : List ℕ → List ℕ → ℕ → ℕ → ℕ → List
 unfolding partSum binomial rankFrom
 childSum T links i s a [] = 0
 childSum T links i s a (x ∷ g) =
-    partSum T (getD links i 0 + (s + rankFrom (suc i) (a + x) g)) (suc i) a x + childSum T links (suc i) (s + binomial (a + x) (suc i)) (suc (a + x)) g
+    partSum T (getD links i 0 + (s + rankFrom (suc i) (a + x) g)) (suc i) a x + childSum T links (suc i)
+    (s + binomial (a + x) (suc i)) (suc (a + x)) g
 
 unfoldable pub childrenOf : List ℕ → List ℕ → List ℕ → ℕ
 unfolding childSum
@@ -42,5 +43,6 @@ unfoldable pub stepOf : List ℕ → List (List ℕ) → ℕ → ℕ → List �
 unfolding free total mergeValues childrenOf rankOf
 stepOf T B w alone links g =
     cond (free B g)
-    (cond (eqb w 0) (cond (eqb (total g) 0) alone (capped (childrenOf T links g))) (getD T (getD links 0 0 + rankOf (mergeValues (w ∷ []) g)) 0))
+    (cond (eqb w 0) (cond (eqb (total g) 0) alone (capped (childrenOf T links g)))
+    (getD T (getD links 0 0 + rankOf (mergeValues (w ∷ []) g)) 0))
     0

@@ -43,7 +43,8 @@ module _ (T links : List ℕ) where
   here-sum i s a x g q (suc n) h e =
       let o : suc (a + (q - 1)) ≡ a + (suc q - 1) = omega arith in
       ap₂ _+_ (here-cell i s a x g q h (omega arith))
-      (ap (λ z. partSum T (getD links i 0 + (s + rankFrom (suc i) (a + x) g)) (suc i) z n) o ∙ here-sum i s a x g (suc q) n (omega arith) (omega arith))
+      (ap (λ z. partSum T (getD links i 0 + (s + rankFrom (suc i) (a + x) g)) (suc i) z n) o ∙
+      here-sum i s a x g (suc q) n (omega arith) (omega arith))
 
   -- a next entry in a later component
   later-cell : (i s a x : ℕ) (g : List ℕ) (q : ℕ) → 1 ≤ q → q ≤ total g →
@@ -65,10 +66,13 @@ module _ (T links : List ℕ) where
       let z : a + (1 - 1) ≡ a = omega arith in
       let one : 1 + x ≡ x + 1 = omega arith in
       ap₂ _+_
-      (ap (λ n. partSum T (getD links i 0 + (s + rankFrom (suc i) (a + x) g)) (suc i) n x) (sym z) ∙ here-sum i s a x g 1 x (omega arith) (omega arith))
+      (ap (λ n. partSum T (getD links i 0 + (s + rankFrom (suc i) (a + x) g)) (suc i) n x) (sym z) ∙
+      here-sum i s a x g 1 x (omega arith) (omega arith))
       (child-sum (suc i) (s + binomial (a + x) (suc i)) (suc (a + x)) g ∙
-      ap total (map-same (nextCell (suc i) (s + binomial (a + x) (suc i)) (suc (a + x)) g) (λ q. nextCell i s a (x ∷ g) (x + q)) (oneTo (total g)) later) ∙
-      sym (total-shift (nextCell i s a (x ∷ g)) x 1 (total g)) ∙ ap (λ n. total (map (nextCell i s a (x ∷ g)) (row n (total g)))) (sym one)) ∙
+      ap total (map-same (nextCell (suc i) (s + binomial (a + x) (suc i)) (suc (a + x)) g)
+      (λ q. nextCell i s a (x ∷ g) (x + q)) (oneTo (total g)) later) ∙
+      sym (total-shift (nextCell i s a (x ∷ g)) x 1 (total g)) ∙
+      ap (λ n. total (map (nextCell i s a (x ∷ g)) (row n (total g)))) (sym one)) ∙
       sym (ap (λ (l : List ℕ). total (map (nextCell i s a (x ∷ g)) l)) (row-cut 1 x (total g)) ∙
       ap total (map-append (nextCell i s a (x ∷ g)) (row 1 x) (row (1 + x) (total g))) ∙
       total-append (map (nextCell i s a (x ∷ g)) (row 1 x)) (map (nextCell i s a (x ∷ g)) (row (1 + x) (total g))))

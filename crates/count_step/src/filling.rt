@@ -25,7 +25,8 @@ pub fn fill_one(
     b: &[usize],
 )
     requires { ⌜ TaskFits task × TaskGaps task (now gaps) × (total (spacingIn (task .length) g) ≡ task .total) × Pascal (now b) ⌝ }
-    ensures { λ r. ⌜ now (table .exit) ≡ set (now (table .entry)) at (taskStep task (now (gaps .entry)) (now (table .entry)) (spacingIn (task .length) g)) ⌝ }
+    ensures { λ r. ⌜ now (table .exit) ≡ set (now (table .entry)) at
+        (taskStep task (now (gaps .entry)) (now (table .entry)) (spacingIn (task .length) g)) ⌝ }
 {
     let x = value_at(table, task, gaps, g, b);
     store(table, at, x);
@@ -34,8 +35,10 @@ pub fn fill_one(
 // The cells of one entry at one length, `size` of them from `at` on: the one with index p has the
 // value at the spacing of rank p.
 pub fn fill_cells(table: &mut [u64], at: usize, size: usize, task: Task, gaps: &[u8], b: &[usize])
-    requires { ⌜ TaskFits task × TaskGaps task (now gaps) × (size ≡ binomial (task .length + task .total) (task .length)) × (at ≤ FAR) × Pascal (now b) ⌝ }
-    ensures { λ r. ⌜ Filled (taskStep task (now (gaps .entry))) (task .length) (task .total) at size size (now (table .entry)) (now (table .exit)) ⌝ }
+    requires { ⌜ TaskFits task × TaskGaps task (now gaps) ×
+        (size ≡ binomial (task .length + task .total) (task .length)) × (at ≤ FAR) × Pascal (now b) ⌝ }
+    ensures { λ r. ⌜ Filled (taskStep task (now (gaps .entry))) (task .length) (task .total) at size size
+        (now (table .entry)) (now (table .exit)) ⌝ }
 {
     let k = task.length;
     let mut g = first_spacing(k, narrow(task.total));

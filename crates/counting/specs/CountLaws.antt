@@ -25,12 +25,14 @@ use Rattle.verdict.specs.declared.answer.Verdict.{Verdict}
 use Rattle.count_plan.specs.Layout.{needOf}
 use Rattle.verdict.specs.Value.{countOf}
 use Rattle.verdict.specs.ValueLaws.{count-avoiders}
-use Rattle.counting.specs.Counting.{tableTests, countTests, lengthTests, plainTests, faultIn, countedOr, toldCounted, tableAfter, Counts, PlainCounts}
+use Rattle.counting.specs.Counting.{tableTests, countTests, lengthTests, plainTests, faultIn, countedOr}
+use Rattle.counting.specs.Counting.{toldCounted, tableAfter, Counts, PlainCounts}
 use Rattle.counting.specs.declared.answer.Counted.{Counted}
 use Rattle.counting.specs.declared.answer.Counted.the-variants.{Count}
 
 -- the fault in a verdict is that of its tests
-pub verdict-fault : (P : List (List ℕ)) (E : List EntryList) (v : Verdict) → v ≡ verdictOf P E → faultIn v ≡ faultOf (firstFault (judgeTests P E))
+pub verdict-fault : (P : List (List ℕ)) (E : List EntryList) (v : Verdict) → v ≡ verdictOf P E → faultIn v ≡
+    faultOf (firstFault (judgeTests P E))
 verdict-fault P E v e = ap faultIn e ∙ read (faultOf (firstFault (judgeTests P E))) (comparedCells P E)
   where
     read : (f : Fault) (n : ℕ) → faultIn (answered f n) ≡ f
@@ -40,23 +42,29 @@ verdict-fault P E v e = ap faultIn e ∙ read (faultOf (firstFault (judgeTests P
 -- a clean verdict accepts
 pub clean-accepts : (v : Verdict) → faultIn v ≡ Clean → accepted v ≡ true
 clean-accepts (Rattle.verdict.specs.declared.answer.Verdict.the-variants.Accepted n) e = refl
-clean-accepts (Rattle.verdict.specs.declared.answer.Verdict.the-variants.Refused r i) e = let z : _≡_ {A = ℕ} 0 1 = cc in absurd (omega arith)
+clean-accepts (Rattle.verdict.specs.declared.answer.Verdict.the-variants.Refused r i) e = let z : _≡_ {A = ℕ} 0 1 =
+    cc in absurd (omega arith)
 
 -- the tests of n and of the table
 pub length-refused : (E : List EntryList) (n cells : ℕ) → LENGTH < n → faultOf (firstFault (tableTests E n cells)) ≡ At Oversize 0
 length-refused E n cells h = rw (lt-ltb LENGTH n h) refl
 
-pub table-refused : (E : List EntryList) (n cells : ℕ) → n ≤ LENGTH → cells < needOf n E → faultOf (firstFault (tableTests E n cells)) ≡ At ShortTable 0
+pub table-refused : (E : List EntryList) (n cells : ℕ) → n ≤ LENGTH → cells < needOf n E →
+    faultOf (firstFault (tableTests E n cells)) ≡ At ShortTable 0
 table-refused E n cells h k = rw (le-ltb LENGTH n h, lt-ltb cells (needOf n E) k) refl
 
-pub table-serves : (E : List EntryList) (n cells : ℕ) → n ≤ LENGTH → needOf n E ≤ cells → faultOf (firstFault (tableTests E n cells)) ≡ Clean
+pub table-serves : (E : List EntryList) (n cells : ℕ) → n ≤ LENGTH → needOf n E ≤ cells →
+    faultOf (firstFault (tableTests E n cells)) ≡ Clean
 table-serves E n cells h k = rw (le-ltb LENGTH n h, le-ltb cells (needOf n E) k) refl
 
 -- where they find nothing, n is at most LENGTH and the table is long enough
-pub table-good : (E : List EntryList) (n cells : ℕ) → faultOf (firstFault (tableTests E n cells)) ≡ Clean → (n ≤ LENGTH) × (needOf n E ≤ cells)
+pub table-good : (E : List EntryList) (n cells : ℕ) → faultOf (firstFault (tableTests E n cells)) ≡ Clean →
+    (n ≤ LENGTH) × (needOf n E ≤ cells)
 table-good E n cells e = go (ltb LENGTH n) (ltb cells (needOf n E)) refl refl e
   where
-    go : (a b : Bool) → ltb LENGTH n ≡ a → ltb cells (needOf n E) ≡ b → faultOf (firstFault (test Oversize a ∷ test ShortTable b ∷ [])) ≡ Clean → (n ≤ LENGTH) × (needOf n E ≤ cells)
+    go : (a b : Bool) → ltb LENGTH n ≡ a → ltb cells (needOf n E) ≡ b →
+        faultOf (firstFault (test Oversize a ∷ test ShortTable b ∷ [])) ≡ Clean → (n ≤ LENGTH) ×
+        (needOf n E ≤ cells)
     go true b p q r = let z : _≡_ {A = ℕ} 0 1 = cc in absurd (omega arith)
     go false true p q r = let z : _≡_ {A = ℕ} 0 1 = cc in absurd (omega arith)
     go false false p q r = (borrow.Author.Tests.ltb-false LENGTH n p, borrow.Author.Tests.ltb-false cells (needOf n E) q)
@@ -102,7 +110,8 @@ module _ (P : List (List ℕ)) (E : List EntryList) where
   count-exact a n = let (formed, claims) = accepted-exactly P E .0 a in count-avoiders P E formed claims n
 
   -- what the equations of an answer promise
-  pub counts-so : (n : ℕ) (before after : List ℕ) (r : Counted) → r ≡ countedOr (faultOf (firstFault (countTests P E n (length before)))) (countOf P E n) →
+  pub counts-so : (n : ℕ) (before after : List ℕ) (r : Counted) → r ≡
+      countedOr (faultOf (firstFault (countTests P E n (length before)))) (countOf P E n) →
       after ≡ tableAfter (faultOf (firstFault (countTests P E n (length before)))) (needOf n E) before → Counts P E n before after r
   counts-so n before after r e t =
       record {
@@ -112,7 +121,8 @@ module _ (P : List (List ℕ)) (E : List EntryList) where
         counts = λ a h k.
             e ∙
             ap (λ (f : Fault). countedOr f (countOf P E n))
-            (faults-append (judgeTests P E) (tableTests E n (length before)) ∙ ap₂ orElse (accepted-judged a) (table-serves E n (length before) h k)) ∙
+            (faults-append (judgeTests P E) (tableTests E n (length before)) ∙
+            ap₂ orElse (accepted-judged a) (table-serves E n (length before) h k)) ∙
             ap Count (count-exact a n);
       }
 
@@ -135,15 +145,18 @@ module _ (P : List (List ℕ)) (E : List EntryList) where
   module _ (l : List Finding) (f : Fault) (is : f ≡ faultOf (firstFault (judgeTests P E))) where
     pub first-refuses : faulty f ≡ true → faultOf (firstFault (judgeTests P E ++ l)) ≡ f
     first-refuses h =
-        faults-append (judgeTests P E) l ∙ ap (λ (x : Fault). orElse x (faultOf (firstFault l))) (sym is) ∙ or-else-fault f (faultOf (firstFault l)) h
+        faults-append (judgeTests P E) l ∙ ap (λ (x : Fault). orElse x (faultOf (firstFault l))) (sym is) ∙
+        or-else-fault f (faultOf (firstFault l)) h
 
     pub then-second : faulty f ≡ false → faultOf (firstFault (judgeTests P E ++ l)) ≡ faultOf (firstFault l)
     then-second h =
-        faults-append (judgeTests P E) l ∙ ap (λ (x : Fault). orElse x (faultOf (firstFault l))) (sym is) ∙ or-else-clean f (faultOf (firstFault l)) h
+        faults-append (judgeTests P E) l ∙ ap (λ (x : Fault). orElse x (faultOf (firstFault l))) (sym is) ∙
+        or-else-clean f (faultOf (firstFault l)) h
 
   -- Counting by the table: f is what judging found.
   module _ (n : ℕ) (T : List ℕ) (f : Fault) (is : f ≡ faultOf (firstFault (judgeTests P E))) where
-    by-fault : (g : Fault) → faultOf (firstFault (countTests P E n (length T))) ≡ g → faulty g ≡ true → (r : Counted) → r ≡ countedOr g 0 → Counts P E n T T r
+    by-fault : (g : Fault) → faultOf (firstFault (countTests P E n (length T))) ≡ g → faulty g ≡ true →
+        (r : Counted) → r ≡ countedOr g 0 → Counts P E n T T r
     by-fault g e h r q =
         counts-so n T T r (q ∙ refused-count g 0 (countOf P E n) h ∙ ap (λ (x : Fault). countedOr x (countOf P E n)) (sym e))
         (refused-table g (needOf n E) T h ∙ ap (λ (x : Fault). tableAfter x (needOf n E) T) (sym e))
@@ -163,7 +176,8 @@ module _ (P : List (List ℕ)) (E : List EntryList) where
         pub served : (n ≤ LENGTH) × (needOf n E ≤ length T)
         served = table-good E n (length T) (sym found ∙ not-faulty g k)
 
-        pub done : (T' : List ℕ) (v : ℕ) (r : Counted) → T' ≡ tableAfter Clean (needOf n E) T → v ≡ countOf P E n → r ≡ countedOr g v → Counts P E n T T' r
+        pub done : (T' : List ℕ) (v : ℕ) (r : Counted) → T' ≡ tableAfter Clean (needOf n E) T → v ≡ countOf P E n →
+            r ≡ countedOr g v → Counts P E n T T' r
         done T' v r t e q =
             counts-so n T T' r (q ∙ ap₂ countedOr (sym tests-so) e)
             (t ∙ ap (λ (x : Fault). tableAfter x (needOf n E) T) (sym (tests-so ∙ not-faulty g k)))
@@ -172,7 +186,8 @@ module _ (P : List (List ℕ)) (E : List EntryList) where
   module _ (n : ℕ) (f : Fault) (is : f ≡ faultOf (firstFault (judgeTests P E))) where
     pub plain-refused : faulty f ≡ true → (r : Counted) → r ≡ countedOr f 0 → PlainCounts P E n r
     plain-refused h r q =
-        plain-so n r (q ∙ refused-count f 0 (countOf P E n) h ∙ ap (λ (x : Fault). countedOr x (countOf P E n)) (sym (first-refuses (lengthTests n) f is h)))
+        plain-so n r (q ∙ refused-count f 0 (countOf P E n) h ∙ ap (λ (x : Fault). countedOr x (countOf P E n))
+        (sym (first-refuses (lengthTests n) f is h)))
 
     module _ (h : faulty f ≡ false) (g : Fault) (found : g ≡ faultOf (firstFault (lengthTests n))) where
       pub plain-long : faulty g ≡ true → (r : Counted) → r ≡ countedOr g 0 → PlainCounts P E n r

@@ -61,7 +61,9 @@ pub fn table_fault(scheme: Scheme, n: usize, cells: usize) -> Fault
 
 // The counts for the lengths from 0 to n of an accepted scheme.
 pub fn all_counts(patterns: Patterns, scheme: Scheme, n: usize, table: &mut [u64]) -> [u64; COUNTS]
-    requires { ⌜ (n ≤ LENGTH) × WellFormed (patternsIn patterns) (schemeIn scheme) × AllTrue (patternsIn patterns) (schemeIn scheme) × (needOf n (schemeIn scheme) ≤ length (now table)) ⌝ }
+    requires { ⌜ (n ≤ LENGTH) × WellFormed (patternsIn patterns) (schemeIn scheme) ×
+        AllTrue (patternsIn patterns) (schemeIn scheme) ×
+        (needOf n (schemeIn scheme) ≤ length (now table)) ⌝ }
     ensures counts { λ r. ⌜ CountsTo (patternsIn patterns) (schemeIn scheme) n r ⌝ }
     ensures table { λ r. ⌜ now (table .exit) ≡ cleared (needOf n (schemeIn scheme)) (now (table .entry)) ⌝ }
 {

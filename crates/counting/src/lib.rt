@@ -1,4 +1,4 @@
-// Counting.
+// Counting with an accepted scheme, by the table and plainly.
 pub mod answer;
 pub mod by_table;
 pub mod plainly;

@@ -51,7 +51,8 @@ fn length_fault(n: usize) -> Fault
 
 // The count of an accepted scheme.
 fn evaluated(patterns: Patterns, scheme: Scheme, n: usize) -> u64
-    requires { ⌜ (n ≤ PLAIN_LENGTH) × WellFormed (patternsIn patterns) (schemeIn scheme) × AllTrue (patternsIn patterns) (schemeIn scheme) ⌝ }
+    requires { ⌜ (n ≤ PLAIN_LENGTH) × WellFormed (patternsIn patterns) (schemeIn scheme) ×
+        AllTrue (patternsIn patterns) (schemeIn scheme) ⌝ }
     ensures { λ r. ⌜ r ≡ countOf (patternsIn patterns) (schemeIn scheme) n ⌝ }
 {
     let rows = rows_of(patterns);

@@ -31,5 +31,6 @@ gaps-stand e width n all h few wide =
     at : (j : ℕ) → j < n → vectorAt (e .gaps) width j ≡ gapAt e j
     at j l =
         let seven = length-parts (e .gaps) j all (omega arith) in
-        sym (take-take width COMPONENTS (drop (COMPONENTS * j) (e .gaps)) h) ∙ sym (padded-within width (partsAt (e .gaps) j) (omega (arith, seven))) ∙
+        sym (take-take width COMPONENTS (drop (COMPONENTS * j) (e .gaps)) h) ∙
+        sym (padded-within width (partsAt (e .gaps) j) (omega (arith, seven))) ∙
         ap (λ w. padded w (partsAt (e .gaps) j)) (sym (wide j l))

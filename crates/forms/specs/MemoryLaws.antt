@@ -54,7 +54,8 @@ pub same-padded : (n : ℕ) (a b : List ℕ) → length a ≡ length b → lengt
 unfolding same
 same-padded n a b e h = go n a b e h
   where
-    go : (m : ℕ) (a b : List ℕ) → length a ≡ length b → length a ≤ m → same (take m (a ++ replicate n 0)) (take m (b ++ replicate n 0)) ≡ same a b
+    go : (m : ℕ) (a b : List ℕ) → length a ≡ length b → length a ≤ m →
+        same (take m (a ++ replicate n 0)) (take m (b ++ replicate n 0)) ≡ same a b
     go m [] [] e h = same-refl (take m (replicate n 0))
     go m [] (y ∷ b) e h = absurd (omega arith)
     go m (x ∷ a) [] e h = absurd (omega arith)

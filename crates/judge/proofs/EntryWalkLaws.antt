@@ -33,11 +33,13 @@ pub cells-start : (P : List (List ℕ)) (s : Scheme) → comparedCells P (scheme
 unfolding comparedCells cellsFrom
 cells-start P s = ap (λ (l : List EntryList). total (map (cellsWith P) l)) (from-start (entryAt s) (s .count)) ∙ omega arith
 
-pub cells-next : (P : List (List ℕ)) (s : Scheme) (i sum r : ℕ) → i < s .count → comparedCells P (schemeIn s) ≡ sum + cellsFrom P s (s .count) i →
+pub cells-next : (P : List (List ℕ)) (s : Scheme) (i sum r : ℕ) → i < s .count → comparedCells P (schemeIn s) ≡
+    sum + cellsFrom P s (s .count) i →
     r ≡ cellsWith P (entryAt s i) → comparedCells P (schemeIn s) ≡ (sum + r) + cellsFrom P s (s .count) (i + 1)
 unfolding cellsFrom
 cells-next P s i sum r h e q =
-    let step : total (map (cellsWith P) (from (entryAt s) (s .count) i)) ≡ cellsWith P (entryAt s i) + total (map (cellsWith P) (from (entryAt s) (s .count) (i + 1))) =
+    let step : total (map (cellsWith P) (from (entryAt s) (s .count) i)) ≡
+    cellsWith P (entryAt s i) + total (map (cellsWith P) (from (entryAt s) (s .count) (i + 1))) =
     ap (λ (l : List EntryList). total (map (cellsWith P) l)) (from-cons (entryAt s) (s .count) i h) in
     omega (arith, e, step, q)
 

@@ -47,7 +47,8 @@ module _ (P : List (List ℕ)) (E : List EntryList) where
     pub verdict-refused : faulty formed ≡ true → answered formed 0 ≡ verdictOf P E
     verdict-refused h =
         refused-answer formed 0 (comparedCells P E) h ∙
-        ap (λ (f : Fault). answered f (comparedCells P E)) (earlier-first formed _ (faultOf (firstFault (claimTests P E))) is h ∙ sym (verdict-parts P E))
+        ap (λ (f : Fault). answered f (comparedCells P E))
+        (earlier-first formed _ (faultOf (firstFault (claimTests P E))) is h ∙ sym (verdict-parts P E))
 
     -- the others are well-formed, and their claims decide
     pub formed-well : faulty formed ≡ false → WellFormed P E
@@ -62,10 +63,12 @@ module _ (P : List (List ℕ)) (E : List EntryList) where
 
     pub verdict-claims : faulty formed ≡ false → answered (faultOf (firstFault (claimTests P E))) (comparedCells P E) ≡ verdictOf P E
     verdict-claims h =
-        ap (λ (f : Fault). answered f (comparedCells P E)) (earlier-second formed _ (faultOf (firstFault (claimTests P E))) is h ∙ sym (verdict-parts P E))
+        ap (λ (f : Fault). answered f (comparedCells P E))
+        (earlier-second formed _ (faultOf (firstFault (claimTests P E))) is h ∙ sym (verdict-parts P E))
 
 -- The basis of a set, as the code makes it.
-module _ (set : List (List ℕ)) (lengths : List ℕ) (count : ℕ) (q : ProperSet set lengths count) (b : Patterns) (is-basis : IsBasis set lengths count b)
+module _ (set : List (List ℕ)) (lengths : List ℕ) (count : ℕ) (q : ProperSet set lengths count) (b : Patterns)
+    (is-basis : IsBasis set lengths count b)
     (rows : List (List ℕ)) (sizes : List ℕ) (hr : length rows ≡ PATTERNS) (hs : length sizes ≡ PATTERNS)
     (has : HasDigits (b .items) rows) (sized : HasLengths (b .items) sizes) where
   basis-holds : patternsOf rows sizes (b .count) ≡ basis (patternsOf set lengths count)
@@ -75,10 +78,12 @@ module _ (set : List (List ℕ)) (lengths : List ℕ) (count : ℕ) (q : ProperS
   basis-proper =
       record {
         few = is-basis .few;
-        perms = λ (β : List ℕ) (m : List·Memᴰ β (patternsOf rows sizes (b .count))). q .perms β (basis-in (patternsOf set lengths count) (rw basis-holds at m));
+        perms = λ (β : List ℕ) (m : List·Memᴰ β (patternsOf rows sizes (b .count))). q .perms β
+            (basis-in (patternsOf set lengths count) (rw basis-holds at m));
       }
 
-  module _ (s : Scheme) (p : Proper (schemeIn s)) (live : Fault) (is : live ≡ faultOf (firstAt LiveGap (liveEntry (patternsOf rows sizes (b .count))) 0 (schemeIn s))) where
+  module _ (s : Scheme) (p : Proper (schemeIn s)) (live : Fault)
+      (is : live ≡ faultOf (firstAt LiveGap (liveEntry (patternsOf rows sizes (b .count))) 0 (schemeIn s))) where
     live-is : live ≡ faultOf (firstAt LiveGap (liveEntry (patternsOf set lengths count)) 0 (schemeIn s))
     live-is =
         is ∙ ap (λ (Q : List (List ℕ)). faultOf (firstAt LiveGap (liveEntry Q) 0 (schemeIn s))) basis-holds ∙
@@ -102,14 +107,17 @@ module _ (set : List (List ℕ)) (lengths : List ℕ) (count : ℕ) (q : ProperS
     claims-live h = earlier-first live _ _ live-is h ∙ sym tests-parts
 
     -- where it finds none, what test 11 finds on the basis is
-    pub claims-lost : (lost : Fault) → lost ≡ faultOf (firstAt Irreversible (differingEntry (patternsOf rows sizes (b .count))) 0 (schemeIn s)) → faulty live ≡ false →
+    pub claims-lost : (lost : Fault) → lost ≡
+        faultOf (firstAt Irreversible (differingEntry (patternsOf rows sizes (b .count))) 0 (schemeIn s)) →
+        faulty live ≡ false →
         lost ≡ faultOf (firstFault (claimTests (patternsOf set lengths count) (schemeIn s)))
     claims-lost lost e h = e ∙ lost-is ∙ earlier-second live _ _ live-is h ∙ sym tests-parts
 
 -- the answer on the claims, from the set in memory
 pub claims-answer : (patterns : Patterns) (s : Scheme) (Q : List (List ℕ)) (f : Fault) (m cells : ℕ) → Q ≡ patternsIn patterns →
     f ≡ faultOf (firstFault (claimTests Q (schemeIn s))) → m ≡ longest Q → ComparesCells m s cells →
-    answered f cells ≡ answered (faultOf (firstFault (claimTests (patternsIn patterns) (schemeIn s)))) (comparedCells (patternsIn patterns) (schemeIn s))
+    answered f cells ≡ answered (faultOf (firstFault (claimTests (patternsIn patterns) (schemeIn s))))
+    (comparedCells (patternsIn patterns) (schemeIn s))
 unfolding mOf
 claims-answer patterns s Q f m cells holds e is c =
     ap₂ answered (e ∙ ap (λ (P : List (List ℕ)). faultOf (firstFault (claimTests P (schemeIn s)))) holds)

@@ -21,7 +21,8 @@ use Rattle.forms.specs.declared.memory.Scheme.{Scheme}
 use Rattle.forms.specs.declared.memory.Fault.{Fault}
 use Rattle.forms.specs.declared.memory.Fault.the-variants.{Clean, At}
 use Rattle.wellformed.proofs.OrderLaws.{faults-append}
-use Rattle.verdict.specs.Verdict.{isEmpty, liveGap, differs, claimTests, comparedCells, judgeTests, answered, verdictOf, toldVerdict, accepted}
+use Rattle.verdict.specs.Verdict.{isEmpty, liveGap, differs, claimTests, comparedCells, judgeTests, answered}
+use Rattle.verdict.specs.Verdict.{verdictOf, toldVerdict, accepted}
 use Rattle.verdict.specs.Truth.{RuleClaim}
 use Rattle.scheme.specs.FindingLaws.{same-failure}
 use Rattle.scheme.specs.Proper.{Proper}
@@ -31,15 +32,18 @@ use Rattle.verdict.specs.declared.answer.Verdict.the-variants.{Accepted, Refuse
 use Rattle.judge.specs.Judgement.{Judges}
 
 -- tests that agree on the items find the same
-pub first-same : {A : Type 0} (r : Refusal) (f g : A → Bool) (i : ℕ) (l : List A) → ((x : A) → List·Memᴰ x l → f x ≡ g x) → firstAt r f i l ≡ firstAt r g i l
+pub first-same : {A : Type 0} (r : Refusal) (f g : A → Bool) (i : ℕ) (l : List A) →
+    ((x : A) → List·Memᴰ x l → f x ≡ g x) → firstAt r f i l ≡ firstAt r g i l
 first-same r f g i [] h = refl
 first-same r f g i (x ∷ l) h =
-    ap₂ (λ (b : Bool) (y : Finding). cond b (fault r i) y) (h x (List·Memᴰ·head refl)) (first-same r f g (suc i) l (λ y m. h y (List·Memᴰ·tail m)))
+    ap₂ (λ (b : Bool) (y : Finding). cond b (fault r i) y) (h x (List·Memᴰ·head refl))
+    (first-same r f g (suc i) l (λ y m. h y (List·Memᴰ·tail m)))
 
 module _ (P : List (List ℕ)) (perms : (β : List ℕ) → List·Memᴰ β P → isPerm β ≡ true) where
   live-basis : (p : List ℕ) (B : List (List ℕ)) → liveGap (basis P) p B ≡ liveGap P p B
   unfolding liveGap
-  live-basis p B = ap (λ (f : List ℕ → Bool). any f B) (fun-ext (λ b. ap (λ (l : List (List ℕ)). not (isEmpty l)) (sym (basis-cell P perms p b))))
+  live-basis p B = ap (λ (f : List ℕ → Bool). any f B)
+      (fun-ext (λ b. ap (λ (l : List (List ℕ)). not (isEmpty l)) (sym (basis-cell P perms p b))))
 
   rule-basis : (p : List ℕ) (B : List (List ℕ)) (rule : Does) → RuleClaim (basis P) p B rule ↔ RuleClaim P p B rule
   rule-basis p B expands = (λ h. h, λ h. h)
@@ -50,20 +54,23 @@ module _ (P : List (List ℕ)) (perms : (β : List ℕ) → List·Memᴰ β P �
   differs-basis p B rule perm inside =
       let (there, back) = rule-basis p B rule in
       let (up, down) = differs-law (basis P) p B rule perm inside in
-      same-failure (differs (basis P) p B rule) (differs P p B rule) (λ e. there (up e), λ h. down (back h)) (differs-law P p B rule perm inside)
+      same-failure (differs (basis P) p B rule) (differs P p B rule) (λ e. there (up e), λ h. down (back h))
+      (differs-law P p B rule perm inside)
 
   module _ (s : Scheme) (q : Proper (schemeIn s)) where
     -- the tests on the basis are those on the set
     pub live-same : firstAt LiveGap (λ (e : EntryList). liveGap (basis P) (e .prefix) (e .gaps)) 0 (schemeIn s) ≡
         firstAt LiveGap (λ (e : EntryList). liveGap P (e .prefix) (e .gaps)) 0 (schemeIn s)
     live-same =
-        first-same LiveGap (λ (e : EntryList). liveGap (basis P) (e .prefix) (e .gaps)) (λ (e : EntryList). liveGap P (e .prefix) (e .gaps)) 0 (schemeIn s)
+        first-same LiveGap (λ (e : EntryList). liveGap (basis P) (e .prefix) (e .gaps))
+        (λ (e : EntryList). liveGap P (e .prefix) (e .gaps)) 0 (schemeIn s)
         (λ e m. live-basis (e .prefix) (e .gaps))
 
     pub differs-same : firstAt Irreversible (λ (e : EntryList). differs (basis P) (e .prefix) (e .gaps) (e .rule)) 0 (schemeIn s) ≡
         firstAt Irreversible (λ (e : EntryList). differs P (e .prefix) (e .gaps) (e .rule)) 0 (schemeIn s)
     differs-same =
-        first-same Irreversible (λ (e : EntryList). differs (basis P) (e .prefix) (e .gaps) (e .rule)) (λ (e : EntryList). differs P (e .prefix) (e .gaps) (e .rule))
+        first-same Irreversible (λ (e : EntryList). differs (basis P) (e .prefix) (e .gaps) (e .rule))
+        (λ (e : EntryList). differs P (e .prefix) (e .gaps) (e .rule))
         0 (schemeIn s)
         (λ e m. differs-basis (e .prefix) (e .gaps) (e .rule) (q .each e m .perm) (q .each e m .inside))
 

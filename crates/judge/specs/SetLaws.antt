@@ -25,7 +25,8 @@ patterns-row : (rows : List (List ℕ)) (lengths : List ℕ) (n : ℕ) → n ≤
 patterns-row rows lengths zero h k = refl
 patterns-row [] lengths (suc n) h k = absurd (omega arith)
 patterns-row (r ∷ rows) [] (suc n) h k = absurd (omega arith)
-patterns-row (r ∷ rows) (x ∷ lengths) (suc n) h k = ap (λ u. take x r ∷ u) (patterns-row rows lengths n (omega arith) (omega arith) ∙ later 0 n)
+patterns-row (r ∷ rows) (x ∷ lengths) (suc n) h k =
+    ap (λ u. take x r ∷ u) (patterns-row rows lengths n (omega arith) (omega arith) ∙ later 0 n)
   where
     later : (a n : ℕ) → map (patternAt rows lengths) (row a n) ≡ map (patternAt (r ∷ rows) (x ∷ lengths)) (row (suc a) n)
     later a zero = refl
@@ -61,7 +62,8 @@ module _ (s : Patterns) (formed : firstFault (patternTests (patternsIn s)) ≡ c
       (Memᴰ·map (λ j. patternIn (getD (s .items) j noPattern)) (row-in 0 (s .count) i (omega arith) (omega arith))) in
       omega (arith, q .short, length-padded (p .length) (p .digits))
 
-  module _ (rows : List (List ℕ)) (lengths : List ℕ) (hr : length rows ≡ PATTERNS) (hl : length lengths ≡ PATTERNS) (has : HasDigits (s .items) rows) (sizes : HasLengths (s .items) lengths) where
+  module _ (rows : List (List ℕ)) (lengths : List ℕ) (hr : length rows ≡ PATTERNS) (hl : length lengths ≡ PATTERNS)
+      (has : HasDigits (s .items) rows) (sizes : HasLengths (s .items) lengths) where
     -- the arrays hold the patterns
     pub set-holds : patternsOf rows lengths (s .count) ≡ patternsIn s
     set-holds = set-held s few short rows lengths hr hl has sizes
@@ -70,5 +72,6 @@ module _ (s : Patterns) (formed : firstFault (patternTests (patternsIn s)) ≡ c
     proper-set =
         record {
           few = few;
-          perms = λ (β : List ℕ) (m : List·Memᴰ β (patternsOf rows lengths (s .count))). proper-pattern (patternsIn s) formed β (rw set-holds at m) .perm;
+          perms = λ (β : List ℕ) (m : List·Memᴰ β (patternsOf rows lengths (s .count))). proper-pattern
+              (patternsIn s) formed β (rw set-holds at m) .perm;
         }

@@ -55,7 +55,8 @@ pub record JudgesTexts (s t : List ℕ) (r : Verdict) : Type 0 where
   -- the number and the value of document 01
   pub numbers : toldVerdict r ≡ toldOr (faultRead (patternsAnswer s) (schemeAnswer t)) (cellsRead (patternsAnswer s) (schemeAnswer t) ∷ [])
   -- where the texts spell lists, it is the verdict on these
-  pub spelt : (P : List (List ℕ)) (E : List EntryList) → length s ≤ PATTERN_TEXT → length t ≤ SCHEME_TEXT → SpellsPatterns s P → SpellsScheme t E → r ≡ verdictOf P E
+  pub spelt : (P : List (List ℕ)) (E : List EntryList) → length s ≤ PATTERN_TEXT → length t ≤ SCHEME_TEXT →
+      SpellsPatterns s P → SpellsScheme t E → r ≡ verdictOf P E
   pub exactly : (accepted r ≡ true) ↔ TextsTrue s t
 
 -- the answer with the lists that were read: those of the definition; where it accepts, the texts

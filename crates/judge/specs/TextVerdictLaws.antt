@@ -45,20 +45,25 @@ refused-not (At r i) n h a = true-not-false (sym a)
 -- the verdict on two texts, in the numbers of document 01
 told-texts : (s t : List ℕ) (r : Verdict) → r ≡ verdictOfTexts s t →
     toldVerdict r ≡ toldOr (faultRead (patternsAnswer s) (schemeAnswer t)) (cellsRead (patternsAnswer s) (schemeAnswer t) ∷ [])
-told-texts s t r e = ap toldVerdict e ∙ told-answered (faultRead (patternsAnswer s) (schemeAnswer t)) (cellsRead (patternsAnswer s) (schemeAnswer t))
+told-texts s t r e = ap toldVerdict e ∙ told-answered (faultRead (patternsAnswer s) (schemeAnswer t))
+    (cellsRead (patternsAnswer s) (schemeAnswer t))
 
 -- a clean answer comes from a text within its ceiling
 pub patterns-short : (s : List ℕ) → (patternsAnswer s) .fault ≡ Clean → length s ≤ PATTERN_TEXT
 patterns-short s e = go (ltb PATTERN_TEXT (length s)) refl e
   where
-    go : (b : Bool) → ltb PATTERN_TEXT (length s) ≡ b → (cond b (refusedPatterns Oversize 0) (answerFrom refusedPatterns testedPatterns (readPatterns (tokens s)))) .fault ≡ Clean → length s ≤ PATTERN_TEXT
+    go : (b : Bool) → ltb PATTERN_TEXT (length s) ≡ b →
+        (cond b (refusedPatterns Oversize 0) (answerFrom refusedPatterns testedPatterns
+        (readPatterns (tokens s)))) .fault ≡ Clean → length s ≤ PATTERN_TEXT
     go true p q = let z : _≡_ {A = ℕ} 0 1 = cc in absurd (omega arith)
     go false p q = ltb-false PATTERN_TEXT (length s) p
 
 pub scheme-short : (t : List ℕ) → (schemeAnswer t) .fault ≡ Clean → length t ≤ SCHEME_TEXT
 scheme-short t e = go (ltb SCHEME_TEXT (length t)) refl e
   where
-    go : (b : Bool) → ltb SCHEME_TEXT (length t) ≡ b → (cond b (refusedScheme Oversize 0) (answerFrom refusedScheme testedScheme (readEntries (tokens t)))) .fault ≡ Clean → length t ≤ SCHEME_TEXT
+    go : (b : Bool) → ltb SCHEME_TEXT (length t) ≡ b →
+        (cond b (refusedScheme Oversize 0) (answerFrom refusedScheme testedScheme
+        (readEntries (tokens t)))) .fault ≡ Clean → length t ≤ SCHEME_TEXT
     go true p q = let z : _≡_ {A = ℕ} 0 1 = cc in absurd (omega arith)
     go false p q = ltb-false SCHEME_TEXT (length t) p
 
@@ -71,16 +76,19 @@ read-scheme-fault : (f : Fault) (m : Scheme) → (readSchemeOr f m) .fault ≡ f
 read-scheme-fault Clean m = refl
 read-scheme-fault (At r i) m = refl
 
-module _ (s : List ℕ) (p : PatternsRead) (reading : ReadsPatterns s p) (P : List (List ℕ)) (short : length s ≤ PATTERN_TEXT) (spells : SpellsPatterns s P) where
+module _ (s : List ℕ) (p : PatternsRead) (reading : ReadsPatterns s p) (P : List (List ℕ))
+    (short : length s ≤ PATTERN_TEXT) (spells : SpellsPatterns s P) where
   pub spelt-fault : p .fault ≡ faultOf (firstFault (patternTests P))
   spelt-fault = ap (λ (x : PatternsRead). x .fault) (reading .spelt P short spells) ∙ read-fault (faultOf (firstFault (patternTests P))) _
 
   pub spelt-list : p .fault ≡ Clean → patternsIn (p .patterns) ≡ P
   spelt-list e = patterns-unique s (patternsIn (p .patterns)) P (reading .reads e) spells
 
-module _ (t : List ℕ) (q : SchemeRead) (reading : ReadsScheme t q) (E : List EntryList) (short : length t ≤ SCHEME_TEXT) (spells : SpellsScheme t E) where
+module _ (t : List ℕ) (q : SchemeRead) (reading : ReadsScheme t q) (E : List EntryList)
+    (short : length t ≤ SCHEME_TEXT) (spells : SpellsScheme t E) where
   pub spelt-scheme-fault : q .fault ≡ faultOf (firstFault (schemeTests E))
-  spelt-scheme-fault = ap (λ (x : SchemeRead). x .fault) (reading .spelt E short spells) ∙ read-scheme-fault (faultOf (firstFault (schemeTests E))) _
+  spelt-scheme-fault = ap (λ (x : SchemeRead). x .fault) (reading .spelt E short spells) ∙
+      read-scheme-fault (faultOf (firstFault (schemeTests E))) _
 
   pub spelt-scheme-list : q .fault ≡ Clean → schemeIn (q .scheme) ≡ E
   spelt-scheme-list e = scheme-unique t (schemeIn (q .scheme)) E (reading .reads e) spells
@@ -111,7 +119,8 @@ module _ (s t : List ℕ) (w : TextsTrue s t) where
     scheme-list = spelt-scheme-list t q reading (w .scheme) (w .short-scheme) (w .spells-scheme) scheme-clean
 
 -- What was read from the texts s and t.
-module _ (s t : List ℕ) (p : PatternsRead) (is : p ≡ patternsAnswer s) (reading : ReadsPatterns s p) (q : SchemeRead) (is-scheme : q ≡ schemeAnswer t)
+module _ (s t : List ℕ) (p : PatternsRead) (is : p ≡ patternsAnswer s) (reading : ReadsPatterns s p)
+    (q : SchemeRead) (is-scheme : q ≡ schemeAnswer t)
     (reading-scheme : ReadsScheme t q) where
   abbrev P : List (List ℕ)
   P = patternsIn (p .patterns)
@@ -123,17 +132,21 @@ module _ (s t : List ℕ) (p : PatternsRead) (is : p ≡ patternsAnswer s) (read
   judged v = record { verdict = v; patterns = p .patterns; scheme = q .scheme }
 
   -- the verdict on what was read is that on the texts
-  verdict-read : answered (orElse (orElse (p .fault) (q .fault)) (faultOf (firstFault (claimTests P E)))) (comparedCells P E) ≡ verdictOfTexts s t
+  verdict-read : answered (orElse (orElse (p .fault) (q .fault)) (faultOf (firstFault (claimTests P E))))
+      (comparedCells P E) ≡ verdictOfTexts s t
   verdict-read =
-      ap (λ (x : Fault). answered x (comparedCells P E)) (sym (or-else-assoc (p .fault) (q .fault) (faultOf (firstFault (claimTests P E))))) ∙
+      ap (λ (x : Fault). answered x (comparedCells P E))
+      (sym (or-else-assoc (p .fault) (q .fault) (faultOf (firstFault (claimTests P E))))) ∙
       ap₂ verdictRead is is-scheme
 
   -- the verdict on lists that the texts spell
-  verdict-lists : (Q : List (List ℕ)) (F : List EntryList) → length s ≤ PATTERN_TEXT → length t ≤ SCHEME_TEXT → SpellsPatterns s Q → SpellsScheme t F →
+  verdict-lists : (Q : List (List ℕ)) (F : List EntryList) → length s ≤ PATTERN_TEXT → length t ≤ SCHEME_TEXT →
+      SpellsPatterns s Q → SpellsScheme t F →
       answered (orElse (orElse (p .fault) (q .fault)) (faultOf (firstFault (claimTests Q F)))) (comparedCells Q F) ≡ verdictOf Q F
   verdict-lists Q F a b u v =
       ap (λ (x : Fault). answered x (comparedCells Q F))
-      (ap₂ (λ (x y : Fault). orElse (orElse x y) (faultOf (firstFault (claimTests Q F)))) (spelt-fault s p reading Q a u) (spelt-scheme-fault t q reading-scheme F b v) ∙
+      (ap₂ (λ (x y : Fault). orElse (orElse x y) (faultOf (firstFault (claimTests Q F))))
+      (spelt-fault s p reading Q a u) (spelt-scheme-fault t q reading-scheme F b v) ∙
       sym (verdict-parts Q F))
 
   -- true texts have no fault
@@ -185,7 +198,8 @@ module _ (s t : List ℕ) (p : PatternsRead) (is : p ≡ patternsAnswer s) (read
         nothing-before : (g : Fault) (n : ℕ) → answered g n ≡ answered (orElse (orElse (p .fault) (q .fault)) g) n
         nothing-before g n = sym (ap₂ (λ (x y : Fault). answered (orElse (orElse x y) g) n) (both-clean .0) (both-clean .1))
 
-        on-lists : (Q : List (List ℕ)) (F : List EntryList) → length s ≤ PATTERN_TEXT → length t ≤ SCHEME_TEXT → SpellsPatterns s Q → SpellsScheme t F → r ≡ verdictOf Q F
+        on-lists : (Q : List (List ℕ)) (F : List EntryList) → length s ≤ PATTERN_TEXT → length t ≤ SCHEME_TEXT →
+            SpellsPatterns s Q → SpellsScheme t F → r ≡ verdictOf Q F
         on-lists Q F a b u v =
             e ∙
             ap₂ (λ (X : List (List ℕ)) (Y : List EntryList). answered (faultOf (firstFault (claimTests X Y))) (comparedCells X Y))

@@ -24,7 +24,10 @@ pub fn irreversible_fault(
     s: Scheme,
 ) -> Fault
     requires { ⌜ ProperSet set lengths count × Proper (schemeIn s) ⌝ }
-    ensures { λ r. ⌜ r ≡ faultOf (firstAt Irreversible (λ e. differs (patternsOf set lengths count) (e .prefix) (e .gaps) (e .rule)) 0 (schemeIn s)) ⌝ }
+    ensures { λ r.
+        ⌜ r ≡ faultOf
+        (firstAt Irreversible (λ e. differs (patternsOf set lengths count) (e .prefix) (e .gaps) (e .rule)) 0
+        (schemeIn s)) ⌝ }
 {
     let m = longest_length(set, lengths, count);
     let needs = all_needs(set, lengths, count);

@@ -37,7 +37,8 @@ pub fn judge(patterns: Patterns, scheme: Scheme) -> Verdict
 
 // What the tests 2 to 9 find: the patterns are judged before the scheme.
 fn formed_fault(patterns: Patterns, scheme: Scheme) -> Fault
-    ensures { λ r. ⌜ r ≡ orElse (faultOf (firstFault (patternTests (patternsIn patterns)))) (faultOf (firstFault (schemeTests (schemeIn scheme)))) ⌝ }
+    ensures { λ r. ⌜ r ≡ orElse (faultOf (firstFault (patternTests (patternsIn patterns))))
+        (faultOf (firstFault (schemeTests (schemeIn scheme)))) ⌝ }
 {
     let first = patterns_fault(patterns);
     let second = scheme_fault(scheme);
@@ -49,7 +50,8 @@ fn formed_fault(patterns: Patterns, scheme: Scheme) -> Fault
 // others.
 pub fn judge_claims(patterns: Patterns, scheme: Scheme) -> Verdict
     requires { ⌜ WellFormed (patternsIn patterns) (schemeIn scheme) ⌝ }
-    ensures { λ r. ⌜ r ≡ answered (faultOf (firstFault (claimTests (patternsIn patterns) (schemeIn scheme)))) (comparedCells (patternsIn patterns) (schemeIn scheme)) ⌝ }
+    ensures { λ r. ⌜ r ≡ answered (faultOf (firstFault (claimTests (patternsIn patterns) (schemeIn scheme))))
+        (comparedCells (patternsIn patterns) (schemeIn scheme)) ⌝ }
 {
     let rows = rows_of(patterns);
     let lengths = lengths_of(patterns);

@@ -27,9 +27,9 @@ pub fn judge_texts(patterns: &[u8], scheme: &[u8]) -> Verdict
     let s = read_scheme(scheme);
     let first = p.fault;
     let second = s.fault;
-    let fault = earlier(first, second);
-    if is_fault(fault) {
-        return answer(fault, 0);
+    let found = earlier(first, second);
+    if is_fault(found) {
+        return answer(found, 0);
     }
     let set = p.patterns;
     let list = s.scheme;

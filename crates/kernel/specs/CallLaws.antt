@@ -9,7 +9,9 @@ use borrow.Author.Tests.{eq-eqb}
 use Rattle.word.specs.ListLaws.{true-not-false}
 use Rattle.word.specs.Refusal.{numberOf}
 use Rattle.word.specs.declared.refusal.Refusal.{Refusal}
-use Rattle.word.specs.declared.refusal.Refusal.the-variants.{Misspelt, Oversize, NoPermutation, Repeated, Rootless, Width, NoPosition, Childless, NoTarget, LiveGap, Irreversible, ShortTable, ShortPage}
+use Rattle.word.specs.declared.refusal.Refusal.the-variants.{Misspelt, Oversize, NoPermutation, Repeated, Rootless}
+use Rattle.word.specs.declared.refusal.Refusal.the-variants.{Width, NoPosition, Childless, NoTarget, LiveGap}
+use Rattle.word.specs.declared.refusal.Refusal.the-variants.{Irreversible, ShortTable, ShortPage}
 use Rattle.verdict.specs.Verdict.{toldVerdict, accepted}
 use Rattle.verdict.specs.declared.answer.Verdict.{Verdict}
 use Rattle.verdict.specs.declared.answer.Verdict.the-variants.{Accepted, Refused}

@@ -48,18 +48,22 @@ module _ {L R : Type 0} (refused : Refusal → ℕ → R) (tested : L → R) (mo
   pub answer-cut : (s : List ℕ) → answerTo refused tested most read (take (most + 1) s) ≡ answerTo refused tested most read s
   answer-cut s = go (below-or-not most (length s))
     where
-      go : (most < length s) ⊎ (length s ≤ most) → answerTo refused tested most read (take (most + 1) s) ≡ answerTo refused tested most read s
+      go : (most < length s) ⊎ (length s ≤ most) → answerTo refused tested most read (take (most + 1) s) ≡
+          answerTo refused tested most read s
       go (inl h) =
           let k : most < length (take (most + 1) s) = omega (arith, length-take-le (most + 1) s (omega arith)) in
           sym (answer-long refused tested most read (take (most + 1) s) k) ∙ answer-long refused tested most read s h
       go (inr h) = ap (answerTo refused tested most read) (take-all (most + 1) s (omega arith))
 
-module _ {L R : Type 0} (most : ℕ) (Spells : List ℕ → L → Type 0) (tests : L → List Finding) (written : L → List ℕ) (faultIn : R → Fault) (listIn : R → L)
+module _ {L R : Type 0} (most : ℕ) (Spells : List ℕ → L → Type 0) (tests : L → List Finding) (written : L → List ℕ)
+    (faultIn : R → Fault) (listIn : R → L)
     (tested : L → R) (read : List Token → Option L) (refused : Refusal → ℕ → R) (s : List ℕ)
     (sound : (l : L) → read (tokens s) ≡ some l → Spells s l) (complete : (l : L) → Spells s l → read (tokens s) ≡ some l)
     (unique : (l k : L) → Spells s l → Spells s k → l ≡ k) (text : (l : L) → Spells s l → written l ≡ spaceless s)
-    (refuses : (r : Refusal) (i : ℕ) → faultIn (refused r i) ≡ At r i) (finds : (l : L) → faultIn (tested l) ≡ faultOf (firstFault (tests l)))
-    (gives : (l : L) → firstFault (tests l) ≡ clean → listIn (tested l) ≡ l) (not-one : (l : L) → notOne (firstFault (tests l)) ≡ true) where
+    (refuses : (r : Refusal) (i : ℕ) → faultIn (refused r i) ≡ At r i)
+    (finds : (l : L) → faultIn (tested l) ≡ faultOf (firstFault (tests l)))
+    (gives : (l : L) → firstFault (tests l) ≡ clean → listIn (tested l) ≡ l)
+    (not-one : (l : L) → notOne (firstFault (tests l)) ≡ true) where
   abbrev Answers : R → Type 0
   Answers r = ReadsList most read Spells tests written faultIn listIn tested s r
 
@@ -67,7 +71,8 @@ module _ {L R : Type 0} (most : ℕ) (Spells : List ℕ → L → Type 0) (tests
   never r i e = absurd (not-clean r i (sym (refuses r i) ∙ e))
 
   -- an answer whose fault is that of what reading finds
-  told-so : (r : R) (x : Finding) → faultIn r ≡ faultOf x → foundIn tests most read s ≡ x → toldOr (faultIn r) [] ≡ toldBy (foundIn tests most read s) []
+  told-so : (r : R) (x : Finding) → faultIn r ≡ faultOf x → foundIn tests most read s ≡ x → toldOr (faultIn r) [] ≡
+      toldBy (foundIn tests most read s) []
   told-so r x e f = ap (λ (y : Fault). toldOr y []) e ∙ told-found x [] ∙ ap (λ (y : Finding). toldBy y []) (sym f)
 
   long-reads : ltb most (length s) ≡ true → Answers (refused Oversize 0)
@@ -115,14 +120,17 @@ module _ {L R : Type 0} (most : ℕ) (Spells : List ℕ → L → Type 0) (tests
   pub answer-reads : Answers (answerTo refused tested most read s)
   answer-reads = go (ltb most (length s)) refl (read (tokens s)) refl
     where
-      go : (b : Bool) → ltb most (length s) ≡ b → (o : Option L) → read (tokens s) ≡ o → Answers (cond b (refused Oversize 0) (answerFrom refused tested o))
+      go : (b : Bool) → ltb most (length s) ≡ b → (o : Option L) → read (tokens s) ≡ o →
+          Answers (cond b (refused Oversize 0) (answerFrom refused tested o))
       go true h o k = long-reads h
       go false h none k = none-reads h k
       go false h (some l) k = some-reads h l k
 
--- writing
-module _ {L R : Type 0} (Spells : List ℕ → L → Type 0) (tests : L → List Finding) (written : L → List ℕ) (answer : List ℕ → R) (whole : L → R) (kept : L → L)
-    (l : L) (spelt : firstFault (tests l) ≡ clean → Spells (written l) l) (read-back : firstFault (tests l) ≡ clean → answer (written l) ≡ whole l)
+-- what writing the list l answers, for lists of either kind
+module _ {L R : Type 0} (Spells : List ℕ → L → Type 0) (tests : L → List Finding) (written : L → List ℕ)
+    (answer : List ℕ → R) (whole : L → R) (kept : L → L)
+    (l : L) (spelt : firstFault (tests l) ≡ clean → Spells (written l) l)
+    (read-back : firstFault (tests l) ≡ clean → answer (written l) ≡ whole l)
     (same-list : firstFault (tests l) ≡ clean → kept l ≡ l) (before : List ℕ) where
   abbrev Wrote : List ℕ → Written → Type 0
   Wrote after r = WritesList Spells tests written answer whole kept l before after r
@@ -150,7 +158,9 @@ module _ {L R : Type 0} (Spells : List ℕ → L → Type 0) (tests : L → List
           let long : length before < length (written l) = omega (arith, ap length same-page, length-after run) in
           rw same-page (wrote before (Refused ShortPage 0) (writes-short (tests l) (written l) before h long))
 
-      pub written-page : n ≤ length (u ++ before) → (after : List ℕ) (m : ℕ) → Writes (written l) 0 (u ++ before) after m → Wrote after (Bytes n)
+      pub written-page : n ≤ length (u ++ before) → (after : List ℕ) (m : ℕ) →
+          Writes (written l) 0 (u ++ before) after m → Wrote after (Bytes n)
       written-page k after m w =
           let fits : length (written l) ≤ length before = omega (arith, ap length same-page, length-after run) in
-          wrote after (Bytes n) (writes-done (tests l) (written l) before h fits after (w .page ∙ ap (overlay 0 (written l)) same-page) n (length-after run))
+          wrote after (Bytes n) (writes-done (tests l) (written l) before h fits after
+          (w .page ∙ ap (overlay 0 (written l)) same-page) n (length-after run))

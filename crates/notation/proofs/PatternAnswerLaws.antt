@@ -55,7 +55,8 @@ module _ (s : List ℕ) where
   answer-long h = any.answer-long refusedPatterns testedPatterns PATTERN_TEXT readPatterns s h
 
   module _ (t : PatternText) (h : length s ≤ PATTERN_TEXT) (e : t ≡ patternText (readPatterns (tokens s))) where
-    misspelt-from : (o : Option (List (List ℕ))) → t ≡ patternText o → t .spelt ≡ false → refusedPatterns Misspelt 0 ≡ answerFrom refusedPatterns testedPatterns o
+    misspelt-from : (o : Option (List (List ℕ))) → t ≡ patternText o → t .spelt ≡ false →
+        refusedPatterns Misspelt 0 ≡ answerFrom refusedPatterns testedPatterns o
     misspelt-from none q k = refl
     misspelt-from (some P) q k = absurd (true≢false (sym (ap (λ (x : PatternText). x .spelt) q) ∙ k))
 
@@ -68,7 +69,8 @@ module _ (s : List ℕ) where
     tested-from none q k = absurd (true≢false (sym k ∙ ap (λ (x : PatternText). x .spelt) q))
     tested-from (some P) q k = rw (ap (λ (x : PatternText). x .patterns) q, loaded-faults P) refl
 
-    pub answer-tested : t .spelt ≡ true → readOr (faultOf (firstFault (patternTests (patternsIn (t .patterns))))) (t .patterns) ≡ patternsAnswer s
+    pub answer-tested : t .spelt ≡ true →
+        readOr (faultOf (firstFault (patternTests (patternsIn (t .patterns))))) (t .patterns) ≡ patternsAnswer s
     answer-tested k =
         tested-from (readPatterns (tokens s)) e k ∙ any.answer-text refusedPatterns testedPatterns PATTERN_TEXT readPatterns s h
 
@@ -84,7 +86,8 @@ or-list P e = rw e (loaded-same P e)
 pub answered : (s : List ℕ) (r : PatternsRead) → r ≡ patternsAnswer s → (r ≡ patternsAnswer s) × ReadsPatterns s r
 answered s r e = (
   e,
-  rw e (any.answer-reads PATTERN_TEXT SpellsPatterns patternTests writtenPatterns (λ (x : PatternsRead). x .fault) (λ (x : PatternsRead). patternsIn (x .patterns)) testedPatterns readPatterns refusedPatterns s
+  rw e (any.answer-reads PATTERN_TEXT SpellsPatterns patternTests writtenPatterns (λ (x : PatternsRead). x .fault)
+      (λ (x : PatternsRead). patternsIn (x .patterns)) testedPatterns readPatterns refusedPatterns s
       (patterns-sound s) (patterns-complete s) (patterns-unique s) (patterns-written-read s) (λ r i. refl)
       (λ (P : List (List ℕ)). or-fault (firstFault (patternTests P)) (loadedPatterns P)) or-list patterns-not-one),
 )

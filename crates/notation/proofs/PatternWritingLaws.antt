@@ -28,25 +28,33 @@ use Rattle.text_writer.proofs.FitLaws.{patterns-writable, patterns-short}
 use Rattle.notation.proofs.AnswerLaws as any
 
 -- the text of a list that passes its tests is read as that list
-text-back : (P : List (List ℕ)) → firstFault (patternTests P) ≡ clean → patternsAnswer (writtenPatterns P) ≡ record { fault = Clean; patterns = loadedPatterns P }
+text-back : (P : List (List ℕ)) → firstFault (patternTests P) ≡ clean → patternsAnswer (writtenPatterns P) ≡
+    record { fault = Clean; patterns = loadedPatterns P }
 text-back P h =
     sym (any.answer-text refusedPatterns testedPatterns PATTERN_TEXT readPatterns (writtenPatterns P) (patterns-short P h))
     ∙ ap (answerFrom refusedPatterns testedPatterns) (patterns-read-written P (patterns-writable P h)) ∙ rw h refl
 
-pub patterns-refused : (P : List (List ℕ)) (before : List ℕ) (r : Written) (f : Fault) → f ≡ faultOf (firstFault (patternTests P)) → faulty f ≡ true → r ≡ writtenOr f 0 →
+pub patterns-refused : (P : List (List ℕ)) (before : List ℕ) (r : Written) (f : Fault) → f ≡
+    faultOf (firstFault (patternTests P)) → faulty f ≡ true → r ≡ writtenOr f 0 →
     WritesPatterns P before before r
 patterns-refused P before r f e h k =
-    any.refused-page SpellsPatterns patternTests writtenPatterns patternsAnswer (λ l. record { fault = Clean; patterns = loadedPatterns l }) (λ l. patternsIn (loadedPatterns l)) P
+    any.refused-page SpellsPatterns patternTests writtenPatterns patternsAnswer
+    (λ l. record { fault = Clean; patterns = loadedPatterns l }) (λ l. patternsIn (loadedPatterns l)) P
     (λ h. patterns-written-spells P (patterns-writable P h)) (text-back P) (loaded-same P) before r f e h k
 
-pub patterns-page-short : (P : List (List ℕ)) (before : List ℕ) → firstFault (patternTests P) ≡ clean → (u : List ℕ) (n : ℕ) → Writes (writtenPatterns P) 0 [] u n →
+pub patterns-page-short : (P : List (List ℕ)) (before : List ℕ) → firstFault (patternTests P) ≡ clean →
+    (u : List ℕ) (n : ℕ) → Writes (writtenPatterns P) 0 [] u n →
     length (u ++ before) < n → WritesPatterns P before (u ++ before) (Refused ShortPage 0)
 patterns-page-short P before h u n run k =
-    any.short-page SpellsPatterns patternTests writtenPatterns patternsAnswer (λ l. record { fault = Clean; patterns = loadedPatterns l }) (λ l. patternsIn (loadedPatterns l)) P
+    any.short-page SpellsPatterns patternTests writtenPatterns patternsAnswer
+    (λ l. record { fault = Clean; patterns = loadedPatterns l }) (λ l. patternsIn (loadedPatterns l)) P
     (λ h. patterns-written-spells P (patterns-writable P h)) (text-back P) (loaded-same P) before h u n run k
 
-pub patterns-done : (P : List (List ℕ)) (before : List ℕ) → firstFault (patternTests P) ≡ clean → (u : List ℕ) (n : ℕ) → Writes (writtenPatterns P) 0 [] u n →
-    n ≤ length (u ++ before) → (after : List ℕ) (m : ℕ) → Writes (writtenPatterns P) 0 (u ++ before) after m → WritesPatterns P before after (Bytes n)
+pub patterns-done : (P : List (List ℕ)) (before : List ℕ) → firstFault (patternTests P) ≡ clean →
+    (u : List ℕ) (n : ℕ) → Writes (writtenPatterns P) 0 [] u n →
+    n ≤ length (u ++ before) → (after : List ℕ) (m : ℕ) → Writes (writtenPatterns P) 0 (u ++ before) after m →
+    WritesPatterns P before after (Bytes n)
 patterns-done P before h u n run k after m w =
-    any.written-page SpellsPatterns patternTests writtenPatterns patternsAnswer (λ l. record { fault = Clean; patterns = loadedPatterns l }) (λ l. patternsIn (loadedPatterns l)) P
+    any.written-page SpellsPatterns patternTests writtenPatterns patternsAnswer
+    (λ l. record { fault = Clean; patterns = loadedPatterns l }) (λ l. patternsIn (loadedPatterns l)) P
     (λ h. patterns-written-spells P (patterns-writable P h)) (text-back P) (loaded-same P) before h u n run k after m w

@@ -9,7 +9,8 @@ use lib.ListN.{length}
 use lib.Dec.{ltb}
 use Rattle.word.specs.Ceilings.{SCHEME_TEXT}
 use Rattle.word.specs.Finding.{Finding, clean, fault, firstFault}
-use Rattle.word.specs.declared.refusal.Refusal.the-variants.{Misspelt, Oversize, NoPermutation, Rootless, Width, NoPosition, Childless, NoTarget}
+use Rattle.word.specs.declared.refusal.Refusal.the-variants.{Misspelt, Oversize, NoPermutation, Rootless, Width}
+use Rattle.word.specs.declared.refusal.Refusal.the-variants.{NoPosition, Childless, NoTarget}
 use Rattle.scheme.specs.WellFormed.{listed, largeEntry, twinEntry, wrongWidth, outside, lacksChild, lacksTarget, schemeTests}
 use Rattle.forms.specs.SchemeList.{EntryList}
 use Rattle.forms.specs.SchemeMemory.{schemeIn, faultOf, faulty}
@@ -62,7 +63,8 @@ module _ (s : List ℕ) where
   answer-long h = any.answer-long refusedScheme testedScheme SCHEME_TEXT readEntries s h
 
   module _ (t : SchemeText) (h : length s ≤ SCHEME_TEXT) (e : t ≡ schemeText (readEntries (tokens s))) where
-    misspelt-from : (o : Option (List EntryList)) → t ≡ schemeText o → t .spelt ≡ false → refusedScheme Misspelt 0 ≡ answerFrom refusedScheme testedScheme o
+    misspelt-from : (o : Option (List EntryList)) → t ≡ schemeText o → t .spelt ≡ false → refusedScheme Misspelt 0 ≡
+        answerFrom refusedScheme testedScheme o
     misspelt-from none q k = refl
     misspelt-from (some E) q k = absurd (true≢false (sym (ap (λ (x : SchemeText). x .spelt) q) ∙ k))
 
@@ -74,7 +76,8 @@ module _ (s : List ℕ) where
     tested-from none q k = absurd (true≢false (sym k ∙ ap (λ (x : SchemeText). x .spelt) q))
     tested-from (some E) q k = rw (ap (λ (x : SchemeText). x .scheme) q, loaded-scheme-faults E) refl
 
-    pub answer-tested : t .spelt ≡ true → readSchemeOr (faultOf (firstFault (schemeTests (schemeIn (t .scheme))))) (t .scheme) ≡ schemeAnswer s
+    pub answer-tested : t .spelt ≡ true →
+        readSchemeOr (faultOf (firstFault (schemeTests (schemeIn (t .scheme))))) (t .scheme) ≡ schemeAnswer s
     answer-tested k = tested-from (readEntries (tokens s)) e k ∙ any.answer-text refusedScheme testedScheme SCHEME_TEXT readEntries s h
 
 -- the finding and the list in an answer
@@ -89,7 +92,8 @@ or-list E e = rw e (loaded-scheme-same E e)
 pub answered : (s : List ℕ) (r : SchemeRead) → r ≡ schemeAnswer s → (r ≡ schemeAnswer s) × ReadsScheme s r
 answered s r e = (
   e,
-  rw e (any.answer-reads SCHEME_TEXT SpellsScheme schemeTests writtenScheme (λ (x : SchemeRead). x .fault) (λ (x : SchemeRead). schemeIn (x .scheme)) testedScheme readEntries refusedScheme s
+  rw e (any.answer-reads SCHEME_TEXT SpellsScheme schemeTests writtenScheme (λ (x : SchemeRead). x .fault)
+      (λ (x : SchemeRead). schemeIn (x .scheme)) testedScheme readEntries refusedScheme s
       (scheme-sound s) (scheme-complete s) (scheme-unique s) (scheme-written-read s) (λ r i. refl)
       (λ (E : List EntryList). or-fault (firstFault (schemeTests E)) (loadedScheme E)) or-list scheme-not-one),
 )

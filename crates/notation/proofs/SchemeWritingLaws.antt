@@ -29,25 +29,33 @@ use Rattle.text_writer.proofs.SchemeFitLaws.{scheme-writable, scheme-short}
 use Rattle.notation.proofs.AnswerLaws as any
 
 -- the text of a list that passes its tests is read as that list
-text-back : (E : List EntryList) → firstFault (schemeTests E) ≡ clean → schemeAnswer (writtenScheme E) ≡ record { fault = Clean; scheme = loadedScheme E }
+text-back : (E : List EntryList) → firstFault (schemeTests E) ≡ clean → schemeAnswer (writtenScheme E) ≡
+    record { fault = Clean; scheme = loadedScheme E }
 text-back E h =
     sym (any.answer-text refusedScheme testedScheme SCHEME_TEXT readEntries (writtenScheme E) (scheme-short E h))
     ∙ ap (answerFrom refusedScheme testedScheme) (scheme-read-written E (scheme-writable E h)) ∙ rw h refl
 
-pub scheme-refused : (E : List EntryList) (before : List ℕ) (r : Written) (f : Fault) → f ≡ faultOf (firstFault (schemeTests E)) → faulty f ≡ true → r ≡ writtenOr f 0 →
+pub scheme-refused : (E : List EntryList) (before : List ℕ) (r : Written) (f : Fault) → f ≡
+    faultOf (firstFault (schemeTests E)) → faulty f ≡ true → r ≡ writtenOr f 0 →
     WritesScheme E before before r
 scheme-refused E before r f e h k =
-    any.refused-page SpellsScheme schemeTests writtenScheme schemeAnswer (λ l. record { fault = Clean; scheme = loadedScheme l }) (λ l. schemeIn (loadedScheme l)) E
+    any.refused-page SpellsScheme schemeTests writtenScheme schemeAnswer
+    (λ l. record { fault = Clean; scheme = loadedScheme l }) (λ l. schemeIn (loadedScheme l)) E
     (λ h. scheme-written-spells E (scheme-writable E h)) (text-back E) (loaded-scheme-same E) before r f e h k
 
-pub scheme-page-short : (E : List EntryList) (before : List ℕ) → firstFault (schemeTests E) ≡ clean → (u : List ℕ) (n : ℕ) → Writes (writtenScheme E) 0 [] u n →
+pub scheme-page-short : (E : List EntryList) (before : List ℕ) → firstFault (schemeTests E) ≡ clean →
+    (u : List ℕ) (n : ℕ) → Writes (writtenScheme E) 0 [] u n →
     length (u ++ before) < n → WritesScheme E before (u ++ before) (Refused ShortPage 0)
 scheme-page-short E before h u n run k =
-    any.short-page SpellsScheme schemeTests writtenScheme schemeAnswer (λ l. record { fault = Clean; scheme = loadedScheme l }) (λ l. schemeIn (loadedScheme l)) E
+    any.short-page SpellsScheme schemeTests writtenScheme schemeAnswer
+    (λ l. record { fault = Clean; scheme = loadedScheme l }) (λ l. schemeIn (loadedScheme l)) E
     (λ h. scheme-written-spells E (scheme-writable E h)) (text-back E) (loaded-scheme-same E) before h u n run k
 
-pub scheme-done : (E : List EntryList) (before : List ℕ) → firstFault (schemeTests E) ≡ clean → (u : List ℕ) (n : ℕ) → Writes (writtenScheme E) 0 [] u n →
-    n ≤ length (u ++ before) → (after : List ℕ) (m : ℕ) → Writes (writtenScheme E) 0 (u ++ before) after m → WritesScheme E before after (Bytes n)
+pub scheme-done : (E : List EntryList) (before : List ℕ) → firstFault (schemeTests E) ≡ clean →
+    (u : List ℕ) (n : ℕ) → Writes (writtenScheme E) 0 [] u n →
+    n ≤ length (u ++ before) → (after : List ℕ) (m : ℕ) → Writes (writtenScheme E) 0 (u ++ before) after m →
+    WritesScheme E before after (Bytes n)
 scheme-done E before h u n run k after m w =
-    any.written-page SpellsScheme schemeTests writtenScheme schemeAnswer (λ l. record { fault = Clean; scheme = loadedScheme l }) (λ l. schemeIn (loadedScheme l)) E
+    any.written-page SpellsScheme schemeTests writtenScheme schemeAnswer
+    (λ l. record { fault = Clean; scheme = loadedScheme l }) (λ l. schemeIn (loadedScheme l)) E
     (λ h. scheme-written-spells E (scheme-writable E h)) (text-back E) (loaded-scheme-same E) before h u n run k after m w

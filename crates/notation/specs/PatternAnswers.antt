@@ -39,9 +39,12 @@ patternsAnswer s = answerTo refusedPatterns testedPatterns PATTERN_TEXT readPatt
 
 -- the answer r to the text s, in terms of what the text spells
 abbrev pub ReadsPatterns : List ℕ → PatternsRead → Type 0
-ReadsPatterns s r = ReadsList PATTERN_TEXT readPatterns SpellsPatterns patternTests writtenPatterns (λ x. x .fault) (λ x. patternsIn (x .patterns)) testedPatterns s r
+ReadsPatterns s r = ReadsList PATTERN_TEXT readPatterns SpellsPatterns patternTests writtenPatterns (λ x. x .fault)
+    (λ x. patternsIn (x .patterns)) testedPatterns s r
 
 -- the answer to writing the list P, in terms of what the page spells afterwards
 abbrev pub WritesPatterns : List (List ℕ) → List ℕ → List ℕ → Written → Type 0
 WritesPatterns P before after r =
-    WritesList SpellsPatterns patternTests writtenPatterns patternsAnswer (λ l. record { fault = Clean; patterns = loadedPatterns l }) (λ l. patternsIn (loadedPatterns l)) P before after r
+    WritesList SpellsPatterns patternTests writtenPatterns patternsAnswer
+    (λ l. record { fault = Clean; patterns = loadedPatterns l }) (λ l. patternsIn (loadedPatterns l)) P before
+    after r

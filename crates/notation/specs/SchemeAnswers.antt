@@ -40,9 +40,11 @@ schemeAnswer s = answerTo refusedScheme testedScheme SCHEME_TEXT readEntries s
 
 -- the answer r to the text s, in terms of what the text spells
 abbrev pub ReadsScheme : List ℕ → SchemeRead → Type 0
-ReadsScheme s r = ReadsList SCHEME_TEXT readEntries SpellsScheme schemeTests writtenScheme (λ x. x .fault) (λ x. schemeIn (x .scheme)) testedScheme s r
+ReadsScheme s r = ReadsList SCHEME_TEXT readEntries SpellsScheme schemeTests writtenScheme (λ x. x .fault)
+    (λ x. schemeIn (x .scheme)) testedScheme s r
 
 -- the answer to writing the list E, in terms of what the page spells afterwards
 abbrev pub WritesScheme : List EntryList → List ℕ → List ℕ → Written → Type 0
 WritesScheme E before after r =
-    WritesList SpellsScheme schemeTests writtenScheme schemeAnswer (λ l. record { fault = Clean; scheme = loadedScheme l }) (λ l. schemeIn (loadedScheme l)) E before after r
+    WritesList SpellsScheme schemeTests writtenScheme schemeAnswer
+    (λ l. record { fault = Clean; scheme = loadedScheme l }) (λ l. schemeIn (loadedScheme l)) E before after r

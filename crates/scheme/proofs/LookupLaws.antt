@@ -100,7 +100,10 @@ find-each : (i : ℕ) (ps : List (List ℕ)) (q : List ℕ) → Bytes q → ((p 
 unfolding findCodeFrom findFrom
 find-each i [] q b h = refl
 find-each i (p ∷ ps) q b h =
-    rw (code-same q p b (h p (List·Memᴰ·head refl)), find-each (suc i) ps q b (λ (x : List ℕ) (m : List·Memᴰ x ps). h x (List·Memᴰ·tail m))) refl
+    rw (
+      code-same q p b (h p (List·Memᴰ·head refl)),
+      find-each (suc i) ps q b (λ (x : List ℕ) (m : List·Memᴰ x ps). h x (List·Memᴰ·tail m)),
+    ) refl
 
 pub find-coded : (codes q : List ℕ) (c : ℕ) → IsCode q c → (r : Found) → r ≡ foundOf (findCode codes c) → FindsIn codes q r
 find-coded codes q c k r e ps w =
@@ -128,7 +131,8 @@ children-start t l k e h =
 -- The tests on one entry
 
 module _ (ps : List (List ℕ)) (l : List ℕ) (k : ℕ) (rule : Rule) where
-  pub expand-child : k ≤ length l → rule ≡ Expand → lacksChild ps (padded k l) (doesOf rule) ≡ any (λ q. not (listed ps q)) (children (take k l))
+  pub expand-child : k ≤ length l → rule ≡ Expand → lacksChild ps (padded k l) (doesOf rule) ≡
+      any (λ q. not (listed ps q)) (children (take k l))
   expand-child h e = rw (e, padded-within k l h) refl
 
   pub delete-target : (r : ℕ) → k ≤ length l → rule ≡ Delete r →
@@ -160,7 +164,8 @@ linked-clean s h large none-perm none-out =
         short = small i (first-clean (entryAt s) Oversize largeEntry (s .count) i large k);
         perm = not-false (isPerm (prefixAt s i))
             (first-clean (entryAt s) NoPermutation (λ (e : EntryList). not (isPerm (e .prefix))) (s .count) i none-perm k);
-        inside = inner i (first-clean (entryAt s) NoPosition (λ (e : EntryList). outside (length (e .prefix)) (e .rule)) (s .count) i none-out k);
+        inside = inner i (first-clean (entryAt s) NoPosition
+            (λ (e : EntryList). outside (length (e .prefix)) (e .rule)) (s .count) i none-out k);
       };
     }
   where

@@ -76,7 +76,8 @@ unfolding childAt
 child-whole digits l k a h e = rw (add-one, take-suc-set digits k a h, e) refl
 
 -- a test of some child, by its last entry
-pub any-child : (t : List ℕ → Bool) (p : List ℕ) → isPerm p ≡ true → any t (children p) ≡ any (λ a. t (childAt p a)) (row 1 (suc (length p)))
+pub any-child : (t : List ℕ → Bool) (p : List ℕ) → isPerm p ≡ true → any t (children p) ≡
+    any (λ a. t (childAt p a)) (row 1 (suc (length p)))
 any-child t p e =
     any-members t (children p) (map (childAt p) (row 1 (suc (length p)))) out back ∙ any-map t (childAt p) (row 1 (suc (length p)))
   where
@@ -121,7 +122,8 @@ cut-at m j w h = go (bumped m j)
     size = length-take-le m w (omega arith)
 
     go : Bumped m j → getD (take m w ++ drop (suc m) w) j 0 ≡ getD w (bump m j) 0
-    go (stays b e) = List·getD-append (take m w) (drop (suc m) w) 0 j (omega (arith, size)) ∙ getD-take m w j 0 b ∙ ap (λ n. getD w n 0) (sym e)
+    go (stays b e) = List·getD-append (take m w) (drop (suc m) w) 0 j (omega (arith, size)) ∙ getD-take m w j 0 b ∙
+        ap (λ n. getD w n 0) (sym e)
     go (moves b e) =
         let at : j ≡ length (take m w) + (j - m) = omega (arith, size) in
         let to : suc m + (j - m) ≡ bump m j = omega arith in
@@ -134,7 +136,8 @@ unfolding under
 under-cut [] w v x = refl
 under-cut (y ∷ u) w v x = rw (under-cut u w v x) (go (leb y x) (leb v x))
   where
-    go : (a b : Bool) → cond a (suc (cond b (suc (under (u ++ w) x)) (under (u ++ w) x))) (cond b (suc (under (u ++ w) x)) (under (u ++ w) x))
+    go : (a b : Bool) → cond a (suc (cond b (suc (under (u ++ w) x)) (under (u ++ w) x)))
+        (cond b (suc (under (u ++ w) x)) (under (u ++ w) x))
         ≡ cond b (suc (cond a (suc (under (u ++ w) x)) (under (u ++ w) x))) (cond a (suc (under (u ++ w) x)) (under (u ++ w) x))
     go true true = refl
     go true false = refl
@@ -207,11 +210,20 @@ module _ (l : List ℕ) (k r : ℕ) (perm : isPerm (take k l) ≡ true) (low : 1
 
   pub shorter-at : (j : ℕ) → j < k - 1 → getD (deleted (r ∷ []) (take k l)) j 0 ≡ unbump (getD l (r - 1) 0) (getD l (bump (r - 1) j) 0)
   shorter-at j h =
-      ap (λ n. getD (deleted (n ∷ []) (take k l)) j 0) (sym index) ∙ deleted-at (r - 1) (take k l) perm (omega (arith, size)) j (omega (arith, size)) ∙
+      ap (λ n. getD (deleted (n ∷ []) (take k l)) j 0) (sym index) ∙
+      deleted-at (r - 1) (take k l) perm (omega (arith, size)) j (omega (arith, size)) ∙
       ap₂ unbump (getD-take k l (r - 1) 0 (omega arith)) (getD-take k l (bump (r - 1) j) 0 (bump-inside (r - 1) j k (omega arith)))
 
   -- one digit more
-  pub shorter-more : (digits : List ℕ) (j x : ℕ) → j < k - 1 → j < length digits → x ≡ unbump (getD l (r - 1) 0) (getD l (bump (r - 1) j) 0) →
+  pub shorter-more : (digits : List ℕ) (j x : ℕ) → j < k - 1 → j < length digits → x ≡
+      unbump (getD l (r - 1) 0) (getD l (bump (r - 1) j) 0) →
       take j digits ≡ take j (deleted (r ∷ []) (take k l)) → take (j + 1) (set digits j x) ≡ take (j + 1) (deleted (r ∷ []) (take k l))
   shorter-more digits j x h d b e =
-      rw (add-one, take-suc-set digits j x d, take-suc (deleted (r ∷ []) (take k l)) j 0 (omega (arith, shorter-size)), e, b, shorter-at j h) refl
+      rw (
+        add-one,
+        take-suc-set digits j x d,
+        take-suc (deleted (r ∷ []) (take k l)) j 0 (omega (arith, shorter-size)),
+        e,
+        b,
+        shorter-at j h,
+      ) refl

@@ -23,8 +23,10 @@ use Rattle.cell.specs.ChildLaws.{child-length, children-all}
 use Rattle.forms.specs.SchemeList.{expands, deletes, EntryList}
 use Rattle.forms.specs.SchemeMemory.{entryAt, schemeIn}
 use Rattle.forms.specs.declared.memory.Scheme.{Scheme}
-use Rattle.scheme.specs.WellFormed.{listed, largeGap, largeEntry, wrongWidth, outside, lacksChild, lacksTarget, patternTests, schemeTests, prefixes}
-use Rattle.scheme.specs.WellFormed.{countTest, sizeTest, permutationTest, twinTest, rootTest, widthTest, positionTest, childTest, targetTest}
+use Rattle.scheme.specs.WellFormed.{listed, largeGap, largeEntry, wrongWidth, outside, lacksChild}
+use Rattle.scheme.specs.WellFormed.{lacksTarget, patternTests, schemeTests, prefixes}
+use Rattle.scheme.specs.WellFormed.{countTest, sizeTest, permutationTest, twinTest, rootTest, widthTest}
+use Rattle.scheme.specs.WellFormed.{positionTest, childTest, targetTest}
 use Rattle.scheme.specs.TestLaws.{or-left, or-right, clean-cons, single, length-items}
 use Rattle.scheme.specs.Proper.{ProperPattern, ProperEntry, Proper}
 use Rattle.scheme.specs.FindingLaws.{clean-in, clean-test, first-out, none-out, none-in}
@@ -43,12 +45,15 @@ pattern-perm β e = go (eqb (length β) 0) e
 
 module _ (P : List (List ℕ)) (e : firstFault (patternTests P) ≡ clean) where
   pub few-patterns : length P ≤ PATTERNS
-  few-patterns = ltb-false PATTERNS (length P) (clean-test Oversize (ltb PATTERNS (length P)) (clean-in (patternTests P) (List·Memᴰ·head refl) e))
+  few-patterns = ltb-false PATTERNS (length P) (clean-test Oversize (ltb PATTERNS (length P))
+      (clean-in (patternTests P) (List·Memᴰ·head refl) e))
 
   pub proper-pattern : (β : List ℕ) → List·Memᴰ β P → ProperPattern β
   proper-pattern β m =
-      let long = first-out Oversize (λ (α : List ℕ). ltb DIGITS (length α)) 0 (clean-in (patternTests P) (List·Memᴰ·tail (List·Memᴰ·head refl)) e) m in
-      let none = first-out NoPermutation (λ (α : List ℕ). not (isPattern α)) 0 (clean-in (patternTests P) (List·Memᴰ·tail (List·Memᴰ·tail (List·Memᴰ·head refl))) e) m in
+      let long = first-out Oversize (λ (α : List ℕ). ltb DIGITS (length α)) 0
+      (clean-in (patternTests P) (List·Memᴰ·tail (List·Memᴰ·head refl)) e) m in
+      let none = first-out NoPermutation (λ (α : List ℕ). not (isPattern α)) 0
+      (clean-in (patternTests P) (List·Memᴰ·tail (List·Memᴰ·tail (List·Memᴰ·head refl))) e) m in
       record {
         perm = pattern-perm β (not-false (isPattern β) none);
         short = ltb-false DIGITS (length β) long;
@@ -69,7 +74,8 @@ record Passed (E : List EntryList) : Type 0 where
 passed : (E : List EntryList) → firstFault (schemeTests E) ≡ clean → Passed E
 passed E e =
     let links = childTest E ∷ targetTest E ∷ [] in
-    let (a, e₁) = clean-cons (countTest E) (sizeTest E ∷ permutationTest E ∷ twinTest E ∷ rootTest E ∷ widthTest E ∷ positionTest E ∷ links) e in
+    let (a, e₁) = clean-cons (countTest E) (sizeTest E ∷ permutationTest E ∷ twinTest E ∷ rootTest E ∷ widthTest
+    E ∷ positionTest E ∷ links) e in
     let (b, e₂) = clean-cons (sizeTest E) (permutationTest E ∷ twinTest E ∷ rootTest E ∷ widthTest E ∷ positionTest E ∷ links) e₁ in
     let (c, e₃) = clean-cons (permutationTest E) (twinTest E ∷ rootTest E ∷ widthTest E ∷ positionTest E ∷ links) e₂ in
     let (d, e₄) = clean-cons (twinTest E) (rootTest E ∷ widthTest E ∷ positionTest E ∷ links) e₃ in

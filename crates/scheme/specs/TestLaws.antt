@@ -142,7 +142,8 @@ module _ {A : Type 0} (g : ℕ → A) where
   any-passed : (f : A → Bool) (a n i : ℕ) → any f (map g (row a n)) ≡ false → a ≤ i → i < a + n → f (g i) ≡ false
   any-passed f a zero i e h k = absurd (omega arith)
   any-passed f a (suc n) i e h k =
-      go (below-or-not a i) (λ (p : suc a ≤ i). any-passed f (suc a) n i (or-right (f (g a)) (any f (map g (row (suc a) n))) e) p (omega arith))
+      go (below-or-not a i) (λ (p : suc a ≤ i). any-passed f (suc a) n i
+      (or-right (f (g a)) (any f (map g (row (suc a) n))) e) p (omega arith))
     where
       go : (a < i) ⊎ (i ≤ a) → (suc a ≤ i → f (g i) ≡ false) → f (g i) ≡ false
       go (inl w) f′ = f′ w

@@ -5,7 +5,8 @@ use mathlib.Core.List.{List, [], _∷_}
 use lib.ListN.{getD}
 use Rattle.word.specs.Finding.{Finding}
 use Rattle.forms.specs.SchemeList.{EntryList}
-use Rattle.scheme.specs.WellFormed.{countTest, sizeTest, permutationTest, twinTest, rootTest, widthTest, positionTest, childTest, targetTest}
+use Rattle.scheme.specs.WellFormed.{countTest, sizeTest, permutationTest, twinTest, rootTest, widthTest}
+use Rattle.scheme.specs.WellFormed.{positionTest, childTest, targetTest}
 use Rattle.forms.specs.SchemeMemory.{patternIn, noPattern}
 use Rattle.forms.specs.declared.memory.Patterns.{Patterns}
 

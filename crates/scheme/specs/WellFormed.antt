@@ -11,7 +11,8 @@ use Rattle.word.specs.Word.{isPerm}
 use Rattle.word.specs.Containment.{isPattern}
 use Rattle.word.specs.Finding.{Finding, clean, fault, test}
 use Rattle.word.specs.declared.refusal.Refusal.{Refusal}
-use Rattle.word.specs.declared.refusal.Refusal.the-variants.{Oversize, NoPermutation, Repeated, Rootless, Width, NoPosition, Childless, NoTarget}
+use Rattle.word.specs.declared.refusal.Refusal.the-variants.{Oversize, NoPermutation, Repeated, Rootless, Width}
+use Rattle.word.specs.declared.refusal.Refusal.the-variants.{NoPosition, Childless, NoTarget}
 use Rattle.cell.specs.Cell.{same, total, deleted, children}
 use Rattle.forms.specs.SchemeList.{Does, expands, deletes, EntryList}
 
@@ -39,7 +40,8 @@ repeats (x ∷ l) = listed l x || repeats l
 -- items in order"
 abbrev pub patternTests : List (List ℕ) → List Finding
 patternTests P =
-    test Oversize (ltb PATTERNS (length P)) ∷ firstAt Oversize (λ β. ltb DIGITS (length β)) 0 P ∷ firstAt NoPermutation (λ β. not (isPattern β)) 0 P ∷
+    test Oversize (ltb PATTERNS (length P)) ∷ firstAt Oversize (λ β. ltb DIGITS (length β)) 0 P ∷ firstAt
+    NoPermutation (λ β. not (isPattern β)) 0 P ∷
     firstTwin listed 0 [] P ∷ []
 
 -- "Entries 128, prefix length 6, gap vectors per entry 8, components of a gap vector 7, total of a

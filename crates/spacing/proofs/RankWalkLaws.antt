@@ -92,7 +92,8 @@ module _ (G : List ℕ) (k v start : ℕ) (size : length G ≡ k + 1) where
             small = omega (arith, w .small, binomial-small z (count + 1) value-small);
           }
 
-      pub walk-keep : (y n : ℕ) → y ≡ getD G t 0 → n ≡ binomial z (count + 1) → (t ≡ v → ⊥) → Walk G k v start (z + 1 + y) (count + 1) (rank + n) (t + 1)
+      pub walk-keep : (y n : ℕ) → y ≡ getD G t 0 → n ≡ binomial z (count + 1) → (t ≡ v → ⊥) →
+          Walk G k v start (z + 1 + y) (count + 1) (rank + n) (t + 1)
       walk-keep y n q r e = rw (q, r) (keeps e)
 
     pub walk-end : k < t → rank ≡ rankAfter start 0 (mergeValues (v ∷ []) G)
@@ -177,7 +178,8 @@ module _ (g : List ℕ) (k : ℕ) (fits : k + 1 ≤ length g) where
       let o = getD-take (k + 1) g 0 0 (omega arith) in
       take-set-lt (k + 1) (set (set g 0 0) i (y - 1)) (i - 1) (getD g 0 0 + 1) (omega arith) ∙
       ap (λ (u : List ℕ). set u (i - 1) (getD g 0 0 + 1))
-      (take-set-lt (k + 1) (set g 0 0) i (y - 1) (omega arith) ∙ ap (λ (u : List ℕ). set u i (y - 1)) (take-set-lt (k + 1) g 0 0 (omega arith))) ∙
+      (take-set-lt (k + 1) (set g 0 0) i (y - 1) (omega arith) ∙
+      ap (λ (u : List ℕ). set u i (y - 1)) (take-set-lt (k + 1) g 0 0 (omega arith))) ∙
       ap (λ m. set (set (set (take (k + 1) g) 0 0) i (y - 1)) (i - 1) (m + 1)) (sym o) ∙
       sym (next-found (take (k + 1) g) i (y - 1) l (omega (arith, size)) (zeros i (omega arith) z) s)
 

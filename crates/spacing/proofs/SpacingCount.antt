@@ -28,11 +28,13 @@ module _ (f : List ℕ → Bool) (k t : ℕ) where
   pub walk-start : (v : List ℕ) → v ≡ firstVector k t → Walk f k t v 0
   walk-start v e =
       let first : v ∷ later v ≡ vectors (suc k) t = rw e (sym (vectors-first k t)) in
-      let whole : 0 + passing f (v ∷ later v) ≡ passing f (vectors (suc k) t) = ap (λ (l : List (List ℕ)). 0 + passing f l) first ∙ (omega arith) in
+      let whole : 0 + passing f (v ∷ later v) ≡ passing f (vectors (suc k) t) =
+      ap (λ (l : List (List ℕ)). 0 + passing f l) first ∙ (omega arith) in
       record { counted = whole; held = ap total e ∙ first-total k t }
 
   -- the count after v
-  pub walk-passes : (v : List ℕ) (count : ℕ) → Walk f k t v count → f v ≡ true → count + 1 + passing f (later v) ≡ passing f (vectors (suc k) t)
+  pub walk-passes : (v : List ℕ) (count : ℕ) → Walk f k t v count → f v ≡ true → count + 1 + passing f (later v) ≡
+      passing f (vectors (suc k) t)
   walk-passes v count w e =
       let p : count + suc (passing f (later v)) ≡ passing f (vectors (suc k) t) = rw e at (w .counted) in
       omega arith
@@ -40,14 +42,16 @@ module _ (f : List ℕ → Bool) (k t : ℕ) where
   pub walk-fails : (v : List ℕ) (count : ℕ) → Walk f k t v count → f v ≡ false → count + passing f (later v) ≡ passing f (vectors (suc k) t)
   walk-fails v count w e = rw e at (w .counted)
 
-  pub walk-end : (v n : List ℕ) (count : ℕ) (b : Bool) → count + passing f (later v) ≡ passing f (vectors (suc k) t) → Follows v b n → b ≡ false →
+  pub walk-end : (v n : List ℕ) (count : ℕ) (b : Bool) → count + passing f (later v) ≡
+      passing f (vectors (suc k) t) → Follows v b n → b ≡ false →
       count ≡ passing f (vectors (suc k) t)
   walk-end v n count b c g e =
       let none : later v ≡ [] = g .rest ∙ rw e refl in
       let p : count + 0 ≡ passing f (vectors (suc k) t) = rw none at c in
       omega arith
 
-  pub walk-on : (v n : List ℕ) (count : ℕ) (b : Bool) → total v ≡ t → count + passing f (later v) ≡ passing f (vectors (suc k) t) → Follows v b n → b ≡ true →
+  pub walk-on : (v n : List ℕ) (count : ℕ) (b : Bool) → total v ≡ t → count + passing f (later v) ≡
+      passing f (vectors (suc k) t) → Follows v b n → b ≡ true →
       Walk f k t n count
   walk-on v n count b h c g e =
       let more : later v ≡ n ∷ later n = g .rest ∙ rw e refl in
@@ -55,7 +59,8 @@ module _ (f : List ℕ → Bool) (k t : ℕ) where
 
   pub walk-bound : k < COMPONENTS → t < DIGITS → passing f (vectors (suc k) t) ≤ DIGITS ^ COMPONENTS
   walk-bound h l =
-      let power : DIGITS ^ suc k ≤ DIGITS ^ COMPONENTS = pow-le-pow-right {n = DIGITS} (omega arith) {i = suc k} {j = COMPONENTS} (omega arith) in
+      let power : DIGITS ^ suc k ≤ DIGITS ^ COMPONENTS =
+      pow-le-pow-right {n = DIGITS} (omega arith) {i = suc k} {j = COMPONENTS} (omega arith) in
       omega (arith, keep-bound f (vectors (suc k) t), vectors-bound (suc k) t l)
 
 -- the walk comes to its end

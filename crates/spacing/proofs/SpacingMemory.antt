@@ -64,7 +64,9 @@ cleared-split v zero p h d e = absurd (omega arith)
 cleared-split v (suc i) p h d e =
     let i1 : suc i - 1 ≡ i = omega arith in
     let r : suc (getD v (suc i) 0 - 1) ≡ getD v (suc i) 0 = omega arith in
-    rw (i1, r) (split-at v i 0 (omega arith) ∙ ap (λ (l : List ℕ). take i v ++ (getD v i 0 ∷ l)) (drop-cons v (suc i) 0 h ∙ ap (λ (l : List ℕ). getD v (suc i) 0 ∷ l) d))
+    rw (i1, r) (split-at v i 0 (omega arith) ∙
+    ap (λ (l : List ℕ). take i v ++ (getD v i 0 ∷ l))
+    (drop-cons v (suc i) 0 h ∙ ap (λ (l : List ℕ). getD v (suc i) 0 ∷ l) d))
 
 -- the two components are part of the total
 pub step-total : (pre : List ℕ) (y r z : ℕ) → y + suc r ≤ total (stepFrom pre y r z)
@@ -137,10 +139,15 @@ module _ (g : List ℕ) (k j : ℕ) (l : k < length g) (p : 0 < j) (s : Seen g k
       take-set-lt (k + 1) (set (set g j 0) (j - 1) (y + 1)) k r (omega arith) ∙
       ap (λ (v : List ℕ). set v k r) (take-set-lt (k + 1) (set g j 0) (j - 1) (y + 1) (omega arith) ∙
       ap (λ (v : List ℕ). set v (j - 1) (y + 1)) (take-set-lt (k + 1) g j 0 (omega arith))) in
-      let done : set (set (set (stepFrom pre y r (k - j)) (suc (length pre)) 0) (length pre) (suc y)) k r ≡ stepTo pre y r (k - j) = step pre y r (k - j) k (omega arith) in
+      let done : set (set (set (stepFrom pre y r (k - j)) (suc (length pre)) 0) (length pre) (suc y)) k r ≡
+      stepTo pre y r (k - j) = step pre y r (k - j) k (omega arith) in
       let moved : take (k + 1) (set (set (set g j 0) (j - 1) (y + 1)) k r) ≡ stepTo pre y r (k - j) =
       inside ∙ ap (λ (v : List ℕ). set (set (set v j 0) (j - 1) (y + 1)) k r) parts ∙ (rw (at2, at1, ← add-one y) at done) in
-      record { rest = rw moved (ap later parts ∙ later-next pre y r (k - j)); same-total = rw moved (next-total pre y r (k - j) ∙ ap total (sym parts)) }
+      record {
+        rest = rw moved (ap later parts ∙ later-next pre y r (k - j));
+        same-total =
+            rw moved (next-total pre y r (k - j) ∙ ap total (sym parts));
+      }
 
   pub next-memory : Steps g k true (set (set (set g j 0) (j - 1) (getD g (j - 1) 0 + 1)) k (getD g j 0 - 1))
   next-memory =
@@ -163,7 +170,13 @@ module _ (g b : List ℕ) (k i : ℕ) (lg : k < length g) (lb : k < length b) wh
   least-cons h =
       let ng : i < length (take (k + 1) g) = omega (arith, taken-length g k lg) in
       let nb : i < length (take (k + 1) b) = omega (arith, taken-length b k lb) in
-      rw (drop-cons (take (k + 1) g) i 0 ng, drop-cons (take (k + 1) b) i 0 nb, add-one i, getD-take (k + 1) g i 0 (omega arith), getD-take (k + 1) b i 0 (omega arith)) refl
+      rw (
+        drop-cons (take (k + 1) g) i 0 ng,
+        drop-cons (take (k + 1) b) i 0 nb,
+        add-one i,
+        getD-take (k + 1) g i 0 (omega arith),
+        getD-take (k + 1) b i 0 (omega arith),
+      ) refl
 
   pub least-fails : i ≤ k → getD g i 0 < getD b i 0 → least-from g b k i ≡ false
   least-fails h e = least-cons h ∙ rw (lt-leb (getD b i 0) (getD g i 0) e) refl

@@ -26,10 +26,12 @@ above-are : (k x t : ℕ) {h : List ℕ} → List·Memᴰ h (above k x t) →
     (y : ℕ) × (g : List ℕ) × (h ≡ y ∷ g) × (x < y) × (length g ≡ k) × (y + total g ≡ x + t)
 unfolding above
 above-are k x zero m = absurd (List·Memᴰ·not-nil m)
-above-are k x (suc t) {h} m = go (List·Memᴰ·append-cases (map (λ g. suc x ∷ g) (vectors k t)) m) (λ (i : List·Memᴰ h (above k (suc x) t)). above-are k (suc x) t i)
+above-are k x (suc t) {h} m = go (List·Memᴰ·append-cases (map (λ g. suc x ∷ g) (vectors k t)) m)
+    (λ (i : List·Memᴰ h (above k (suc x) t)). above-are k (suc x) t i)
   where
     go : List·Memᴰ h (map (λ g. suc x ∷ g) (vectors k t)) ⊎ List·Memᴰ h (above k (suc x) t) →
-        (List·Memᴰ h (above k (suc x) t) → (y : ℕ) × (g : List ℕ) × (h ≡ y ∷ g) × (suc x < y) × (length g ≡ k) × (y + total g ≡ suc x + t)) →
+        (List·Memᴰ h (above k (suc x) t) → (y : ℕ) × (g : List ℕ) × (h ≡ y ∷ g) × (suc x < y) × (length g ≡ k) ×
+        (y + total g ≡ suc x + t)) →
         (y : ℕ) × (g : List ℕ) × (h ≡ y ∷ g) × (x < y) × (length g ≡ k) × (y + total g ≡ x + suc t)
     go (inl i) ih =
         let (g, j, q) = Memᴰ·of-map (λ (g : List ℕ). suc x ∷ g) (vectors k t) i in
@@ -42,7 +44,8 @@ unfolding above
 above-all k x zero y g a l s = absurd (omega arith)
 above-all k x (suc t) y g a l s = go (below-or-not (suc x) y) (λ (b : suc x < y). above-all k (suc x) t y g b l (omega arith))
   where
-    go : (suc x < y) ⊎ (y ≤ suc x) → (suc x < y → List·Memᴰ (y ∷ g) (above k (suc x) t)) → List·Memᴰ (y ∷ g) (map (λ g. suc x ∷ g) (vectors k t) ++ above k (suc x) t)
+    go : (suc x < y) ⊎ (y ≤ suc x) → (suc x < y → List·Memᴰ (y ∷ g) (above k (suc x) t)) →
+        List·Memᴰ (y ∷ g) (map (λ g. suc x ∷ g) (vectors k t) ++ above k (suc x) t)
     go (inl b) ih = Memᴰ·append-right (map (λ g. suc x ∷ g) (vectors k t)) (ih b)
     go (inr b) ih =
         let e : y ≡ suc x = omega arith in
@@ -67,7 +70,8 @@ above-ascend k x (suc t) =
 pub later-are : (v : List ℕ) {h : List ℕ} → List·Memᴰ h (later v) → (length h ≡ length v) × (total h ≡ total v) × (before v h ≡ true)
 unfolding later total
 later-are [] m = absurd (List·Memᴰ·not-nil m)
-later-are (x ∷ v) {h} m = go (List·Memᴰ·append-cases (map (λ g. x ∷ g) (later v)) m) (λ (g : List ℕ) (i : List·Memᴰ g (later v)). later-are v i)
+later-are (x ∷ v) {h} m = go (List·Memᴰ·append-cases (map (λ g. x ∷ g) (later v)) m)
+    (λ (g : List ℕ) (i : List·Memᴰ g (later v)). later-are v i)
   where
     go : List·Memᴰ h (map (λ g. x ∷ g) (later v)) ⊎ List·Memᴰ h (above (length v) x (total v)) →
         ((g : List ℕ) → List·Memᴰ g (later v) → (length g ≡ length v) × (total g ≡ total v) × (before v g ≡ true)) →
@@ -87,7 +91,8 @@ later-all [] (y ∷ h) l s b = absurd (omega arith)
 later-all (x ∷ v) [] l s b = absurd (omega arith)
 later-all (x ∷ v) (y ∷ h) l s b = go (ltb x y) refl b (later-all v h (omega arith))
   where
-    go : (c : Bool) → ltb x y ≡ c → cond c true (eqb x y && before v h) ≡ true → (total h ≡ total v → before v h ≡ true → List·Memᴰ h (later v)) →
+    go : (c : Bool) → ltb x y ≡ c → cond c true (eqb x y && before v h) ≡ true →
+        (total h ≡ total v → before v h ≡ true → List·Memᴰ h (later v)) →
         List·Memᴰ (y ∷ h) (map (λ g. x ∷ g) (later v) ++ above (length v) x (total v))
     go true c b ih =
         Memᴰ·append-right (map (λ g. x ∷ g) (later v)) (above-all (length v) x (total v) y h (ltb-true x y c) (omega arith) (omega arith))

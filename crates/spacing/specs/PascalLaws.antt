@@ -31,20 +31,24 @@ unfolding powers
 binomial-small n k h = omega (arith, binomial-mono n LENGTH k h, binomial-power LENGTH k)
 
 -- one binomial more
-pub pascal-more : (n k x : ℕ) (b : List ℕ) → n ≤ LENGTH → k < COLUMNS → x ≡ binomial n k → PascalTo n k b → PascalTo n (k + 1) (set b (COLUMNS * n + k) x)
+pub pascal-more : (n k x : ℕ) (b : List ℕ) → n ≤ LENGTH → k < COLUMNS → x ≡ binomial n k → PascalTo n k b →
+    PascalTo n (k + 1) (set b (COLUMNS * n + k) x)
 pascal-more n k x b h l e p =
     record {
       size = length-set b (COLUMNS * n + k) x ∙ p .size;
       rows = λ (m i : ℕ) (a : m < n) (c : i < COLUMNS).
-          getD-set-other b (COLUMNS * n + k) (COLUMNS * m + i) x 0 (λ (q : COLUMNS * m + i ≡ COLUMNS * n + k). omega arith) ∙ p .rows m i a c;
+          getD-set-other b (COLUMNS * n + k) (COLUMNS * m + i) x 0
+          (λ (q : COLUMNS * m + i ≡ COLUMNS * n + k). omega arith) ∙ p .rows m i a c;
       part = λ (i : ℕ) (a : i < k + 1). go i a (below-or-not i k);
     }
   where
     go : (i : ℕ) → i < k + 1 → (i < k) ⊎ (k ≤ i) → getD (set b (COLUMNS * n + k) x) (COLUMNS * n + i) 0 ≡ binomial n i
-    go i a (inl c) = getD-set-other b (COLUMNS * n + k) (COLUMNS * n + i) x 0 (λ (q : COLUMNS * n + i ≡ COLUMNS * n + k). omega arith) ∙ p .part i c
+    go i a (inl c) = getD-set-other b (COLUMNS * n + k) (COLUMNS * n + i) x 0
+        (λ (q : COLUMNS * n + i ≡ COLUMNS * n + k). omega arith) ∙ p .part i c
     go i a (inr c) =
         let q : i ≡ k = omega arith in
-        ap (λ j. getD (set b (COLUMNS * n + k) x) (COLUMNS * n + j) 0) q ∙ getD-set-same b (COLUMNS * n + k) x 0 (omega (arith, p .size)) ∙ e ∙ ap (binomial n) (sym q)
+        ap (λ j. getD (set b (COLUMNS * n + k) x) (COLUMNS * n + j) 0) q ∙
+        getD-set-same b (COLUMNS * n + k) x 0 (omega (arith, p .size)) ∙ e ∙ ap (binomial n) (sym q)
 
 -- one row more
 pub pascal-next : (n k : ℕ) (b : List ℕ) → COLUMNS ≤ k → PascalTo n k b → PascalTo (n + 1) 0 b

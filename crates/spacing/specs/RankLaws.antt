@@ -90,7 +90,8 @@ rank-same i z w s t (x ∷ g) (y ∷ h) a b l m e =
     let cm = binomial-mono (suc z) (suc z + x) (suc i) (omega arith) in
     let dm = binomial-mono (suc w) (suc w + y) (suc i) (omega arith) in
     let (p, q, r) =
-    rank-same (suc i) (suc z + x) (suc w + y) (s + binomial z (suc i)) (t + binomial w (suc i)) g h (omega arith) (omega arith) (omega arith)
+    rank-same (suc i) (suc z + x) (suc w + y) (s + binomial z (suc i)) (t + binomial w (suc i)) g h (omega arith)
+    (omega arith) (omega arith)
     (omega arith) (omega arith) in
     go c d p q r (below-or-not z w) (below-or-not w z)
   where
@@ -112,7 +113,8 @@ rank-injective [] (y ∷ h) l t e = absurd (omega arith)
 rank-injective (x ∷ g) [] l t e = absurd (omega arith)
 rank-injective (x ∷ g) (y ∷ h) l t e =
     let (p, q, r) =
-    rank-same 0 (0 + x) (0 + y) 0 0 g h (omega (arith, binomial-zero (0 + x))) (omega (arith, binomial-zero (0 + y))) (omega arith) (omega arith) (omega arith) in
+    rank-same 0 (0 + x) (0 + y) 0 0 g h (omega (arith, binomial-zero (0 + x)))
+    (omega (arith, binomial-zero (0 + y))) (omega arith) (omega arith) (omega arith) in
     ap₂ _∷_ (omega arith) r
 
 -- The next spacing
@@ -145,7 +147,12 @@ carry-rank i t (zero ∷ g) h =
     let o : suc i + t ≡ suc (i + t) = omega arith in
     let c : binomial (suc i + t) (suc i) ≡ binomial (suc (i + t)) (suc i) = ap (λ z. binomial z (suc i)) o in
     let r = carry-rank (suc i) t g (omega arith) in
-    rw e (omega (arith, after-head i i (carry t g) (omega (arith, carry-length t g)), binomial-above i (suc i) (omega arith), pascal (i + t) i))
+    rw e (omega (
+      arith,
+      after-head i i (carry t g) (omega (arith, carry-length t g)),
+      binomial-above i (suc i) (omega arith),
+      pascal (i + t) i,
+    ))
 carry-rank i t (suc y ∷ g) h =
     let a : suc (i + suc t) + y ≡ suc (i + t) + suc y = omega arith in
     let b : rankFrom (suc i) (suc (i + suc t) + y) g ≡ rankFrom (suc i) (suc (i + t) + suc y) g = ap (λ z. rankFrom (suc i) z g) a in
@@ -170,7 +177,8 @@ last-rank i t (zero ∷ g) h =
 last-rank i t (suc y ∷ g) h = absurd (omega arith)
 
 -- where there is a next rank, the next spacing has it
-pub next-rank : (g : List ℕ) (k n : ℕ) → length g ≡ suc k → k + total g ≡ n → suc (rankOf g) < binomial n k → rankOf (nextOf g) ≡ suc (rankOf g)
+pub next-rank : (g : List ℕ) (k n : ℕ) → length g ≡ suc k → k + total g ≡ n → suc (rankOf g) < binomial n k →
+    rankOf (nextOf g) ≡ suc (rankOf g)
 unfolding rankOf nextOf total
 next-rank [] k n l t h = absurd (omega arith)
 next-rank (x ∷ g) k n l t h = go (below-or-not 0 (total g))
@@ -199,7 +207,12 @@ unfolding firstVector rankAfter rankFrom
 first-after i zero t = refl
 first-after i (suc k) t =
     let e : i + 0 ≡ i = omega arith in
-    rw e (omega (arith, after-head i i (firstVector k t) (omega (arith, first-length k t)), binomial-above i (suc i) (omega arith), first-after (suc i) k t))
+    rw e (omega (
+      arith,
+      after-head i i (firstVector k t) (omega (arith, first-length k t)),
+      binomial-above i (suc i) (omega arith),
+      first-after (suc i) k t,
+    ))
 
 pub first-rank : (k t : ℕ) → rankOf (firstVector k t) ≡ 0
 unfolding rankOf
@@ -210,7 +223,8 @@ first-rank k t = first-after 0 k t
 unfoldable pub leaveFrom : List ℕ → ℕ → ℕ → ℕ → List ℕ → ℕ
 unfolding has binomial
 leaveFrom vs u i z [] = 0
-leaveFrom vs u i z (y ∷ g) = cond (has u vs) (leaveFrom vs (suc u) i (z + y) g) (binomial z (suc i) + leaveFrom vs (suc u) (suc i) (suc z + y) g)
+leaveFrom vs u i z (y ∷ g) = cond (has u vs) (leaveFrom vs (suc u) i (z + y) g)
+    (binomial z (suc i) + leaveFrom vs (suc u) (suc i) (suc z + y) g)
 
 merge-not-empty : (vs : List ℕ) (u x : ℕ) (g : List ℕ) → 1 ≤ length (mergeFrom vs u x g)
 unfolding mergeFrom
@@ -232,7 +246,8 @@ merge-after vs u i a x (y ∷ g) = go (has u vs) (merge-after vs (suc u) i a (x 
         rankAfter i a (cond b (mergeFrom vs (suc u) (x + y) g) (x ∷ mergeFrom vs (suc u) y g)) ≡
         cond b (leaveFrom vs (suc u) i (a + x + y) g) (binomial (a + x) (suc i) + leaveFrom vs (suc u) (suc i) (suc (a + x) + y) g)
     go true p q = let e : a + (x + y) ≡ a + x + y = omega arith in p ∙ ap (λ z. leaveFrom vs (suc u) i z g) e
-    go false p q = after-head i (a + x) (mergeFrom vs (suc u) y g) (merge-not-empty vs (suc u) y g) ∙ ap (λ n. binomial (a + x) (suc i) + n) q
+    go false p q = after-head i (a + x) (mergeFrom vs (suc u) y g) (merge-not-empty vs (suc u) y g) ∙
+        ap (λ n. binomial (a + x) (suc i) + n) q
 
 -- the rank of the merged spacing, where i values more come before
 pub merge-rank : (vs : List ℕ) (i x : ℕ) (g : List ℕ) → rankAfter i 0 (mergeValues vs (x ∷ g)) ≡ leaveFrom vs 1 i x g
@@ -243,7 +258,8 @@ merge-rank vs i x g = merge-after vs 1 i 0 x g ∙ (let e : 0 + x ≡ x = omega 
 merge-after-none : (u x : ℕ) (g : List ℕ) → 0 < u → mergeFrom (0 ∷ []) u x g ≡ x ∷ g
 unfolding mergeFrom has
 merge-after-none u x [] h = refl
-merge-after-none u x (y ∷ g) h = rw (ne-eqb u 0 (λ (e : u ≡ 0). omega arith)) (ap (λ (l : List ℕ). x ∷ l) (merge-after-none (suc u) y g (omega arith)))
+merge-after-none u x (y ∷ g) h = rw (ne-eqb u 0 (λ (e : u ≡ 0). omega arith))
+    (ap (λ (l : List ℕ). x ∷ l) (merge-after-none (suc u) y g (omega arith)))
 
 pub merge-none : (g : List ℕ) → mergeValues (0 ∷ []) g ≡ g
 unfolding mergeValues

@@ -22,7 +22,8 @@ from-above k x zero s e =
     rw z refl
 from-above k x (suc t) s e =
     let z : s - x ≡ suc t = omega arith in
-    ap₂ (λ (a b : List (List ℕ)). a ++ b) (ap (λ (n : ℕ). map (λ (g : List ℕ). x ∷ g) (vectors k n)) z) (from-above k (suc x) t s (omega arith))
+    ap₂ (λ (a b : List (List ℕ)). a ++ b) (ap (λ (n : ℕ). map (λ (g : List ℕ). x ∷ g) (vectors k n)) z)
+    (from-above k (suc x) t s (omega arith))
 
 pub vectors-above : (k t : ℕ) → vectors (suc k) t ≡ map (λ g. 0 ∷ g) (vectors k t) ++ above k 0 t
 unfolding vectors
@@ -54,7 +55,8 @@ heads-first k x t f l s e = rw (e, l, s) refl
 pub vectors-first : (k t : ℕ) → vectors (suc k) t ≡ firstVector k t ∷ later (firstVector k t)
 unfolding firstVector later
 vectors-first zero t = vectors-above 0 t ∙ one-component 0 t ∙ let e : 0 + t ≡ t = omega arith in ap (λ (n : ℕ). (n ∷ []) ∷ []) e
-vectors-first (suc k) t = vectors-above (suc k) t ∙ heads-first (suc k) 0 t (firstVector k t) (first-length k t) (first-total k t) (vectors-first k t)
+vectors-first (suc k) t = vectors-above (suc k) t ∙
+    heads-first (suc k) 0 t (firstVector k t) (first-length k t) (first-total k t) (vectors-first k t)
 
 -- the last vector
 
@@ -100,7 +102,8 @@ pub later-next : (pre : List ℕ) (y r z : ℕ) → later (stepFrom pre y r z) �
 unfolding stepFrom stepTo later
 later-next [] y r z =
     let e : suc r + 0 ≡ suc r = omega arith in
-    rw (zeros-length z, zeros-last z, zeros-total z, e) (heads-first (suc z) (suc y) r (firstVector z r) (first-length z r) (first-total z r) (vectors-first z r))
+    rw (zeros-length z, zeros-last z, zeros-total z, e)
+    (heads-first (suc z) (suc y) r (firstVector z r) (first-length z r) (first-total z r) (vectors-first z r))
 later-next (x ∷ pre) y r z = rw (later-next pre y r z, next-length pre y r z, next-total pre y r z) refl
 
 -- how many there are, crudely
@@ -125,18 +128,29 @@ vectors-bound zero zero h = omega arith
 vectors-bound zero (suc t) h = omega arith
 vectors-bound (suc k) t h =
     let ih = vectors-bound k in
-    let most : length (each (λ x. map (λ g. x ∷ g) (vectors k (t - x))) (row 0 (suc t))) ≤ suc t * DIGITS ^ k = each-bound (λ x. map (λ g. x ∷ g) (vectors k (t - x))) (DIGITS ^ k) 0 (suc t) (λ x l. rw (length-map (vectors k (t - x)) (λ (g : List ℕ). x ∷ g)) (ih (t - x) (omega arith))) in
-    rw (pow-succ' DIGITS k) (omega (arith, most, mul-le-mul {n₁ = suc t} {m₁ = DIGITS ^ k} {n₂ = DIGITS} {m₂ = DIGITS ^ k} (omega arith) (omega arith)))
+    let most : length (each (λ x. map (λ g. x ∷ g) (vectors k (t - x))) (row 0 (suc t))) ≤ suc t * DIGITS ^ k =
+    each-bound (λ x. map (λ g. x ∷ g) (vectors k (t - x))) (DIGITS ^ k) 0 (suc t)
+    (λ x l. rw (length-map (vectors k (t - x)) (λ (g : List ℕ). x ∷ g)) (ih (t - x) (omega arith))) in
+    rw (pow-succ' DIGITS k)
+    (omega (
+      arith,
+      most,
+      mul-le-mul {n₁ = suc t} {m₁ = DIGITS ^ k} {n₂ = DIGITS} {m₂ = DIGITS ^ k} (omega arith)
+          (omega arith),
+    ))
 
 -- of the spacings with k + 1 ≤ COMPONENTS components and totals below m ≤ DIGITS there are at most
 -- DIGITS ^ (COMPONENTS + 1)
 pub spacings-bound : (k m : ℕ) → k < COMPONENTS → m ≤ DIGITS → length (each (vectors (suc k)) (row 0 m)) ≤ DIGITS ^ suc COMPONENTS
 spacings-bound k m h l =
-    let most : length (each (vectors (suc k)) (row 0 m)) ≤ m * DIGITS ^ suc k = each-bound (vectors (suc k)) (DIGITS ^ suc k) 0 m (λ x b. vectors-bound (suc k) x (omega arith)) in
-    let power : DIGITS ^ suc k ≤ DIGITS ^ COMPONENTS = pow-le-pow-right {n = DIGITS} (omega arith) {i = suc k} {j = COMPONENTS} (omega arith) in
+    let most : length (each (vectors (suc k)) (row 0 m)) ≤ m * DIGITS ^ suc k =
+    each-bound (vectors (suc k)) (DIGITS ^ suc k) 0 m (λ x b. vectors-bound (suc k) x (omega arith)) in
+    let power : DIGITS ^ suc k ≤ DIGITS ^ COMPONENTS =
+    pow-le-pow-right {n = DIGITS} (omega arith) {i = suc k} {j = COMPONENTS} (omega arith) in
     omega (arith, most, mul-le-mul {n₁ = m} {m₁ = DIGITS ^ suc k} {n₂ = DIGITS} {m₂ = DIGITS ^ COMPONENTS} l power)
 
 -- the compared spacings of an entry of length k, where the longest pattern has length m
-pub compared-by : (P : List (List ℕ)) (k : ℕ) (B : List (List ℕ)) (m : ℕ) → mOf P ≡ m → keep (free B) (each (vectors (suc k)) (row 0 m)) ≡ compared P k B
+pub compared-by : (P : List (List ℕ)) (k : ℕ) (B : List (List ℕ)) (m : ℕ) → mOf P ≡ m →
+    keep (free B) (each (vectors (suc k)) (row 0 m)) ≡ compared P k B
 unfolding compared
 compared-by P k B m e = ap (λ (n : ℕ). keep (free B) (each (vectors (suc k)) (row 0 n))) (sym e)

@@ -54,7 +54,7 @@ pub data Question : Type 0 where
   judgingTexts : (patterns scheme : String) → Question
   countingTexts : (patterns scheme : String) (n : ℕ) → Question
 
--- what it answers
+-- the answer of the engine to a question
 pub data Answer : Type 0 where
   contained : Contained → Answer
   prefixAndSpacing : List ℕ → List ℕ → Answer
@@ -81,7 +81,9 @@ abbrev toldAs : Told → Answer
 toldAs t = tells (t .number) (t .values)
 
 unfoldable pub answer : Question → Answer
-unfolding countOf contains isPerm reduce spacing shorterSize vectors free total children deleted merged cell compared comparedCells liveGap differs sizesDiffer comparedWith tokens tokensAfter tokenAt readPatterns readEntries itemsOf same loadedPatterns loadedScheme bytes partsOfAll widthsOf
+unfolding countOf contains isPerm reduce spacing shorterSize vectors free total children deleted merged cell
+    compared comparedCells liveGap differs sizesDiffer comparedWith tokens tokensAfter tokenAt readPatterns
+    readEntries itemsOf same loadedPatterns loadedScheme bytes partsOfAll widthsOf
 answer (containsPattern w β) = contained (containment β w)
 answer (firstEntries n u) = prefixAndSpacing (reduce u) (spacing n u)
 answer (deletion R p g) = prefixAndSpacing (deleted R p) (merged R p g)
@@ -92,7 +94,8 @@ answer (reading s) = refusedAs ((schemeAnswer s) .fault)
 answer (judging P E) = verdictIs (verdictOf P E)
 answer (counting P E n) = countIs (countOf P E n)
 answer (judgingTexts s t) = toldAs (toldVerdict (verdictOfTexts (bytes s) (bytes t)))
-answer (countingTexts s t n) = countIs (countOf (patternsIn ((patternsAnswer (bytes s)) .patterns)) (schemeIn ((schemeAnswer (bytes t)) .scheme)) n)
+answer (countingTexts s t n) = countIs (countOf (patternsIn ((patternsAnswer (bytes s)) .patterns))
+    (schemeIn ((schemeAnswer (bytes t)) .scheme)) n)
 
 -- an entry of a scheme
 abbrev entry : List ℕ → List (List ℕ) → Does → EntryList
@@ -104,7 +107,8 @@ set123 = (1 ∷ 2 ∷ 3 ∷ []) ∷ []
 
 abbrev scheme123 : ℕ → List EntryList
 scheme123 r =
-    entry [] [] expands ∷ entry (1 ∷ []) [] expands ∷ entry (1 ∷ 2 ∷ []) ((0 ∷ 0 ∷ 1 ∷ []) ∷ []) (deletes r) ∷ entry (2 ∷ 1 ∷ []) [] (deletes 1) ∷ []
+    entry [] [] expands ∷ entry (1 ∷ []) [] expands ∷ entry (1 ∷ 2 ∷ []) ((0 ∷ 0 ∷ 1 ∷ []) ∷ []) (deletes r) ∷ entry
+    (2 ∷ 1 ∷ []) [] (deletes 1) ∷ []
 
 -- `{(ε,∅,∅),(1,∅,{1})}` with these gap vectors on ε and on 1
 abbrev scheme1 : List (List ℕ) → List (List ℕ) → List EntryList

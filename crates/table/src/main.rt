@@ -67,7 +67,8 @@ fn read_all(set: &mut [u8], scheme: &mut [u8]) -> Reading
 
 // Reads once into the chunk, and keeps what is needed of it.
 fn read_some(lines: Lines, set: &mut [u8], scheme: &mut [u8], chunk: &mut [u8]) -> Reading
-    ensures { λ r. ⌜ ReadsSome (memoryOf lines (now (set .entry)) (now (scheme .entry))) (afterOf r (now (set .exit)) (now (scheme .exit))) ⌝ }
+    ensures { λ r. ⌜ ReadsSome (memoryOf lines (now (set .entry)) (now (scheme .entry)))
+        (afterOf r (now (set .exit)) (now (scheme .exit))) ⌝ }
 {
     let got = libc::read(STDIN_FILENO, chunk);
     taken(lines, set, scheme, chunk, got, os::errno())

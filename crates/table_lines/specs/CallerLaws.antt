@@ -55,7 +55,8 @@ kept-three s = split (line 2 s) (behind 3 s) same
     same = rw (held-front setRoom (line 0 s), held-front schemeRoom (line 1 s), held-front lastRoom (line 2 s)) refl
 
     split : (l r : List ℕ) → heldLines (keptOf s) ≡ fronts (linesOf s)
-        → cond (not (eqb (heldLength lastRoom l) 0) && not (hasBytes r)) (some (heldLines (keptOf s))) none ≡ frontsIf (unlessFourth l r (linesOf s))
+        → cond (not (eqb (heldLength lastRoom l) 0) && not (hasBytes r)) (some (heldLines (keptOf s))) none ≡
+        frontsIf (unlessFourth l r (linesOf s))
     split [] r e = refl
     split (b ∷ l) [] e = rw (held-some b l) (ap some e)
     split (b ∷ l) (c ∷ r) e = rw (held-some b l) refl

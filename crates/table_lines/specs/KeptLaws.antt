@@ -11,8 +11,10 @@ use lib.Dec.{ltb}
 use borrow.Author.Tests.{ltb-true, ltb-false, lt-ltb, le-ltb, eq-eqb, ne-eqb}
 use Rattle.table_lines.specs.declared.input.Lines.{Lines}
 use Rattle.table_lines.specs.Lines.{isEnd, line, behind}
-use Rattle.table_lines.specs.Kept.{setRoom, schemeRoom, lastRoom, held, heldLength, endsIn, upToThree, hasBytes, Memory, memoryOf, keptOf}
-use Rattle.table_lines.specs.KeptWalk.{made, ended, withFourth, stored, nextPlace, roomIn, inSet, inScheme, inLast, byteAt, keptByte, keptOn}
+use Rattle.table_lines.specs.Kept.{setRoom, schemeRoom, lastRoom, held, heldLength, endsIn, upToThree}
+use Rattle.table_lines.specs.Kept.{hasBytes, Memory, memoryOf, keptOf}
+use Rattle.table_lines.specs.KeptWalk.{made, ended, withFourth, stored, nextPlace, roomIn, inSet, inScheme}
+use Rattle.table_lines.specs.KeptWalk.{inLast, byteAt, keptByte, keptOn}
 use Rattle.table_lines.specs.LineLaws.{ends-other, ends-end, line-end, line-same, line-more, behind-none, behind-last, behind-some}
 
 -- the kept bytes of one line
@@ -24,7 +26,8 @@ held-none (suc n) = ap (λ (l : List ℕ). 0 ∷ l) (held-none n)
 
 -- by whether there is room
 stored-split : (c : Bool) (n : ℕ) (l : List ℕ) (b : ℕ) → ltb (heldLength n l) n ≡ c
-    → (cond c (set (held n l) (heldLength n l) b) (held n l) ≡ held n (l ++ (b ∷ []))) × (cond c (heldLength n l + 1) (heldLength n l) ≡ heldLength n (l ++ (b ∷ [])))
+    → (cond c (set (held n l) (heldLength n l) b) (held n l) ≡ held n (l ++ (b ∷ []))) ×
+    (cond c (heldLength n l + 1) (heldLength n l) ≡ heldLength n (l ++ (b ∷ [])))
 unfolding held
 stored-split true n l b h = (more n l (ltb-true (heldLength n l) n h), longer n l (ltb-true (heldLength n l) n h))
   where
@@ -81,17 +84,22 @@ module _ (s : List ℕ) (b : ℕ) where
   length-same n k e = ap (heldLength n) (sym e)
 
   -- the line with the byte
-  held-grown : (n k : ℕ) → endsIn s ≡ k → isEnd b ≡ false → stored n (held n (line k s)) (heldLength n (line k s)) b ≡ held n (line k (s ++ (b ∷ [])))
+  held-grown : (n k : ℕ) → endsIn s ≡ k → isEnd b ≡ false →
+      stored n (held n (line k s)) (heldLength n (line k s)) b ≡ held n (line k (s ++ (b ∷ [])))
   held-grown n k p q = stored-held n (line k s) b ∙ ap (held n) (sym (line-more k s b p q))
 
   length-grown : (n k : ℕ) → endsIn s ≡ k → isEnd b ≡ false → nextPlace n (heldLength n (line k s)) ≡ heldLength n (line k (s ++ (b ∷ [])))
   length-grown n k p q = next-held n (line k s) b ∙ ap (heldLength n) (sym (line-more k s b p q))
 
   -- a buffer with the byte
-  buffer-grown : (n k : ℕ) → endsIn s ≡ k → isEnd b ≡ false → stored (roomIn (held n (line k s)) n) (held n (line k s)) (heldLength n (line k s)) b ≡ held n (line k (s ++ (b ∷ [])))
-  buffer-grown n k p q = ap (λ (m : ℕ). stored m (held n (line k s)) (heldLength n (line k s)) b) (room-held n (line k s)) ∙ held-grown n k p q
+  buffer-grown : (n k : ℕ) → endsIn s ≡ k → isEnd b ≡ false →
+      stored (roomIn (held n (line k s)) n) (held n (line k s)) (heldLength n (line k s)) b ≡
+      held n (line k (s ++ (b ∷ [])))
+  buffer-grown n k p q = ap (λ (m : ℕ). stored m (held n (line k s)) (heldLength n (line k s)) b)
+      (room-held n (line k s)) ∙ held-grown n k p q
 
-  place-grown : (n k : ℕ) → endsIn s ≡ k → isEnd b ≡ false → nextPlace (roomIn (held n (line k s)) n) (heldLength n (line k s)) ≡ heldLength n (line k (s ++ (b ∷ [])))
+  place-grown : (n k : ℕ) → endsIn s ≡ k → isEnd b ≡ false →
+      nextPlace (roomIn (held n (line k s)) n) (heldLength n (line k s)) ≡ heldLength n (line k (s ++ (b ∷ [])))
   place-grown n k p q = ap (λ (m : ℕ). nextPlace m (heldLength n (line k s))) (room-held n (line k s)) ∙ length-grown n k p q
 
   no-fourth : endsIn s < 3 → hasBytes (behind 3 s) ≡ hasBytes (behind 3 (s ++ (b ∷ [])))
@@ -101,13 +109,15 @@ module _ (s : List ℕ) (b : ℕ) where
   ends-same q = ap upToThree (sym (ends-other s b q))
 
   -- a line end
-  end-kept : (e : ℕ) → endsIn s ≡ e → isEnd b ≡ true → e < 3 → upToThree e + 1 ≡ upToThree (suc e) → ended (keptOf s) ≡ keptOf (s ++ (b ∷ []))
+  end-kept : (e : ℕ) → endsIn s ≡ e → isEnd b ≡ true → e < 3 → upToThree e + 1 ≡ upToThree (suc e) →
+      ended (keptOf s) ≡ keptOf (s ++ (b ∷ []))
   unfolding keptOf
   end-kept e p q h u =
       let first = line-end 0 s b q in
       let second = line-end 1 s b q in
       let third = line-end 2 s b q in
-      same-made (held-same setRoom 0 first) (length-same setRoom 0 first) (held-same schemeRoom 1 second) (length-same schemeRoom 1 second) (held-same lastRoom 2 third) (length-same lastRoom 2 third)
+      same-made (held-same setRoom 0 first) (length-same setRoom 0 first) (held-same schemeRoom 1 second)
+      (length-same schemeRoom 1 second) (held-same lastRoom 2 third) (length-same lastRoom 2 third)
       (ap (λ (x : ℕ). upToThree x + 1) p ∙ u ∙ ap (λ (x : ℕ). upToThree (suc x)) (sym p) ∙ ap upToThree (sym (ends-end s b q)))
       (no-fourth (omega arith))
 
@@ -118,7 +128,8 @@ module _ (s : List ℕ) (b : ℕ) where
   set-kept p q =
       let second = line-same 1 s b (λ (e : endsIn s ≡ 1). omega arith) in
       let third = line-same 2 s b (λ (e : endsIn s ≡ 2). omega arith) in
-      same-made (buffer-grown setRoom 0 p q) (place-grown setRoom 0 p q) (held-same schemeRoom 1 second) (length-same schemeRoom 1 second) (held-same lastRoom 2 third) (length-same lastRoom 2 third)
+      same-made (buffer-grown setRoom 0 p q) (place-grown setRoom 0 p q) (held-same schemeRoom 1 second)
+      (length-same schemeRoom 1 second) (held-same lastRoom 2 third) (length-same lastRoom 2 third)
       (ends-same q) (no-fourth (omega arith))
 
   scheme-kept : endsIn s ≡ 1 → isEnd b ≡ false → inScheme (keptOf s) b ≡ keptOf (s ++ (b ∷ []))
@@ -126,7 +137,8 @@ module _ (s : List ℕ) (b : ℕ) where
   scheme-kept p q =
       let first = line-same 0 s b (λ (e : endsIn s ≡ 0). omega arith) in
       let third = line-same 2 s b (λ (e : endsIn s ≡ 2). omega arith) in
-      same-made (held-same setRoom 0 first) (length-same setRoom 0 first) (buffer-grown schemeRoom 1 p q) (place-grown schemeRoom 1 p q) (held-same lastRoom 2 third) (length-same lastRoom 2 third)
+      same-made (held-same setRoom 0 first) (length-same setRoom 0 first) (buffer-grown schemeRoom 1 p q)
+      (place-grown schemeRoom 1 p q) (held-same lastRoom 2 third) (length-same lastRoom 2 third)
       (ends-same q) (no-fourth (omega arith))
 
   last-kept : endsIn s ≡ 2 → isEnd b ≡ false → inLast (keptOf s) b ≡ keptOf (s ++ (b ∷ []))
@@ -134,7 +146,8 @@ module _ (s : List ℕ) (b : ℕ) where
   last-kept p q =
       let first = line-same 0 s b (λ (e : endsIn s ≡ 0). omega arith) in
       let second = line-same 1 s b (λ (e : endsIn s ≡ 1). omega arith) in
-      same-made (held-same setRoom 0 first) (length-same setRoom 0 first) (held-same schemeRoom 1 second) (length-same schemeRoom 1 second) (held-grown lastRoom 2 p q) (length-grown lastRoom 2 p q)
+      same-made (held-same setRoom 0 first) (length-same setRoom 0 first) (held-same schemeRoom 1 second)
+      (length-same schemeRoom 1 second) (held-grown lastRoom 2 p q) (length-grown lastRoom 2 p q)
       (ends-same q) (no-fourth (omega arith))
 
   -- a byte after the third line end
@@ -148,7 +161,8 @@ module _ (s : List ℕ) (b : ℕ) where
       let first = line-same 0 s b (λ (e : endsIn s ≡ 0). omega arith) in
       let second = line-same 1 s b (λ (e : endsIn s ≡ 1). omega arith) in
       let third = line-same 2 s b (λ (e : endsIn s ≡ 2). omega arith) in
-      same-made (held-same setRoom 0 first) (length-same setRoom 0 first) (held-same schemeRoom 1 second) (length-same schemeRoom 1 second) (held-same lastRoom 2 third) (length-same lastRoom 2 third)
+      same-made (held-same setRoom 0 first) (length-same setRoom 0 first) (held-same schemeRoom 1 second)
+      (length-same schemeRoom 1 second) (held-same lastRoom 2 third) (length-same lastRoom 2 third)
       (ap upToThree p ∙ sym (three-more (isEnd b) refl n p)) (sym (behind-some 3 s b (omega arith)))
 
   by-place : (e : ℕ) → endsIn s ≡ e → (c : Bool) → isEnd b ≡ c → byteAt (upToThree e) c (keptOf s) b ≡ keptOf (s ++ (b ∷ []))
@@ -238,21 +252,24 @@ module _ (k : Lines) (xs ys : List ℕ) (b : ℕ) where
   -- a byte is stored where there is room, and dropped where there is none
 
   pub turn-set : k .ends ≡ 0 → (b ≡ 0x0A → ⊥) → k .«set_length» < roomIn xs setRoom
-      → keptByte memory b ≡ made (set xs (k .«set_length») b) (k .«set_length» + 1) ys (k .«scheme_length») (k .last) (k .«last_length») (k .ends) (k .fourth)
+      → keptByte memory b ≡ made (set xs (k .«set_length») b) (k .«set_length» + 1) ys (k .«scheme_length»)
+      (k .last) (k .«last_length») (k .ends) (k .fourth)
   turn-set p q h = at-place 0 false p (ne-eqb b 0x0A q) ∙ rw (lt-ltb (k .«set_length») (roomIn xs setRoom) h) refl
 
   pub drop-set : k .ends ≡ 0 → (b ≡ 0x0A → ⊥) → roomIn xs setRoom ≤ k .«set_length» → keptByte memory b ≡ memory
   drop-set p q h = at-place 0 false p (ne-eqb b 0x0A q) ∙ rw (le-ltb (k .«set_length») (roomIn xs setRoom) h) refl
 
   pub turn-scheme : k .ends ≡ 1 → (b ≡ 0x0A → ⊥) → k .«scheme_length» < roomIn ys schemeRoom
-      → keptByte memory b ≡ made xs (k .«set_length») (set ys (k .«scheme_length») b) (k .«scheme_length» + 1) (k .last) (k .«last_length») (k .ends) (k .fourth)
+      → keptByte memory b ≡ made xs (k .«set_length») (set ys (k .«scheme_length») b) (k .«scheme_length» + 1)
+      (k .last) (k .«last_length») (k .ends) (k .fourth)
   turn-scheme p q h = at-place 1 false p (ne-eqb b 0x0A q) ∙ rw (lt-ltb (k .«scheme_length») (roomIn ys schemeRoom) h) refl
 
   pub drop-scheme : k .ends ≡ 1 → (b ≡ 0x0A → ⊥) → roomIn ys schemeRoom ≤ k .«scheme_length» → keptByte memory b ≡ memory
   drop-scheme p q h = at-place 1 false p (ne-eqb b 0x0A q) ∙ rw (le-ltb (k .«scheme_length») (roomIn ys schemeRoom) h) refl
 
   pub turn-last : k .ends ≡ 2 → (b ≡ 0x0A → ⊥) → k .«last_length» < lastRoom
-      → keptByte memory b ≡ made xs (k .«set_length») ys (k .«scheme_length») (set (k .last) (k .«last_length») b) (k .«last_length» + 1) (k .ends) (k .fourth)
+      → keptByte memory b ≡ made xs (k .«set_length») ys (k .«scheme_length») (set (k .last) (k .«last_length») b)
+      (k .«last_length» + 1) (k .ends) (k .fourth)
   turn-last p q h = at-place 2 false p (ne-eqb b 0x0A q) ∙ rw (lt-ltb (k .«last_length») lastRoom h) refl
 
   pub drop-last : k .ends ≡ 2 → (b ≡ 0x0A → ⊥) → lastRoom ≤ k .«last_length» → keptByte memory b ≡ memory

@@ -39,15 +39,19 @@ roomIn xs n = min (length xs) n
 -- a byte of the first, of the second, of the third line
 abbrev pub inSet : Memory → ℕ → Memory
 inSet m b = let k = m .lines in let n = roomIn (m .set) setRoom in
-    made (stored n (m .set) (k .«set_length») b) (nextPlace n (k .«set_length»)) (m .scheme) (k .«scheme_length») (k .last) (k .«last_length») (k .ends) (k .fourth)
+    made (stored n (m .set) (k .«set_length») b) (nextPlace n (k .«set_length»)) (m .scheme) (k .«scheme_length»)
+    (k .last) (k .«last_length») (k .ends) (k .fourth)
 
 abbrev pub inScheme : Memory → ℕ → Memory
 inScheme m b = let k = m .lines in let n = roomIn (m .scheme) schemeRoom in
-    made (m .set) (k .«set_length») (stored n (m .scheme) (k .«scheme_length») b) (nextPlace n (k .«scheme_length»)) (k .last) (k .«last_length») (k .ends) (k .fourth)
+    made (m .set) (k .«set_length») (stored n (m .scheme) (k .«scheme_length») b) (nextPlace n (k .«scheme_length»))
+    (k .last) (k .«last_length») (k .ends) (k .fourth)
 
 abbrev pub inLast : Memory → ℕ → Memory
 inLast m b = let k = m .lines in
-    made (m .set) (k .«set_length») (m .scheme) (k .«scheme_length») (stored lastRoom (k .last) (k .«last_length») b) (nextPlace lastRoom (k .«last_length»)) (k .ends) (k .fourth)
+    made (m .set) (k .«set_length») (m .scheme) (k .«scheme_length»)
+    (stored lastRoom (k .last) (k .«last_length») b) (nextPlace lastRoom (k .«last_length»)) (k .ends)
+    (k .fourth)
 
 -- by the number of line ends before the byte, and whether it is one
 abbrev pub byteAt : ℕ → Bool → Memory → ℕ → Memory

@@ -79,7 +79,8 @@ behind-none zero s h = absurd (omega arith)
 behind-none (suc k) [] h = refl
 behind-none (suc k) (x ∷ s) h = split (isEnd x) h (behind-none k s) (behind-none (suc k) s)
   where
-    split : (c : Bool) → cond c (suc (endsIn s)) (endsIn s) < suc k → (endsIn s < k → behind k s ≡ []) → (endsIn s < suc k → behind (suc k) s ≡ [])
+    split : (c : Bool) → cond c (suc (endsIn s)) (endsIn s) < suc k → (endsIn s < k → behind k s ≡ []) →
+        (endsIn s < suc k → behind (suc k) s ≡ [])
         → cond c (behind k s) (behind (suc k) s) ≡ []
     split true g p q = p (omega arith)
     split false g p q = q g

@@ -40,7 +40,8 @@ module _ (error : ℤ) where
       by (negsuc m) p = refl
 
 -- what is taken of a chunk is kept of the input so far and its bytes
-pub reads-some : (before : Memory) (chunk : List ℕ) (got error : ℤ) (r : AfterRead) → r ≡ takenOf before chunk got error → ReadsSome before r
+pub reads-some : (before : Memory) (chunk : List ℕ) (got error : ℤ) (r : AfterRead) → r ≡
+    takenOf before chunk got error → ReadsSome before r
 unfolding takenOf
 reads-some before chunk got error r e =
     record {

@@ -129,7 +129,8 @@ line-none zero s h = absurd (omega arith)
 line-none (suc k) [] h = refl
 line-none (suc k) (x ∷ s) h = split (isEnd x) h (line-none k s) (line-none (suc k) s)
   where
-    split : (c : Bool) → cond c (suc (endsIn s)) (endsIn s) < suc k → (endsIn s < k → line k s ≡ []) → (endsIn s < suc k → line (suc k) s ≡ [])
+    split : (c : Bool) → cond c (suc (endsIn s)) (endsIn s) < suc k → (endsIn s < k → line k s ≡ []) →
+        (endsIn s < suc k → line (suc k) s ≡ [])
         → cond c (line k s) (line (suc k) s) ≡ []
     split true g p q = p (omega arith)
     split false g p q = q g

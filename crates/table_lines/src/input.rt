@@ -55,7 +55,8 @@ pub fn nothing() -> Lines
 // What is kept with a further chunk: bytes of the first two lines go into the buffers. A line's
 // surplus is dropped.
 pub fn keep(lines: Lines, set: &mut [u8], scheme: &mut [u8], chunk: &[u8]) -> Lines
-    ensures { λ r. ⌜ memoryOf r (now (set .exit)) (now (scheme .exit)) ≡ keptOn (memoryOf lines (now (set .entry)) (now (scheme .entry))) (now (chunk .entry)) ⌝ }
+    ensures { λ r. ⌜ memoryOf r (now (set .exit)) (now (scheme .exit)) ≡ keptOn
+        (memoryOf lines (now (set .entry)) (now (scheme .entry))) (now (chunk .entry)) ⌝ }
 {
     let set_room = least(set.len(), SET);
     let scheme_room = least(scheme.len(), SCHEME);

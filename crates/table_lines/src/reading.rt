@@ -29,7 +29,8 @@ pub fn taken(
     got: isize,
     error: i32,
 ) -> Reading
-    ensures { λ r. ⌜ afterOf r (now (set .exit)) (now (scheme .exit)) ≡ takenOf (memoryOf lines (now (set .entry)) (now (scheme .entry))) (now (chunk .entry)) got error ⌝ }
+    ensures { λ r. ⌜ afterOf r (now (set .exit)) (now (scheme .exit)) ≡ takenOf
+        (memoryOf lines (now (set .entry)) (now (scheme .entry))) (now (chunk .entry)) got error ⌝ }
 {
     let n = io::count(got, chunk);
     let kept = keep(lines, set, scheme, &chunk[..n]);

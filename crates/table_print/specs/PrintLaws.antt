@@ -49,7 +49,8 @@ use Rattle.table_lines.specs.LastNumberLaws.{number-front}
 use Rattle.table_lines.specs.CallerLaws.{fronts, frontsIf, kept-three}
 use Rattle.table_lines.specs.declared.input.Number.{Number}
 use Rattle.table_text.specs.Printed.{PAGE, bfileText}
-use Rattle.table_print.specs.TableText.{printedOr, lengthText, misspeltLine, numberText, linesText, tableText, avoidersText, Prints, AcceptedLists}
+use Rattle.table_print.specs.TableText.{printedOr, lengthText, misspeltLine, numberText, linesText}
+use Rattle.table_print.specs.TableText.{tableText, avoidersText, Prints, AcceptedLists}
 
 -- the first bytes of a text are enough
 pub patterns-cut : (s : List ℕ) → patternsAnswer (take setRoom s) ≡ patternsAnswer s
@@ -65,7 +66,8 @@ readText p q n = printedOr (faultIn (verdictRead p q)) (numberText (patternsIn (
 -- so the first bytes of the three lines are enough
 pub fronts-text : (t : Three) → linesText (fronts t) ≡ linesText t
 fronts-text t =
-    ap₂ (λ (p : PatternsRead) (q : SchemeRead). readText p q (asNumber (numberIn (take lastRoom (t .last))))) (patterns-cut (t .set)) (scheme-cut (t .scheme)) ∙
+    ap₂ (λ (p : PatternsRead) (q : SchemeRead). readText p q (asNumber (numberIn (take lastRoom (t .last)))))
+    (patterns-cut (t .set)) (scheme-cut (t .scheme)) ∙
     ap (λ (n : Option ℕ). readText (patternsAnswer (t .set)) (schemeAnswer (t .scheme)) (asNumber n)) (number-front (t .last))
 
 fronts-table : (o : Option Three) → tableText (frontsIf o) ≡ tableText o
@@ -81,10 +83,12 @@ pub counts-taken : (P : List (List ℕ)) (E : List EntryList) (n : ℕ) (counts 
     take (n + 1) counts ≡ map (countOf P E) (row 0 (suc n))
 counts-taken P E n counts h c =
     ap (λ m. take m counts) (add-one n) ∙ take-row counts 0 (suc n) (omega (arith, c .size)) ∙
-    map-same (λ i. getD counts i 0) (countOf P E) (row 0 (suc n)) (λ (i : ℕ) (m : List·Memᴰ i (row 0 (suc n))). c .upto i (omega (arith, row-out 0 (suc n) m)))
+    map-same (λ i. getD counts i 0) (countOf P E) (row 0 (suc n))
+    (λ (i : ℕ) (m : List·Memᴰ i (row 0 (suc n))). c .upto i (omega (arith, row-out 0 (suc n) m)))
 
 -- the lists of an accepted verdict
-pub accepted-lists : (s t : List ℕ) (j : TextsJudged) → JudgesAndReads s t j → (f : Fault) → f ≡ faultIn (j .verdict) → f ≡ Clean → AcceptedLists (j .patterns) (j .scheme)
+pub accepted-lists : (s t : List ℕ) (j : TextsJudged) → JudgesAndReads s t j → (f : Fault) → f ≡
+    faultIn (j .verdict) → f ≡ Clean → AcceptedLists (j .patterns) (j .scheme)
 accepted-lists s t j judges f is found =
     let a = clean-accepts (j .verdict) (sym is ∙ found) in
     record { formed = judges .formed a; claims = judges .claims a }
@@ -104,29 +108,40 @@ module _ (t : Three) (w : TextsTrue (t .set) (t .scheme)) where
   reads-scheme = scheme-answers.answered (t .scheme) q refl .1
 
   claims-so : faultOf (firstFault (claimTests (patternsIn (p .patterns)) (schemeIn (q .scheme)))) ≡ Clean
-  claims-so = ap₂ (λ (P : List (List ℕ)) (E : List EntryList). faultOf (firstFault (claimTests P E))) (set-list (t .set) (t .scheme) w p reads) (scheme-list (t .set) (t .scheme) w q reads-scheme) ∙ ap faultOf (claims-clean (w .patterns) (w .scheme) (w .formed .scheme) (w .claims))
+  claims-so = ap₂ (λ (P : List (List ℕ)) (E : List EntryList). faultOf (firstFault (claimTests P E)))
+      (set-list (t .set) (t .scheme) w p reads) (scheme-list (t .set) (t .scheme) w q reads-scheme) ∙
+      ap faultOf (claims-clean (w .patterns) (w .scheme) (w .formed .scheme) (w .claims))
 
   accepted-so : faultIn (verdictOfTexts (t .set) (t .scheme)) ≡ Clean
   accepted-so =
-      ap₂ (λ (x y : Fault). faultIn (answered (orElse x (orElse y (faultOf (firstFault (claimTests (patternsIn (p .patterns)) (schemeIn (q .scheme))))))) (comparedCells (patternsIn (p .patterns)) (schemeIn (q .scheme)))))
+      ap₂ (λ (x y : Fault). faultIn
+      (answered (orElse x
+      (orElse y (faultOf (firstFault (claimTests (patternsIn (p .patterns)) (schemeIn (q .scheme)))))))
+      (comparedCells (patternsIn (p .patterns)) (schemeIn (q .scheme)))))
       (set-clean (t .set) (t .scheme) w p reads) (scheme-clean (t .set) (t .scheme) w q reads-scheme) ∙
       ap (λ (x : Fault). faultIn (answered x (comparedCells (patternsIn (p .patterns)) (schemeIn (q .scheme))))) claims-so
 
   -- the counts of 01 are the numbers of avoiders
-  counts-so : (n : ℕ) → map (countOf (w .patterns) (w .scheme)) (row 0 (suc n)) ≡ map (λ j. length (avoiders (w .patterns) j)) (row 0 (suc n))
+  counts-so : (n : ℕ) → map (countOf (w .patterns) (w .scheme)) (row 0 (suc n)) ≡
+      map (λ j. length (avoiders (w .patterns) j)) (row 0 (suc n))
   counts-so n =
       map-same (countOf (w .patterns) (w .scheme)) (λ j. length (avoiders (w .patterns) j)) (row 0 (suc n))
       (λ (j : ℕ) (m : List·Memᴰ j (row 0 (suc n))). count-avoiders (w .patterns) (w .scheme) (w .formed) (w .claims) j)
 
-  pub counts-text : (n : ℕ) → numberIn (t .last) ≡ some n → n ≤ LENGTH → needOf n (w .scheme) ≤ CELLS → linesText t ≡ avoidersText (w .patterns) n
+  pub counts-text : (n : ℕ) → numberIn (t .last) ≡ some n → n ≤ LENGTH → needOf n (w .scheme) ≤ CELLS →
+      linesText t ≡ avoidersText (w .patterns) n
   counts-text n e h k =
-      ap₂ (λ (f : Fault) (o : Option ℕ). printedOr f (numberText (patternsIn (p .patterns)) (schemeIn (q .scheme)) (asNumber o))) accepted-so e ∙
-      ap₂ (λ (P : List (List ℕ)) (E : List EntryList). lengthText P E n) (set-list (t .set) (t .scheme) w p reads) (scheme-list (t .set) (t .scheme) w q reads-scheme) ∙
-      ap (λ (f : Fault). printedOr f (bfileText (map (countOf (w .patterns) (w .scheme)) (row 0 (suc n))))) (table-serves (w .scheme) n CELLS h k) ∙
+      ap₂ (λ (f : Fault) (o : Option ℕ). printedOr f (numberText (patternsIn (p .patterns)) (schemeIn (q .scheme))
+      (asNumber o))) accepted-so e ∙
+      ap₂ (λ (P : List (List ℕ)) (E : List EntryList). lengthText P E n) (set-list (t .set) (t .scheme) w p reads)
+      (scheme-list (t .set) (t .scheme) w q reads-scheme) ∙
+      ap (λ (f : Fault). printedOr f (bfileText (map (countOf (w .patterns) (w .scheme)) (row 0 (suc n)))))
+      (table-serves (w .scheme) n CELLS h k) ∙
       ap bfileText (counts-so n)
 
 -- what is written for the lines in memory keeps the promise
-pub prints : (memory : Memory) (before after : List ℕ) (r : ℕ) → Writes (tableText (threeIn memory)) 0 before after r → r ≤ PAGE → Prints memory before after r
+pub prints : (memory : Memory) (before after : List ℕ) (r : ℕ) →
+    Writes (tableText (threeIn memory)) 0 before after r → r ≤ PAGE → Prints memory before after r
 prints memory before after r w few =
     record {
       text = w;
@@ -156,12 +171,14 @@ module _ (k : Memory) where
   missing-text e = sym (ap (λ (b : Bool). tableText (cond b (some (heldLines k)) none)) e)
 
   abbrev given : List ℕ
-  given = numberText (patternsIn ((patternsAnswer (heldLines k .set)) .patterns)) (schemeIn ((schemeAnswer (heldLines k .scheme)) .scheme)) (asNumber (numberIn (heldLines k .last)))
+  given = numberText (patternsIn ((patternsAnswer (heldLines k .set)) .patterns))
+      (schemeIn ((schemeAnswer (heldLines k .scheme)) .scheme)) (asNumber (numberIn (heldLines k .last)))
 
   there-text : isComplete (k .lines) ≡ true → tableText (threeIn k) ≡ linesText (heldLines k)
   there-text e = ap (λ (b : Bool). tableText (cond b (some (heldLines k)) none)) e
 
-  module _ (there : isComplete (k .lines) ≡ true) (j : TextsJudged) (judges : JudgesAndReads (heldLines k .set) (heldLines k .scheme) j) (f : Fault)
+  module _ (there : isComplete (k .lines) ≡ true) (j : TextsJudged)
+      (judges : JudgesAndReads (heldLines k .set) (heldLines k .scheme) j) (f : Fault)
       (is : f ≡ faultIn (j .verdict)) where
     fault-so : f ≡ faultIn (verdictOfTexts (heldLines k .set) (heldLines k .scheme))
     fault-so = is ∙ ap faultIn (judges .judges .verdict)
@@ -174,5 +191,6 @@ module _ (k : Memory) where
         numberText (patternsIn (j .patterns)) (schemeIn (j .scheme)) m ≡ tableText (threeIn k)
     accepted-text found m number =
         ap (numberText (patternsIn (j .patterns)) (schemeIn (j .scheme))) number ∙
-        ap₂ (λ (x : Patterns) (y : Scheme). numberText (patternsIn x) (schemeIn y) (asNumber (numberIn (heldLines k .last)))) (judges .patterns) (judges .scheme) ∙
+        ap₂ (λ (x : Patterns) (y : Scheme). numberText (patternsIn x) (schemeIn y)
+        (asNumber (numberIn (heldLines k .last)))) (judges .patterns) (judges .scheme) ∙
         ap (λ (x : Fault). printedOr x given) (sym found ∙ fault-so) ∙ sym (there-text there)

@@ -52,7 +52,8 @@ numberText P E (Is n) = lengthText P E n
 abbrev pub linesText : Three → List ℕ
 linesText t =
     printedOr (faultIn (verdictOfTexts (t .set) (t .scheme)))
-    (numberText (patternsIn ((patternsAnswer (t .set)) .patterns)) (schemeIn ((schemeAnswer (t .scheme)) .scheme)) (asNumber (numberIn (t .last))))
+    (numberText (patternsIn ((patternsAnswer (t .set)) .patterns)) (schemeIn ((schemeAnswer (t .scheme)) .scheme))
+    (asNumber (numberIn (t .last))))
 
 -- "A missing line or a fourth is misspelt, tested before all else" (01)
 abbrev pub tableText : Option Three → List ℕ
@@ -73,7 +74,8 @@ pub record Prints (memory : Memory) (before after : List ℕ) (r : ℕ) : Type 0
   -- "If accepted, then .. the count .. is exactly the number of permutations of 1 to n that contain
   -- none of the patterns": so are the printed counts. Texts are accepted exactly if TextsTrue holds
   -- of them (JudgesTexts.exactly).
-  pub counts : (t : Three) → threeIn memory ≡ some t → (w : TextsTrue (t .set) (t .scheme)) (n : ℕ) → numberIn (t .last) ≡ some n → n ≤ LENGTH →
+  pub counts : (t : Three) → threeIn memory ≡ some t → (w : TextsTrue (t .set) (t .scheme)) (n : ℕ) →
+      numberIn (t .last) ≡ some n → n ≤ LENGTH →
       needOf n (w .scheme) ≤ CELLS → Writes (avoidersText (w .patterns) n) 0 before after r
   -- a page of 512 bytes is always enough
   pub fits : r ≤ PAGE

@@ -48,7 +48,8 @@ pub fn print(lines: Lines, set: &[u8], scheme: &[u8], page: &mut [u8]) -> usize
 
 // The verdict on the first two lines, as far as they were kept.
 fn judge_lines(lines: Lines, set: &[u8], scheme: &[u8]) -> TextsJudged
-    ensures { λ r. ⌜ JudgesAndReads (take (lines .«set_length») (now (set .entry))) (take (lines .«scheme_length») (now (scheme .entry))) r ⌝ }
+    ensures { λ r. ⌜ JudgesAndReads (take (lines .«set_length») (now (set .entry)))
+        (take (lines .«scheme_length») (now (scheme .entry))) r ⌝ }
 {
     let m = least(lines.set_length, set.len());
     let n = least(lines.scheme_length, scheme.len());
@@ -68,7 +69,8 @@ fn put_fault(page: &mut [u8], fault: Fault) -> usize
 // Writes what is printed for an accepted scheme and the number in the third line.
 fn put_number(page: &mut [u8], judged: TextsJudged, number: Number) -> usize
     requires { ⌜ AcceptedLists (judged .patterns) (judged .scheme) ⌝ }
-    ensures { λ r. ⌜ Writes (numberText (patternsIn (judged .patterns)) (schemeIn (judged .scheme)) number) 0 (now (page .entry)) (now (page .exit)) r × (r ≤ PAGE) ⌝ }
+    ensures { λ r. ⌜ Writes (numberText (patternsIn (judged .patterns)) (schemeIn (judged .scheme)) number) 0
+        (now (page .entry)) (now (page .exit)) r × (r ≤ PAGE) ⌝ }
 {
     let patterns = judged.patterns;
     let scheme = judged.scheme;
@@ -81,7 +83,8 @@ fn put_number(page: &mut [u8], judged: TextsJudged, number: Number) -> usize
 // Writes the b-file for 0 to n, or why there is none: all counts are made in one pass.
 fn put_table(page: &mut [u8], patterns: Patterns, scheme: Scheme, n: usize) -> usize
     requires { ⌜ AcceptedLists patterns scheme ⌝ }
-    ensures { λ r. ⌜ Writes (lengthText (patternsIn patterns) (schemeIn scheme) n) 0 (now (page .entry)) (now (page .exit)) r × (r ≤ PAGE) ⌝ }
+    ensures { λ r. ⌜ Writes (lengthText (patternsIn patterns) (schemeIn scheme) n) 0 (now (page .entry))
+        (now (page .exit)) r × (r ≤ PAGE) ⌝ }
 {
     let fault = table_fault(scheme, n, CELLS);
     if is_fault(fault) {

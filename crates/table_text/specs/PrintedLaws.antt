@@ -16,7 +16,8 @@ module _ (counts : List ℕ) (n : ℕ) (inside : n < length counts) where
 
   -- the line of a count, and the lines after it
   pub lines-step : (i : ℕ) → i ≤ n
-      → countLines i (drop i (take (n + 1) counts)) ≡ countLine i (getD counts i 0) ++ countLines (i + 1) (drop (i + 1) (take (n + 1) counts))
+      → countLines i (drop i (take (n + 1) counts)) ≡
+      countLine i (getD counts i 0) ++ countLines (i + 1) (drop (i + 1) (take (n + 1) counts))
   lines-step i h =
       let short : i < length (take (n + 1) counts) = omega (arith, taken-length) in
       let below : i < n + 1 = omega arith in

@@ -35,7 +35,8 @@ digit-small [] i h k = absurd (omega arith)
 digit-small (d ∷ u) zero h k = leb-true d 9 (and-left (leb d 9) (digitRun u) h)
 digit-small (d ∷ u) (suc i) h k = digit-small u i (and-right (leb d 9) (digitRun u) h) (omega arith)
 
-pub digit-is : (s : List ℕ) (from i r : ℕ) → i < length (run (drop from s)) → r ≡ getD s (from + i) 0 - 0x30 → DigitOf (run (drop from s)) i r
+pub digit-is : (s : List ℕ) (from i r : ℕ) → i < length (run (drop from s)) → r ≡ getD s (from + i) 0 - 0x30 →
+    DigitOf (run (drop from s)) i r
 digit-is s from i r h e =
     let k : r ≡ getD (run (drop from s)) i 0 = e ∙ sym (digits-in s from i h .0) in
     let l : getD (run (drop from s)) i 0 ≤ 9 = digit-small (run (drop from s)) i (run-digits (drop from s)) h in
@@ -104,7 +105,8 @@ number-three (x ∷ (y ∷ (z ∷ []))) a b c h d p e f =
     let l : b ≤ 9 = e .small in
     let m : c ≤ 9 = f .small in
     record {
-      gives = ap₂ (λ (v w : ℕ). numberOf (v ∷ (w ∷ (z ∷ [])))) (sym i) (sym j) ∙ ap (λ (v : ℕ). numberOf (a ∷ (b ∷ (v ∷ [])))) (sym o) ∙ three-digits a b c p k l m;
+      gives = ap₂ (λ (v w : ℕ). numberOf (v ∷ (w ∷ (z ∷ [])))) (sym i) (sym j) ∙
+          ap (λ (v : ℕ). numberOf (a ∷ (b ∷ (v ∷ [])))) (sym o) ∙ three-digits a b c p k l m;
       small = omega arith;
     }
 number-three (x ∷ (y ∷ (z ∷ (v ∷ u)))) a b c h d p e f = absurd (omega arith)

@@ -63,7 +63,11 @@ gap-kept m g l b e f = rw (e, f, add-one (m .count)) refl
 pub gap-counted : (m : Gaps) (g : Gap) → length (m .parts) ≤ COMPONENTS * m .count → length (m .widths) ≤ m .count
     → gapsMade (m .parts) (m .widths) (m .count + 1) ≡ storedGap m g
 gap-counted m g h k =
-    rw (sets-out (m .parts) (COMPONENTS * m .count) (g .parts) h, set-out (m .widths) (m .count) (partOf (g .width)) k, add-one (m .count)) refl
+    rw (
+      sets-out (m .parts) (COMPONENTS * m .count) (g .parts) h,
+      set-out (m .widths) (m .count) (partOf (g .width)) k,
+      add-one (m .count),
+    ) refl
 
 -- components and vectors
 
@@ -74,7 +78,8 @@ kept-itself (got n ts) = refl
 number-steps : (ts : List Token) → items readNumber right ts ≡ after (readNumber ts) (follow readNumber right (items readNumber right))
 number-steps ts = items-step readNumber (λ n. digits (numeral n) ∷ []) (λ n. leb n 999) number-read right refl refl ts
 
-vector-steps : (ts : List Token) → items readVector (byte 0x7D) ts ≡ after (readVector ts) (follow readVector (byte 0x7D) (items readVector (byte 0x7D)))
+vector-steps : (ts : List Token) → items readVector (byte 0x7D) ts ≡
+    after (readVector ts) (follow readVector (byte 0x7D) (items readVector (byte 0x7D)))
 vector-steps ts = items-step readVector vectorPieces writableVector vector-read (byte 0x7D) refl refl ts
 
 module _ (s : List ℕ) (t : Turn) (m : Gap) (at : ℕ) (ready : Ready s t (m .width) at) (n : NumberRead) (number : NumberAt s at n) where
@@ -87,7 +92,8 @@ module _ (s : List ℕ) (t : Turn) (m : Gap) (at : ℕ) (ready : Ready s t (m .w
       item-wrong readNumber right itself storedPart turnInVector vector-turn number-steps s at (n .spelt) (n .value) (n .next .at)
       kept-number t m (m .width) ready (number .moved) h
 
-  pub part-stored : n .spelt ≡ true → (σ : Step) → Stepped s (n .next .at) σ → (u : Turn) (g : Gap) → u ≡ turnInVector (σ .kind) → g ≡ storedPart m (n .value)
+  pub part-stored : n .spelt ≡ true → (σ : Step) → Stepped s (n .next .at) σ → (u : Turn) (g : Gap) → u ≡
+      turnInVector (σ .kind) → g ≡ storedPart m (n .value)
       → Advanced goingGap s t m at u g (g .width) (σ .next .at)
   unfolding goingGap
   part-stored h σ stepped u g e f =
@@ -102,7 +108,8 @@ module _ (s : List ℕ) (t : Turn) (m : Gaps) (at : ℕ) (ready : Ready s t (m .
       item-wrong readVector (byte 0x7D) gapOf storedGap turnInBraces braces-turn vector-steps s at (n .spelt) (n .gap) (n .next .at)
       (vector .gives) t m (m .count) ready (vector .moved) h
 
-  pub gap-stored : n .spelt ≡ true → (σ : Step) → Stepped s (n .next .at) σ → (u : Turn) (g : Gaps) → u ≡ turnInBraces (σ .kind) → g ≡ storedGap m (n .gap)
+  pub gap-stored : n .spelt ≡ true → (σ : Step) → Stepped s (n .next .at) σ → (u : Turn) (g : Gaps) → u ≡
+      turnInBraces (σ .kind) → g ≡ storedGap m (n .gap)
       → Advanced goingGaps s t m at u g (g .count) (σ .next .at)
   unfolding goingGaps
   gap-stored h σ stepped u g e f =
@@ -114,9 +121,16 @@ part-next : (l : List ℕ) (n : ℕ) → storedPart (gapOf l) (itself n) ≡ gap
 part-next l n = ap₂ gapMade (filled-more 7 0 partOf l n) (length-more l n)
 
 -- the places of one vector more stand behind those before it
-parts-more : (l : List (List ℕ)) (b : List ℕ) → sets (filled PARTS 0 (each partsOf l)) (COMPONENTS * length l) (partsOf b) ≡ filled PARTS 0 (each partsOf (l ++ (b ∷ [])))
+parts-more : (l : List (List ℕ)) (b : List ℕ) →
+    sets (filled PARTS 0 (each partsOf l)) (COMPONENTS * length l) (partsOf b) ≡
+    filled PARTS 0 (each partsOf (l ++ (b ∷ [])))
 parts-more l b =
-    let places : COMPONENTS * length l ≡ length (each partsOf l) = omega (arith, length-each partsOf COMPONENTS l (λ (d : List ℕ). length-filled COMPONENTS 0 (map partOf d))) in
+    let places : COMPONENTS * length l ≡ length (each partsOf l) =
+    omega (
+      arith,
+      length-each partsOf COMPONENTS l
+          (λ (d : List ℕ). length-filled COMPONENTS 0 (map partOf d)),
+    ) in
     rw (places, sets-filled PARTS 0 (each partsOf l) (partsOf b), each-append partsOf l (b ∷ []), append-nil (partsOf b)) refl
 
 gap-next : (l : List (List ℕ)) (b : List ℕ) → storedGap (loadedGaps l) (gapOf b) ≡ loadedGaps (l ++ (b ∷ []))
@@ -128,7 +142,8 @@ pub parts-start : (g : Gap) (ts : List Token) → g ≡ gapOf [] → goingGap Mo
 unfolding goingGap
 parts-start g ts e = from-first itself storedPart gapOf part-next readNumber right g ts e
 
-pub vectors-start : (g : Gaps) (ts : List Token) → g ≡ loadedGaps [] → goingGaps More g ts ≡ kept loadedGaps (items readVector (byte 0x7D) ts)
+pub vectors-start : (g : Gaps) (ts : List Token) → g ≡ loadedGaps [] → goingGaps More g ts ≡
+    kept loadedGaps (items readVector (byte 0x7D) ts)
 unfolding goingGaps
 vectors-start g ts e = from-first gapOf storedGap loadedGaps gap-next readVector (byte 0x7D) g ts e
 
@@ -139,24 +154,28 @@ pub no-vectors : (g : Gaps) → g ≡ loadedGaps [] → g .count ≡ 0
 unfolding loadedGaps
 no-vectors g e = ap (λ (m : Gaps). m .count) e
 
-module _ (s : List ℕ) (at : ℕ) (t : Turn) (n : Cursor) (stop : goesOn t ≡ false) (count : ℕ) (within : Within s count (n .at)) (onward : at ≤ n .at)
+module _ (s : List ℕ) (at : ℕ) (t : Turn) (n : Cursor) (stop : goesOn t ≡ false) (count : ℕ)
+    (within : Within s count (n .at)) (onward : at ≤ n .at)
     (b : Bool) (e : b ≡ isDone t) where
   pub parts-end : (m : Gap) → goingGap t m (tokens (drop (n .at) s)) ≡ kept gapOf (items readNumber right (tokens (drop at s)))
       → PartsAt s at (record { spelt = b; gap = m; next = n })
   unfolding goingGap
   parts-end m h =
       record {
-        gives = sym h ∙ at-end readNumber right itself storedPart t m (tokens (drop (n .at) s)) stop ∙ ap (λ (c : Bool). found c m (tokens (drop (n .at) s))) (sym e);
+        gives = sym h ∙ at-end readNumber right itself storedPart t m (tokens (drop (n .at) s)) stop ∙
+            ap (λ (c : Bool). found c m (tokens (drop (n .at) s))) (sym e);
         onward = onward;
         inside = within .inside;
       }
 
-  pub vectors-end : (m : Gaps) → goingGaps t m (tokens (drop (n .at) s)) ≡ kept loadedGaps (items readVector (byte 0x7D) (tokens (drop at s)))
+  pub vectors-end : (m : Gaps) → goingGaps t m (tokens (drop (n .at) s)) ≡
+      kept loadedGaps (items readVector (byte 0x7D) (tokens (drop at s)))
       → VectorsAt s at (record { spelt = b; gaps = m; next = n })
   unfolding goingGaps
   vectors-end m h =
       record {
-        gives = sym h ∙ at-end readVector (byte 0x7D) gapOf storedGap t m (tokens (drop (n .at) s)) stop ∙ ap (λ (c : Bool). found c m (tokens (drop (n .at) s))) (sym e);
+        gives = sym h ∙ at-end readVector (byte 0x7D) gapOf storedGap t m (tokens (drop (n .at) s)) stop ∙
+            ap (λ (c : Bool). found c m (tokens (drop (n .at) s))) (sym e);
         onward = onward;
         inside = within .inside;
       }
@@ -197,7 +216,8 @@ module _ (s : List ℕ) (at : ℕ) (t : Step) (stepped : Stepped s at t) where
         moved = record { onward = λ _. j; inside = λ _. parts .inside };
       }
 
-  pub list-empty : isEmpty (t .kind) ≡ true → (g : Gaps) → g ≡ loadedGaps [] → GapsAt s at (record { spelt = true; gaps = g; next = t .next })
+  pub list-empty : isEmpty (t .kind) ≡ true → (g : Gaps) → g ≡ loadedGaps [] →
+      GapsAt s at (record { spelt = true; gaps = g; next = t .next })
   list-empty h g e =
       let l : at < t .next .at = subst (λ (k : Kind). Beyond k at (t .next .at)) (is-empty (t .kind) h) (stepped .beyond) in
       record {
@@ -205,7 +225,8 @@ module _ (s : List ℕ) (at : ℕ) (t : Step) (stepped : Stepped s at t) where
         moved = record { onward = λ _. l; inside = stepped .inside };
       }
 
-  pub list-none : isEmpty (t .kind) ≡ false → isByte 0x7B (t .kind) ≡ false → (g : Gaps) → GapsAt s at (record { spelt = false; gaps = g; next = t .next })
+  pub list-none : isEmpty (t .kind) ≡ false → isByte 0x7B (t .kind) ≡ false → (g : Gaps) →
+      GapsAt s at (record { spelt = false; gaps = g; next = t .next })
   list-none h k g =
       record {
         gives = braces-none s at t stepped readVector loadedGaps h k;

@@ -49,7 +49,8 @@ module _ (B : List (List ℕ)) (j : ℕ) (h : j < length B) (k : j < GAPS) where
   pub kept-parts : partsAt (partsOfAll B) j ≡ partsOf (getD B j [])
   unfolding partsOfAll
   kept-parts =
-      block-at 0 partsOf COMPONENTS (λ (b : List ℕ). length-filled COMPONENTS 0 (map partOf b)) GAPS B j PARTS (COMPONENTS * j) [] refl (omega arith) h k
+      block-at 0 partsOf COMPONENTS (λ (b : List ℕ). length-filled COMPONENTS 0 (map partOf b)) GAPS B j PARTS
+      (COMPONENTS * j) [] refl (omega arith) h k
 
   pub kept-width : getD (widthsOf B) j 0 ≡ partOf (length (getD B j []))
   unfolding widthsOf

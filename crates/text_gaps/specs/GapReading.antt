@@ -86,6 +86,7 @@ pub record PartsAt (s : List ℕ) (at : ℕ) (r : GapRead) : Type 0 where
   pub inside : r .next .at ≤ length s
 
 pub record VectorsAt (s : List ℕ) (at : ℕ) (r : GapsRead) : Type 0 where
-  pub gives : kept loadedGaps (items readVector (byte 0x7D) (tokens (drop at s))) ≡ found (r .spelt) (r .gaps) (tokens (drop (r .next .at) s))
+  pub gives : kept loadedGaps (items readVector (byte 0x7D) (tokens (drop at s))) ≡
+      found (r .spelt) (r .gaps) (tokens (drop (r .next .at) s))
   pub onward : at ≤ r .next .at
   pub inside : r .next .at ≤ length s

@@ -27,7 +27,8 @@ ghost use Rattle.text_grammar.specs.Tokens.{run};
 ghost use Rattle.text_gaps.specs.GapMemory.{partOf, gapOf};
 ghost use Rattle.text_gaps.specs.PartReading.{NumberAt, GapAt, GapsAt, loadedGaps};
 ghost use Rattle.text_gaps.specs.GapReading.{noNumber, Numbered, DigitOf};
-ghost use Rattle.text_gaps.specs.GapReading.{storedPart, storedGap, GapReady, GapAdvanced, PartsAt, GapsReady, GapsAdvanced, VectorsAt};
+ghost use Rattle.text_gaps.specs.GapReading.{storedPart, storedGap, GapReady, GapAdvanced, PartsAt};
+ghost use Rattle.text_gaps.specs.GapReading.{GapsReady, GapsAdvanced, VectorsAt};
 
 // The number that a run of digits spells.
 pub struct Numeral {

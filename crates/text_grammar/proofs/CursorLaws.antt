@@ -29,7 +29,8 @@ pub begins-next : (m s : List ℕ) (i : ℕ) → i < length m → i < length s �
     → begins (drop i m) (drop i s) ≡ begins (drop (i + 1) m) (drop (i + 1) s)
 begins-next m s i h k e = rw (add-one, drop-cons m i 0 h, drop-cons s i 0 k, eq-eqb (getD s i 0) (getD m i 0) e)
 
-pub begins-other : (m s : List ℕ) (i : ℕ) → i < length m → i < length s → (getD s i 0 ≡ getD m i 0 → ⊥) → begins (drop i m) (drop i s) ≡ false
+pub begins-other : (m s : List ℕ) (i : ℕ) → i < length m → i < length s → (getD s i 0 ≡ getD m i 0 → ⊥) →
+    begins (drop i m) (drop i s) ≡ false
 begins-other m s i h k e = rw (drop-cons m i 0 h, drop-cons s i 0 k, ne-eqb (getD s i 0) (getD m i 0) e)
 
 pub begins-short : (m s : List ℕ) (i : ℕ) → i < length m → length s ≤ i → begins (drop i m) (drop i s) ≡ false
@@ -76,10 +77,12 @@ space-next s i h e = rw (add-one, drop-cons s i 0 h, e) (tokens-space (drop (suc
 
 -- a run of digits
 
-pub run-next : (s : List ℕ) (i : ℕ) → i < length s → isDigit (getD s i 0) ≡ true → run (drop i s) ≡ (getD s i 0 - 0x30) ∷ run (drop (suc i) s)
+pub run-next : (s : List ℕ) (i : ℕ) → i < length s → isDigit (getD s i 0) ≡ true → run (drop i s) ≡
+    (getD s i 0 - 0x30) ∷ run (drop (suc i) s)
 run-next s i h e = rw (drop-cons s i 0 h, e)
 
-pub run-past : (s : List ℕ) (i : ℕ) → i < length s → isDigit (getD s i 0) ≡ true → i + length (run (drop i s)) ≡ i + 1 + length (run (drop (i + 1) s))
+pub run-past : (s : List ℕ) (i : ℕ) → i < length s → isDigit (getD s i 0) ≡ true → i + length (run (drop i s)) ≡
+    i + 1 + length (run (drop (i + 1) s))
 run-past s i h e = rw (add-one, run-next s i h e) (omega arith)
 
 pub run-stop : (s : List ℕ) (i : ℕ) → i < length s → isDigit (getD s i 0) ≡ false → i + length (run (drop i s)) ≡ i
@@ -90,7 +93,8 @@ run-end s i h = rw (drop-of-length-le s h) (omega arith)
 
 run-short : (s : List ℕ) → length (run s) ≤ length s
 run-short [] = omega arith
-run-short (x ∷ s) = on-cond (λ (r : List ℕ). length r ≤ suc (length s)) (isDigit x) ((x - 0x30) ∷ run s) [] (λ _. let k = run-short s in omega arith) (λ _. omega arith)
+run-short (x ∷ s) = on-cond (λ (r : List ℕ). length r ≤ suc (length s)) (isDigit x) ((x - 0x30) ∷ run s) []
+    (λ _. let k = run-short s in omega arith) (λ _. omega arith)
 
 -- the first token
 
@@ -110,25 +114,58 @@ module _ (x : ℕ) (t : List ℕ) (space : x ≡ 0x20 → ⊥) where
     at-byte : begins (bytesOf epsilon) (x ∷ t) ≡ false → begins (bytesOf empty) (x ∷ t) ≡ false → begins (bytesOf left) (x ∷ t) ≡ false
         → begins (bytesOf right) (x ∷ t) ≡ false → Marked x t (Byte x)
     unfolding tokenAt
-    at-byte a b c d = record { gives = front (byte x) (simp (other, a, b, c, d)); long = omega arith; wide = λ _ _ h. h; span = λ _. refl; some = omega arith }
+    at-byte a b c d = record {
+      gives = front (byte x) (simp (other, a, b, c, d));
+      long = omega arith;
+      wide =
+          λ _ _ h. h;
+      span = λ _. refl;
+      some = omega arith;
+    }
 
     at-right : begins (bytesOf epsilon) (x ∷ t) ≡ false → begins (bytesOf empty) (x ∷ t) ≡ false → begins (bytesOf left) (x ∷ t) ≡ false
         → begins (bytesOf right) (x ∷ t) ≡ true → Marked x t Right
     unfolding tokenAt
     at-right a b c d =
-        record { gives = front right (simp (other, a, b, c, d)); long = begins-long (bytesOf right) (x ∷ t) d; wide = λ _ _ h. h; span = λ _. refl; some = omega arith }
+        record {
+          gives = front right (simp (other, a, b, c, d));
+          long = begins-long (bytesOf right) (x ∷ t) d;
+          wide = λ _ _ h. h;
+          span = λ _. refl;
+          some = omega arith;
+        }
 
-    at-left : begins (bytesOf epsilon) (x ∷ t) ≡ false → begins (bytesOf empty) (x ∷ t) ≡ false → begins (bytesOf left) (x ∷ t) ≡ true → Marked x t Left
+    at-left : begins (bytesOf epsilon) (x ∷ t) ≡ false → begins (bytesOf empty) (x ∷ t) ≡ false →
+        begins (bytesOf left) (x ∷ t) ≡ true → Marked x t Left
     unfolding tokenAt
-    at-left a b c = record { gives = front left (simp (other, a, b, c)); long = begins-long (bytesOf left) (x ∷ t) c; wide = λ _ _ h. h; span = λ _. refl; some = omega arith }
+    at-left a b c = record {
+      gives = front left (simp (other, a, b, c));
+      long = begins-long (bytesOf left) (x ∷ t)
+          c;
+      wide = λ _ _ h. h;
+      span = λ _. refl;
+      some = omega arith;
+    }
 
     at-empty : begins (bytesOf epsilon) (x ∷ t) ≡ false → begins (bytesOf empty) (x ∷ t) ≡ true → Marked x t Empty
     unfolding tokenAt
-    at-empty a b = record { gives = front empty (simp (other, a, b)); long = begins-long (bytesOf empty) (x ∷ t) b; wide = λ _ _ h. h; span = λ _. refl; some = omega arith }
+    at-empty a b = record {
+      gives = front empty (simp (other, a, b));
+      long = begins-long (bytesOf empty) (x ∷ t) b;
+      wide = λ _ _ h. h;
+      span = λ _. refl;
+      some = omega arith;
+    }
 
     at-epsilon : begins (bytesOf epsilon) (x ∷ t) ≡ true → Marked x t Epsilon
     unfolding tokenAt
-    at-epsilon a = record { gives = front epsilon (simp (other, a)); long = begins-long (bytesOf epsilon) (x ∷ t) a; wide = λ _ _ h. h; span = λ _. refl; some = omega arith }
+    at-epsilon a = record {
+      gives = front epsilon (simp (other, a));
+      long = begins-long (bytesOf epsilon) (x ∷ t) a;
+      wide = λ _ _ h. h;
+      span = λ _. refl;
+      some = omega arith;
+    }
 
     marked : Marked x t (markOf x (x ∷ t))
     unfolding markOf
@@ -169,23 +206,27 @@ module _ (s : List ℕ) (at a : ℕ) (passed : Passed s at a) where
       let all = run-short (drop a s) in
       let on = passed .onward in
       record {
-        gives = passed .same ∙ f ∙ ap (λ (v : List ℕ). digits (run (drop a s)) ∷ tokens v) (drop-drop (length (run (drop a s))) a s ∙ ap (λ (i : ℕ). drop i s) (sym q));
+        gives = passed .same ∙ f ∙ ap (λ (v : List ℕ). digits (run (drop a s)) ∷ tokens v)
+            (drop-drop (length (run (drop a s))) a s ∙ ap (λ (i : ℕ). drop i s) (sym q));
         onward = passed .onward;
         span = q;
         beyond = omega arith;
         inside = λ _. omega (arith, length-drop a s);
       }
 
-  mark-at : (k : Kind) → a < length s → isDigit (getD s a 0) ≡ false → k ≡ markOf (getD s a 0) (drop a s) → Marked (getD s a 0) (drop (suc a) s) k
+  mark-at : (k : Kind) → a < length s → isDigit (getD s a 0) ≡ false → k ≡ markOf (getD s a 0) (drop a s) →
+      Marked (getD s a 0) (drop (suc a) s) k
   mark-at k h e q =
-      subst (λ (j : Kind). Marked (getD s a 0) (drop (suc a) s) j) (ap (λ (u : List ℕ). markOf (getD s a 0) u) (sym (drop-cons s a 0 h)) ∙ sym q)
+      subst (λ (j : Kind). Marked (getD s a 0) (drop (suc a) s) j)
+      (ap (λ (u : List ℕ). markOf (getD s a 0) u) (sym (drop-cons s a 0 h)) ∙ sym q)
       (marked (getD s a 0) (drop (suc a) s) (passed .stopped h) e)
 
   -- a mark ends within the text
   pub mark-inside : (k : Kind) → a < length s → isDigit (getD s a 0) ≡ false → k ≡ markOf (getD s a 0) (drop a s) → a + widthOf k ≤ length s
   mark-inside k h e q = let long = mark-at k h e q .long in omega (arith, length-drop (suc a) s)
 
-  pub stepped-mark : (k : Kind) (n : ℕ) → a < length s → isDigit (getD s a 0) ≡ false → k ≡ markOf (getD s a 0) (drop a s) → n ≡ a + widthOf k
+  pub stepped-mark : (k : Kind) (n : ℕ) → a < length s → isDigit (getD s a 0) ≡ false → k ≡
+      markOf (getD s a 0) (drop a s) → n ≡ a + widthOf k
       → Stepped s at (record { kind = k; from = a; next = record { at = n } })
   stepped-mark k n h e q p =
       let x = getD s a 0 in

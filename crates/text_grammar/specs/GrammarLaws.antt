@@ -13,12 +13,16 @@ use borrow.Author.Tests.{leb-true, eqb-true, le-leb, eq-eqb, ne-eqb, lt-ltb, le-
 use Rattle.word.specs.Lists.{all}
 use Rattle.word.specs.ListLaws.{and-left, and-right, and-in, below-or-not}
 use Rattle.forms.specs.SchemeList.{Does, expands, deletes, EntryList}
-use Rattle.text_grammar.specs.Spelling.{Token, digits, epsilon, empty, left, right, byte, comma, separated, braced, permPiece, patternPieces, numeral}
-use Rattle.text_grammar.specs.Spelling.{vectorPieces, rulePieces, entryPieces, schemePieces, digitRun, writableVector, writableRule, writableEntry}
+use Rattle.text_grammar.specs.Spelling.{Token, digits, epsilon, empty, left, right, byte, comma, separated}
+use Rattle.text_grammar.specs.Spelling.{braced, permPiece, patternPieces, numeral}
+use Rattle.text_grammar.specs.Spelling.{vectorPieces, rulePieces, entryPieces, schemePieces, digitRun}
+use Rattle.text_grammar.specs.Spelling.{writableVector, writableRule, writableEntry}
 use Rattle.text_grammar.specs.Tokens.{isRun}
 use Rattle.text_grammar.specs.TokenLaws.{on-cond}
-use Rattle.text_grammar.specs.Grammar.{Read, misspelt, got, after, code, same, fail, pick, expect, either, follow, itemsOf, items, inBraces}
-use Rattle.text_grammar.specs.Grammar.{readPerm, numberOf, given, readNumber, readVector, readRule, afterGaps, afterPrefix, readEntry, whole}
+use Rattle.text_grammar.specs.Grammar.{Read, misspelt, got, after, code, same, fail, pick, expect, either}
+use Rattle.text_grammar.specs.Grammar.{follow, itemsOf, items, inBraces}
+use Rattle.text_grammar.specs.Grammar.{readPerm, numberOf, given, readNumber, readVector, readRule}
+use Rattle.text_grammar.specs.Grammar.{afterGaps, afterPrefix, readEntry, whole}
 use Rattle.text_grammar.specs.Grammar.{readPatterns, readEntries}
 
 -- marks
@@ -71,7 +75,8 @@ module _ {A : Type 0} where
     pub sound : (ts : List Token) → Sound pieces fine ts (read ts)
 
   -- what holds of misspelt, and of what is read after a mark
-  pub on-pick : (P : Read A → Type 0) (b : Bool) (f g : List Token → Read A) (r : List Token) → (b ≡ true → P (f r)) → (b ≡ false → P (g r)) → P (pick b f g r)
+  pub on-pick : (P : Read A → Type 0) (b : Bool) (f g : List Token → Read A) (r : List Token) →
+      (b ≡ true → P (f r)) → (b ≡ false → P (g r)) → P (pick b f g r)
   on-pick P true f g r p q = p refl
   on-pick P false f g r p q = q refl
 
@@ -81,7 +86,8 @@ module _ {A : Type 0} where
   on-expect P m t h f (u ∷ r) k =
       on-pick P (same t u) f fail r (λ e. k r (ap (λ (v : Token). v ∷ r) (same-out t u h e))) (λ _. m)
 
-  pub on-either : (P : Read A → Type 0) → P misspelt → (t u : Token) → isRun t ≡ false → isRun u ≡ false → (f g : List Token → Read A) (ts : List Token)
+  pub on-either : (P : Read A → Type 0) → P misspelt → (t u : Token) → isRun t ≡ false → isRun u ≡ false →
+      (f g : List Token → Read A) (ts : List Token)
       → ((r : List Token) → ts ≡ t ∷ r → P (f r)) → ((r : List Token) → ts ≡ u ∷ r → P (g r)) → P (either t f u g ts)
   on-either P m t u h i f g [] k l = m
   on-either P m t u h i f g (v ∷ r) k l =
@@ -89,7 +95,8 @@ module _ {A : Type 0} where
       (λ _. on-pick P (same u v) g fail r (λ e. l r (ap (λ (v : Token). v ∷ r) (same-out u v i e))) (λ _. m))
 
 module _ {A B : Type 0} where
-  pub on-after : (P : Read B → Type 0) → P misspelt → (pieces : A → List Token) (fine : A → Bool) (ts : List Token) (m : Read A) → Sound pieces fine ts m
+  pub on-after : (P : Read B → Type 0) → P misspelt →
+      (pieces : A → List Token) (fine : A → Bool) (ts : List Token) (m : Read A) → Sound pieces fine ts m
       → (f : A → List Token → Read B) → ((x : A) (r : List Token) → ts ≡ pieces x ++ r → fine x ≡ true → P (f x r)) → P (after m f)
   on-after P z pieces fine ts misspelt s f k = z
   on-after P z pieces fine ts (got x r) s f k = k x r (s .0) (s .1)
@@ -235,7 +242,8 @@ module _ {A : Type 0} (read : List Token → Read A) (pieces : A → List Token)
   pub braces-read : Reads (inBraces read) (λ l. braced (map pieces l)) (all fine)
   braces-read = record {
     finds = braces-finds;
-    sound = λ ts. on-either (Sound (λ l. braced (map pieces l)) (all fine) ts) tt empty (byte 0x7B) refl refl (got []) (items read (byte 0x7D)) ts
+    sound = λ ts. on-either (Sound (λ l. braced (map pieces l)) (all fine) ts) tt empty (byte 0x7B) refl refl
+        (got []) (items read (byte 0x7D)) ts
         (λ r e. (e, refl)) (λ r e. braces-sound ts r (items read (byte 0x7D) r) (items-reads (byte 0x7D) refl refl .sound r) e);
   }
 
@@ -250,7 +258,8 @@ perm-sound [] = tt
 perm-sound (epsilon ∷ r) = (refl, refl)
 perm-sound (digits [] ∷ r) = tt
 perm-sound (digits (d ∷ u) ∷ r) =
-    on-cond (Sound (λ p. permPiece p ∷ []) digitRun (digits (d ∷ u) ∷ r)) (digitRun (d ∷ u)) (got (d ∷ u) r) misspelt (λ e. (refl, e)) (λ _. tt)
+    on-cond (Sound (λ p. permPiece p ∷ []) digitRun (digits (d ∷ u) ∷ r)) (digitRun (d ∷ u)) (got (d ∷ u) r)
+    misspelt (λ e. (refl, e)) (λ _. tt)
 perm-sound (empty ∷ r) = tt
 perm-sound (left ∷ r) = tt
 perm-sound (right ∷ r) = tt
@@ -287,7 +296,9 @@ number-finds n h = go (leb-true n 999 h) (below-or-not n 10) (below-or-not n 100
         ap numberOf (numeral-two n p q) ∙ two-digits (n / 10) (n % 10) (omega arith) (omega arith) (omega arith) ∙ ap some v
     go m (inr p) (inr q) =
         let v : (n / 100 * 10 + n / 10 % 10) * 10 + n % 10 ≡ n = omega arith in
-        ap numberOf (numeral-three n q) ∙ three-digits (n / 100) (n / 10 % 10) (n % 10) (omega arith) (omega arith) (omega arith) (omega arith) ∙ ap some v
+        ap numberOf (numeral-three n q) ∙
+        three-digits (n / 100) (n / 10 % 10) (n % 10) (omega arith) (omega arith) (omega arith) (omega arith) ∙
+        ap some v
 
 -- what a run is read as has this run for its numeral
 abbrev Numbers : List ℕ → Option ℕ → Type 0
@@ -322,7 +333,8 @@ three-sound a b c h =
     let p : a ≡ ((a * 10 + b) * 10 + c) / 100 = omega arith in
     let q : b ≡ ((a * 10 + b) * 10 + c) / 10 % 10 = omega arith in
     let v : c ≡ ((a * 10 + b) * 10 + c) % 10 = omega arith in (
-      ap₂ (λ (x y : ℕ). x ∷ (y ∷ (c ∷ []))) p q ∙ ap (λ (z : ℕ). ((a * 10 + b) * 10 + c) / 100 ∷ (((a * 10 + b) * 10 + c) / 10 % 10 ∷ (z ∷ []))) v
+      ap₂ (λ (x y : ℕ). x ∷ (y ∷ (c ∷ []))) p q ∙
+          ap (λ (z : ℕ). ((a * 10 + b) * 10 + c) / 100 ∷ (((a * 10 + b) * 10 + c) / 10 % 10 ∷ (z ∷ []))) v
           ∙ sym (numeral-three ((a * 10 + b) * 10 + c) (omega arith)),
       le-leb ((a * 10 + b) * 10 + c) 999 (omega arith),
     )
@@ -333,7 +345,8 @@ run-sound (a ∷ []) = on-cond (Numbers (a ∷ [])) (leb a 9) (some a) none (one
 run-sound (a ∷ (b ∷ [])) =
     on-cond (Numbers (a ∷ (b ∷ []))) (leb 1 a && digitRun (a ∷ (b ∷ []))) (some (a * 10 + b)) none (two-sound a b) (λ _. tt)
 run-sound (a ∷ (b ∷ (c ∷ []))) =
-    on-cond (Numbers (a ∷ (b ∷ (c ∷ [])))) (leb 1 a && digitRun (a ∷ (b ∷ (c ∷ [])))) (some ((a * 10 + b) * 10 + c)) none (three-sound a b c) (λ _. tt)
+    on-cond (Numbers (a ∷ (b ∷ (c ∷ [])))) (leb 1 a && digitRun (a ∷ (b ∷ (c ∷ [])))) (some ((a * 10 + b) * 10 + c))
+    none (three-sound a b c) (λ _. tt)
 run-sound (a ∷ (b ∷ (c ∷ (d ∷ u)))) = tt
 
 abbrev numberPieces : ℕ → List Token
@@ -407,7 +420,8 @@ entry-finds e r h =
     let k = and-right (digitRun (e .prefix)) (all writableVector (e .gaps) && writableRule (e .rule)) h in
     ap readEntry (entry-shape e r)
     ∙ parts (and-left (digitRun (e .prefix)) (all writableVector (e .gaps) && writableRule (e .rule)) h)
-    (and-left (all writableVector (e .gaps)) (writableRule (e .rule)) k) (and-right (all writableVector (e .gaps)) (writableRule (e .rule)) k)
+    (and-left (all writableVector (e .gaps)) (writableRule (e .rule)) k)
+    (and-right (all writableVector (e .gaps)) (writableRule (e .rule)) k)
   where
     parts : digitRun (e .prefix) ≡ true → all writableVector (e .gaps) ≡ true → writableRule (e .rule) ≡ true
         → readEntry (inEntry (e .prefix) (e .gaps) (e .rule) r) ≡ got e r
@@ -415,7 +429,8 @@ entry-finds e r h =
 
 -- the parts that are found one after the other
 entry-joined : (p : List ℕ) (g : List (List ℕ)) (m : Does) (ts a b c d f q r : List Token)
-    → ts ≡ byte 0x28 ∷ a → a ≡ permPiece p ∷ b → b ≡ comma ∷ c → c ≡ braced (map vectorPieces g) ++ d → d ≡ comma ∷ f → f ≡ rulePieces m ++ q
+    → ts ≡ byte 0x28 ∷ a → a ≡ permPiece p ∷ b → b ≡ comma ∷ c → c ≡ braced (map vectorPieces g) ++ d → d ≡
+    comma ∷ f → f ≡ rulePieces m ++ q
     → q ≡ byte 0x29 ∷ r → ts ≡ inEntry p g m r
 entry-joined p g m ts a b c d f q r e1 e2 e3 e4 e5 e6 e7 = cc
 
@@ -460,7 +475,8 @@ unfolding readPatterns
 patterns-read ts P =
     whole-read (inBraces readPerm) patternPieces (all digitRun) (braces-read readPerm (λ p. permPiece p ∷ []) digitRun perm-read) ts P
 
-pub entries-read : (ts : List Token) (E : List EntryList) → (readEntries ts ≡ some E) ↔ ((ts ≡ schemePieces E) × (all writableEntry E ≡ true))
+pub entries-read : (ts : List Token) (E : List EntryList) →
+    (readEntries ts ≡ some E) ↔ ((ts ≡ schemePieces E) × (all writableEntry E ≡ true))
 unfolding readEntries
 entries-read ts E =
     whole-read (inBraces readEntry) schemePieces (all writableEntry) (braces-read readEntry entryPieces writableEntry entry-read) ts E

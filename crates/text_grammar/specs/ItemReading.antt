@@ -82,7 +82,8 @@ pub record Ready (s : List ℕ) (t : Turn) (count at : ℕ) : Type 0 where
   pub goes : goesOn t ≡ true
 
 -- from the place `at` to the place `next` with one item more
-pub record Advanced {B : Type 0} (view : Turn → B → List Token → Read B) (s : List ℕ) (t : Turn) (m : B) (at : ℕ) (u : Turn) (n : B) (count next : ℕ) : Type 0 where
+pub record Advanced {B : Type 0} (view : Turn → B → List Token → Read B) (s : List ℕ) (t : Turn) (m : B) (at : ℕ)
+    (u : Turn) (n : B) (count next : ℕ) : Type 0 where
   pub same : view t m (tokens (drop at s)) ≡ view u n (tokens (drop next s))
   pub within : Within s count next
   pub onward : at ≤ next

@@ -7,7 +7,7 @@ use lib.Dec.{eqb}
 use borrow.Author.Tests.{eqb-true}
 use Rattle.text_grammar.specs.declared.cursor.Kind.{Kind}
 use Rattle.text_grammar.specs.declared.cursor.Kind.the-variants.{End, Digits, Epsilon, Empty, Left, Right, Byte}
-use Rattle.text_grammar.specs.Kinds.{codeOf, isDigits, isEpsilon, isEmpty, isLeft, isByte}
+use Rattle.text_grammar.specs.Kinds.{isEnd, codeOf, isDigits, isEpsilon, isEmpty, isLeft, isByte}
 
 -- the kind with a code
 abbrev kindBy : ℕ → Kind

@@ -71,7 +71,9 @@ rulePieces (deletes r) = byte 0x7B ∷ (digits (numeral r) ∷ (byte 0x7D ∷ []
 -- `(1,{⟨0,1⟩},{1})`
 abbrev pub entryPieces : EntryList → List Token
 entryPieces e =
-    byte 0x28 ∷ (permPiece (e .prefix) ∷ (comma ∷ (braced (map vectorPieces (e .gaps)) ++ (comma ∷ (rulePieces (e .rule) ++ (byte 0x29 ∷ []))))))
+    byte 0x28 ∷ (permPiece
+    (e .prefix) ∷ (comma ∷ (braced (map vectorPieces
+    (e .gaps)) ++ (comma ∷ (rulePieces (e .rule) ++ (byte 0x29 ∷ []))))))
 
 -- "`{(ε,∅,∅),(1,{⟨0,1⟩},{1})}`" (01)
 abbrev pub schemePieces : List EntryList → List Token

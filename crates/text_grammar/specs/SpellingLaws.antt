@@ -13,7 +13,8 @@ use Rattle.word.specs.Lists.{all, each}
 use Rattle.word.specs.ListLaws.{and-left, and-right, and-in, below-or-not}
 use Rattle.forms.specs.SchemeList.{Does, expands, deletes, EntryList}
 use Rattle.text_grammar.specs.Spelling.{Token, digits, epsilon, empty, left, right, byte, bytesOf, Holds, done, next}
-use Rattle.text_grammar.specs.Spelling.{comma, separated, braced, permPiece, patternPieces, numeral, vectorPieces, rulePieces, entryPieces, schemePieces}
+use Rattle.text_grammar.specs.Spelling.{comma, separated, braced, permPiece, patternPieces, numeral}
+use Rattle.text_grammar.specs.Spelling.{vectorPieces, rulePieces, entryPieces, schemePieces}
 use Rattle.text_grammar.specs.Spelling.{digitRun, writableVector, writableRule, writableEntry, SpellsPatterns, SpellsScheme}
 use Rattle.text_grammar.specs.Spelling.{writtenPatterns, writtenScheme, spaceless}
 use Rattle.text_grammar.specs.Tokens.{tokens, proper, isRun, apart}
@@ -34,7 +35,11 @@ not-with true b h = ap not h
 not-with false b h = refl
 
 clear-one : (t : Token) → proper t ≡ true → Clear (t ∷ [])
-clear-one t h = record { fit = and-in (proper t) true h refl; kept = and-in (not (isRun t && false)) true (not-with (isRun t) false refl) refl }
+clear-one t h = record {
+  fit = and-in (proper t) true h refl;
+  kept = and-in (not (isRun t && false)) true
+      (not-with (isRun t) false refl) refl;
+}
 
 -- a mark in front
 clear-mark : (t : Token) (ts : List Token) → isRun t ≡ false → proper t ≡ true → Clear ts → Clear (t ∷ ts)
@@ -56,7 +61,8 @@ clear-join (u ∷ (v ∷ l)) t ts n h c d =
     }) d in
     record {
       fit = and-in (proper u) (all proper (v ∷ (l ++ (t ∷ ts)))) (and-left (proper u) (all proper (v ∷ l)) (c .fit)) (k .fit);
-      kept = and-in (not (isRun u && isRun v)) (apart (v ∷ (l ++ (t ∷ ts)))) (and-left (not (isRun u && isRun v)) (apart (v ∷ l)) (c .kept)) (k .kept);
+      kept = and-in (not (isRun u && isRun v)) (apart (v ∷ (l ++ (t ∷ ts))))
+          (and-left (not (isRun u && isRun v)) (apart (v ∷ l)) (c .kept)) (k .kept);
     }
 
 module _ {A : Type 0} (pieces : A → List Token) (fine : A → Bool) (h : (x : A) → fine x ≡ true → Clear (pieces x)) where
@@ -70,7 +76,8 @@ module _ {A : Type 0} (pieces : A → List Token) (fine : A → Bool) (h : (x : 
   clear-braced : (l : List A) → all fine l ≡ true → Clear (braced (map pieces l))
   clear-braced [] p = clear-one empty refl
   clear-braced (x ∷ l) p =
-      clear-mark (byte 0x7B) _ refl refl (clear-join (separated (map pieces (x ∷ l))) (byte 0x7D) [] refl refl (clear-separated (x ∷ l) p) clear-nil)
+      clear-mark (byte 0x7B) _ refl refl (clear-join (separated (map pieces (x ∷ l))) (byte 0x7D) [] refl refl
+      (clear-separated (x ∷ l) p) clear-nil)
 
 clear-perm : (p : List ℕ) → digitRun p ≡ true → Clear (permPiece p ∷ [])
 clear-perm [] h = clear-one epsilon refl
@@ -95,7 +102,8 @@ clear-vector : (b : List ℕ) → writableVector b ≡ true → Clear (vectorPie
 clear-vector b h =
     clear-mark left _ refl refl
     (clear-join (separated (map (λ n. digits (numeral n) ∷ []) b)) right [] refl refl
-    (clear-separated (λ n. digits (numeral n) ∷ []) (λ n. leb n 999) clear-number b (and-right (not (eqb (length b) 0)) (all (λ n. leb n 999) b) h)) clear-nil)
+    (clear-separated (λ n. digits (numeral n) ∷ []) (λ n. leb n 999) clear-number b
+    (and-right (not (eqb (length b) 0)) (all (λ n. leb n 999) b) h)) clear-nil)
 
 clear-rule : (m : Does) → writableRule m ≡ true → Clear (rulePieces m)
 clear-rule expands h = clear-one empty refl

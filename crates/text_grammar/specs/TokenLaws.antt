@@ -12,7 +12,8 @@ use borrow.Author.Tests.{leb-true, eqb-true, eqb-false, le-leb, ne-eqb, not-true
 use Rattle.word.specs.Lists.{all}
 use Rattle.word.specs.ListLaws.{and-left, and-right, and-in}
 use Rattle.text_grammar.specs.Spelling.{Token, digits, epsilon, empty, left, right, byte, bytesOf, digitRun, Holds, done, next}
-use Rattle.text_grammar.specs.Tokens.{isDigit, run, begins, tokenAt, more, skipAt, placed, tokensAfter, tokens, proper, isRun, startsRun, apart}
+use Rattle.text_grammar.specs.Tokens.{isDigit, run, begins, tokenAt, more, skipAt, placed, tokensAfter}
+use Rattle.text_grammar.specs.Tokens.{tokens, proper, isRun, startsRun, apart}
 
 -- what holds of both parts of a choice, each where it is taken
 pub on-cond : {A : Type 0} (P : A → Type 0) (b : Bool) (t u : A) → (b ≡ true → P t) → (b ≡ false → P u) → P (cond b t u)
@@ -71,7 +72,8 @@ run-digits (x ∷ s) =
 begins-out : (l s : List ℕ) → begins l s ≡ true → s ≡ l ++ drop (length l) s
 begins-out [] s h = refl
 begins-out (a ∷ l) [] h = absurd (false≢true h)
-begins-out (a ∷ l) (x ∷ s) h = ap₂ _∷_ (eqb-true x a (and-left (eqb x a) (begins l s) h)) (begins-out l s (and-right (eqb x a) (begins l s) h))
+begins-out (a ∷ l) (x ∷ s) h = ap₂ _∷_ (eqb-true x a (and-left (eqb x a) (begins l s) h))
+    (begins-out l s (and-right (eqb x a) (begins l s) h))
 
 -- the bytes of t are the front of the text
 abbrev Front : ℕ → List ℕ → Token → Type 0
@@ -121,7 +123,8 @@ holds-after zero (x ∷ s) = step (eqb x 0x20) refl (holds-after (skipAt x s) s)
         → Holds (placed b (tokenAt x s) (tokensAfter (cond b 0 (more (tokenAt x s))) s)) (x ∷ s)
     step true e h = subst (λ (y : ℕ). Holds (tokensAfter 0 s) (y ∷ s)) (sym (eqb-true x 0x20 e)) (holds-space h)
     step false e h =
-        subst (λ (l : List ℕ). Holds (tokenAt x s ∷ tokensAfter (more (tokenAt x s)) s) l) (sym (token-bytes x s)) (next zero (tokenAt x s) h)
+        subst (λ (l : List ℕ). Holds (tokenAt x s ∷ tokensAfter (more (tokenAt x s)) s) l) (sym (token-bytes x s))
+        (next zero (tokenAt x s) h)
 
 pub holds-tokens : (s : List ℕ) → Holds (tokens s) s
 unfolding tokens
@@ -181,7 +184,8 @@ run-in (d ∷ u) s p h =
     rw (digit-byte d (and-left (leb d 9) (digitRun u) p))
     (ap₂ _∷_ (value-back d) (run-in u s (and-right (leb d 9) (digitRun u) p) h))
 
-token-run : (d : ℕ) (u s : List ℕ) → digitRun (d ∷ u) ≡ true → run s ≡ [] → tokenAt (0x30 + d) (map (λ (d : ℕ). 0x30 + d) u ++ s) ≡ digits (d ∷ u)
+token-run : (d : ℕ) (u s : List ℕ) → digitRun (d ∷ u) ≡ true → run s ≡ [] →
+    tokenAt (0x30 + d) (map (λ (d : ℕ). 0x30 + d) u ++ s) ≡ digits (d ∷ u)
 unfolding tokenAt
 token-run d u s p h =
     rw (digit-byte d (and-left (leb d 9) (digitRun u) p))
@@ -199,7 +203,8 @@ tokens-front : (t : Token) (s : List ℕ) → proper t ≡ true → (isRun t ≡
 unfolding tokenAt
 tokens-front (digits []) s p h = absurd (false≢true p)
 tokens-front (digits (d ∷ u)) s p h =
-    front-is (0x30 + d) (map (λ (d : ℕ). 0x30 + d) u ++ s) (digits (d ∷ u)) (λ (e : 0x30 + d ≡ 0x20). omega arith) (token-run d u s p (h refl))
+    front-is (0x30 + d) (map (λ (d : ℕ). 0x30 + d) u ++ s) (digits (d ∷ u)) (λ (e : 0x30 + d ≡ 0x20). omega arith)
+    (token-run d u s p (h refl))
     ∙ ap (λ (r : List ℕ). digits (d ∷ u) ∷ tokens r) (drop-at (map (λ (d : ℕ). 0x30 + d) u) s (length (map (λ (d : ℕ). 0x30 + d) u)) refl)
 tokens-front epsilon s p h = front-is 0xCE (0xB5 ∷ s) epsilon (λ (e : 0xCE ≡ 0x20). omega arith) refl
 tokens-front empty s p h = front-is 0xE2 (0x88 ∷ (0x85 ∷ s)) empty (λ (e : 0xE2 ≡ 0x20). omega arith) refl

@@ -29,7 +29,7 @@ tokenAt x s =
     (cond (begins (bytesOf empty) (x ∷ s)) empty
     (cond (begins (bytesOf left) (x ∷ s)) left (cond (begins (bytesOf right) (x ∷ s)) right (byte x)))))
 
--- one less
+-- one less, and 0 for 0
 abbrev pub less : ℕ → ℕ
 less zero = zero
 less (suc n) = n

@@ -48,7 +48,8 @@ digits-all : (f n : ℕ) → all isDigit (digitsOf f n) ≡ true
 unfolding digitsOf
 digits-all zero n = refl
 digits-all (suc f) zero = refl
-digits-all (suc f) (suc m) = all-append isDigit (digitsOf f (suc m / 10)) (last (suc m)) (digits-all f (suc m / 10)) (rw (last-digit (suc m)) refl)
+digits-all (suc f) (suc m) = all-append isDigit (digitsOf f (suc m / 10)) (last (suc m)) (digits-all f (suc m / 10))
+    (rw (last-digit (suc m)) refl)
 
 pub decimal-digits : (n : ℕ) → all isDigit (decimal n) ≡ true
 unfolding decimal

@@ -72,7 +72,8 @@ writes-byte w e = rw e at w
 
 -- two parts one after the other
 
-pub writes-join : {xs ys : List ℕ} {at mid next : ℕ} {t u w : List ℕ} → Writes xs at t u mid → Writes ys mid u w next → Writes (xs ++ ys) at t w next
+pub writes-join : {xs ys : List ℕ} {at mid next : ℕ} {t u w : List ℕ} → Writes xs at t u mid →
+    Writes ys mid u w next → Writes (xs ++ ys) at t w next
 writes-join {xs} {ys} {at} {mid} {next} {t} {u} {w} a b =
     record {
       moved = rw (length-append xs ys) (let p = a .moved in let q = b .moved in omega arith);
@@ -102,7 +103,8 @@ pub start-as : (total other : List ℕ) (at : ℕ) (t : List ℕ) → total ≡ 
 start-as total other at t e = rw e (start other at t)
 
 module _ {total : List ℕ} {at : ℕ} {before : List ℕ} where
-  pub step : {xs rest : List ℕ} {next after : ℕ} {t u : List ℕ} → ToCome total at before (xs ++ rest) next t → Writes xs next t u after → ToCome total at before rest after u
+  pub step : {xs rest : List ℕ} {next after : ℕ} {t u : List ℕ} → ToCome total at before (xs ++ rest) next t →
+      Writes xs next t u after → ToCome total at before rest after u
   step {xs} {rest} {next} {after} {t} {u} c w =
       record {
         place = c .place ∙ rw (length-append xs rest, w .moved) (omega arith);
@@ -110,7 +112,8 @@ module _ {total : List ℕ} {at : ℕ} {before : List ℕ} where
       }
 
   -- what is to come, in other words
-  pub again : {rest other : List ℕ} {next : ℕ} {t : List ℕ} → ToCome total at before rest next t → rest ≡ other → ToCome total at before other next t
+  pub again : {rest other : List ℕ} {next : ℕ} {t : List ℕ} → ToCome total at before rest next t → rest ≡ other →
+      ToCome total at before other next t
   again c e = rw e at c
 
   pub finish : {next : ℕ} {t : List ℕ} → ToCome total at before [] next t → Writes total at before t next
@@ -121,7 +124,8 @@ module _ {total : List ℕ} {at : ℕ} {before : List ℕ} where
       }
 
   -- the last part
-  pub finish-by : {xs : List ℕ} {next after : ℕ} {t u : List ℕ} → ToCome total at before xs next t → Writes xs next t u after → Writes total at before u after
+  pub finish-by : {xs : List ℕ} {next after : ℕ} {t u : List ℕ} → ToCome total at before xs next t →
+      Writes xs next t u after → Writes total at before u after
   finish-by {xs} {next} {after} {t} {u} c w =
       record {
         moved = let p = c .place in let q = w .moved in omega arith;
@@ -133,7 +137,8 @@ module _ {total : List ℕ} {at : ℕ} {before : List ℕ} where
   same-size {rest} {next} {t} c = sym (overlay-length next rest t) ∙ sym (ap length (c .same)) ∙ overlay-length at total before
 
   -- the room for the whole is room for each part
-  pub room-next : (xs other : List ℕ) {rest : List ℕ} {next : ℕ} {t : List ℕ} → Room total at → ToCome total at before rest next t → rest ≡ xs ++ other → Room xs next
+  pub room-next : (xs other : List ℕ) {rest : List ℕ} {next : ℕ} {t : List ℕ} → Room total at →
+      ToCome total at before rest next t → rest ≡ xs ++ other → Room xs next
   room-next xs other {rest} {next} r c e =
       let p = c .place in
       let q = r .fits in

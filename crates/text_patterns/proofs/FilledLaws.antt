@@ -68,7 +68,8 @@ module _ (t u d : List ℕ) (i : ℕ) (e : d ≡ sets t 0 (take i u)) where
   digits-full h = let k : length t ≤ 0 + i = omega arith in e ∙ sets-front t 0 u i k
 
 -- one element more, of a list whose elements are put into memory
-pub filled-more : {A B : Type 0} (n : ℕ) (z : B) (f : A → B) (l : List A) (x : A) → set (filled n z (map f l)) (length l) (f x) ≡ filled n z (map f (l ++ (x ∷ [])))
+pub filled-more : {A B : Type 0} (n : ℕ) (z : B) (f : A → B) (l : List A) (x : A) →
+    set (filled n z (map f l)) (length l) (f x) ≡ filled n z (map f (l ++ (x ∷ [])))
 filled-more {B = B} n z f l x =
     ap (λ (i : ℕ). set (filled n z (map f l)) i (f x)) (sym (length-map l f))
     ∙ set-filled n z (map f l) (f x)

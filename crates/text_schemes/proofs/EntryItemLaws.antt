@@ -53,11 +53,13 @@ entries ts = items readEntry (byte 0x7D) ts
 entries-step : (ts : List Token) → entries ts ≡ after (readEntry ts) (follow readEntry (byte 0x7D) entries)
 entries-step ts = items-step readEntry entryPieces writableEntry entry-read (byte 0x7D) refl refl ts
 
-onto-more : (m : Scheme) (a : EntryList) (r : Read (List EntryList)) → onto m (after r (λ l w. got (a ∷ l) w)) ≡ onto (storedEntry m (entryOf a)) r
+onto-more : (m : Scheme) (a : EntryList) (r : Read (List EntryList)) → onto m (after r (λ l w. got (a ∷ l) w)) ≡
+    onto (storedEntry m (entryOf a)) r
 onto-more m a misspelt = refl
 onto-more m a (got l w) = refl
 
-entry-missed : (m : Scheme) (ts ts1 : List Token) (e : Entry) → kept entryOf (readEntry ts) ≡ found false e ts1 → onto m (entries ts) ≡ misspelt
+entry-missed : (m : Scheme) (ts ts1 : List Token) (e : Entry) → kept entryOf (readEntry ts) ≡ found false e ts1 →
+    onto m (entries ts) ≡ misspelt
 entry-missed m ts ts1 e h = ap (onto m) (entries-step ts) ∙ by (see entryOf (readEntry ts) false e ts1 h)
   where
     by : Saw entryOf (readEntry ts) false e ts1 → onto m (after (readEntry ts) (follow readEntry (byte 0x7D) entries)) ≡ misspelt
@@ -69,7 +71,9 @@ entry-more : (m : Scheme) (ts ts1 ts2 : List Token) (e : Entry) (b f : Bool)
     → onto m (entries ts) ≡ goingOn (b && not f) b (storedEntry m e) ts2
 entry-more m ts ts1 ts2 e b f h k = ap (onto m) (entries-step ts) ∙ by (see entryOf (readEntry ts) true e ts1 h)
   where
-    behind : (a : EntryList) → (b f : Bool) → onto m (after (found b f ts2) (λ d q. pick d (got (a ∷ [])) (λ q. after (entries q) (λ l w. got (a ∷ l) w)) q))
+    behind : (a : EntryList) → (b f : Bool) →
+        onto m (after (found b f ts2) (λ d q. pick d (got (a ∷ [])) (λ q. after (entries q) (λ l w. got (a ∷ l) w))
+        q))
         ≡ goingOn (b && not f) b (storedEntry m (entryOf a)) ts2
     behind a false f = refl
     behind a true true = refl
@@ -92,23 +96,32 @@ spelt-on false q z = absurd (false≢true z)
 
 module _ (s : List ℕ) (e : EntryRead) (w : EntryAt s 0 e) (k : Choice) (c : ChoiceAt (byte 0x7D) comma s (e .next .at) k) where
   item-gives : (b : Bool) → e .spelt ≡ b → (m : Scheme)
-      → onto m (entries (tokens s)) ≡ goingOn (b && (k .spelt && not (k .first))) (b && k .spelt) (storedEntry m (e .entry)) (tokens (drop (k .next .at) s))
+      → onto m (entries (tokens s)) ≡ goingOn (b && (k .spelt && not (k .first))) (b && k .spelt)
+      (storedEntry m (e .entry)) (tokens (drop (k .next .at) s))
   item-gives true h m =
       entry-more m (tokens s) (tokens (drop (e .next .at) s)) (tokens (drop (k .next .at) s)) (e .entry) (k .spelt) (k .first)
       (w .gives ∙ ap (λ (b : Bool). found b (e .entry) (tokens (drop (e .next .at) s))) h) (c .gives)
   item-gives false h m =
-      entry-missed m (tokens s) (tokens (drop (e .next .at) s)) (e .entry) (w .gives ∙ ap (λ (b : Bool). found b (e .entry) (tokens (drop (e .next .at) s))) h)
+      entry-missed m (tokens s) (tokens (drop (e .next .at) s)) (e .entry)
+      (w .gives ∙ ap (λ (b : Bool). found b (e .entry) (tokens (drop (e .next .at) s))) h)
 
   item-onward : (e .spelt && (k .spelt && not (k .first))) ≡ true → 0 < k .next .at
   item-onward z =
       let i : 0 < e .next .at = w .moved .onward (and-left (e .spelt) (k .spelt && not (k .first)) z) in
-      let j : e .next .at < k .next .at = c .moved .onward (spelt-on (k .spelt) (k .first) (and-right (e .spelt) (k .spelt && not (k .first)) z)) in
+      let j : e .next .at < k .next .at =
+      c .moved .onward (spelt-on (k .spelt) (k .first) (and-right (e .spelt) (k .spelt && not (k .first)) z)) in
       omega arith
 
   pub item-read : (on more spelt : Bool) → on ≡ (k .spelt && not (k .first)) → more ≡ (e .spelt && on) → spelt ≡ (e .spelt && k .spelt)
       → ItemAt s (record { more = more; spelt = spelt; entry = e .entry; bytes = k .next .at })
   item-read on more spelt p q r =
-      rw (r, q, p) (record { gives = item-gives (e .spelt) refl; onward = item-onward; inside = c .moved .inside (w .moved .inside (omega arith)) })
+      rw (r, q, p)
+      (record {
+        gives = item-gives (e .spelt) refl;
+        onward = item-onward;
+        inside =
+            c .moved .inside (w .moved .inside (omega arith));
+      })
 
 -- what is left to read
 pub leftBy : Bool → ℕ → ℕ
@@ -160,7 +173,8 @@ module _ (s : List ℕ) (m : Scheme) (at : ℕ) (more spelt : Bool) (due : more 
   read-kept = subst (λ (x : Scheme). ReadTo s x (at + r .bytes) (r .more) (r .spelt)) (sym (entry-kept m (r .entry))) read-on
 
   pub read-counted : 128 ≤ m .count → ReadTo s (made (m .entries) (m .count + 1)) (at + r .bytes) (r .more) (r .spelt)
-  read-counted h = subst (λ (x : Scheme). ReadTo s x (at + r .bytes) (r .more) (r .spelt)) (sym (entry-counted m (r .entry) (let l = before .sized in omega arith))) read-on
+  read-counted h = subst (λ (x : Scheme). ReadTo s x (at + r .bytes) (r .more) (r .spelt))
+      (sym (entry-counted m (r .entry) (let l = before .sized in omega arith))) read-on
 
 -- no further entry is due
 pub at-last : (s : List ℕ) (m : Scheme) (at : ℕ) (more spelt : Bool) → more ≡ false → ReadTo s m at more spelt
@@ -195,7 +209,8 @@ abbrev text-with : Bool → Scheme → SchemeText
 text-with b m = record { spelt = b; scheme = m }
 
 -- what was read up to the place `at`, behind which the token t comes
-module _ (s : List ℕ) (m : Scheme) (at : ℕ) (spelt : Bool) (t : Step) (w : Stepped s at t) (a b : Bool) (e : a ≡ isEnd (t .kind)) (f : b ≡ (spelt && a)) where
+module _ (s : List ℕ) (m : Scheme) (at : ℕ) (spelt : Bool) (t : Step) (w : Stepped s at t) (a b : Bool)
+    (e : a ≡ isEnd (t .kind)) (f : b ≡ (spelt && a)) where
   ends : b ≡ (spelt && isEnd (t .kind))
   ends = f ∙ ap (λ (x : Bool). spelt && x) e
 
@@ -223,15 +238,24 @@ start-going false c ts = refl
 start-going true true ts = refl
 start-going true false ts = onto-none (entries ts)
 
-pub start-read : (s : List ℕ) (o : Choice) → ChoiceAt empty (byte 0x7B) s 0 o → (x : Scheme) (b : Bool) → x ≡ loadedScheme [] → b ≡ (o .spelt && not (o .first))
+pub start-read : (s : List ℕ) (o : Choice) → ChoiceAt empty (byte 0x7B) s 0 o → (x : Scheme) (b : Bool) → x ≡
+    loadedScheme [] → b ≡ (o .spelt && not (o .first))
     → ReadTo s x (o .next .at) b (o .spelt)
 unfolding loadedScheme
-start-read s o w x b e f = rw (f, e) (record { same = from-start; inside = w .moved .inside (omega arith); counted = none-counted; sized = length-filled 128 (entryOf plainEntry) [] })
+start-read s o w x b e f = rw (f, e)
+    (record {
+      same = from-start;
+      inside = w .moved .inside (omega arith);
+      counted = none-counted;
+      sized =
+          length-filled 128 (entryOf plainEntry) [];
+    })
   where
     none-counted : (o .spelt && not (o .first)) ≡ true → loadedScheme [] .count < o .next .at
     none-counted h = let k = w .moved .onward (spelt-on (o .spelt) (o .first) h) in omega arith
 
-    from-start : goingOn (o .spelt && not (o .first)) (o .spelt) (loadedScheme []) (tokens (drop (o .next .at) s)) ≡ kept loadedScheme (inBraces readEntry (tokens s))
+    from-start : goingOn (o .spelt && not (o .first)) (o .spelt) (loadedScheme []) (tokens (drop (o .next .at) s)) ≡
+        kept loadedScheme (inBraces readEntry (tokens s))
     from-start =
         start-going (o .spelt) (o .first) (tokens (drop (o .next .at) s))
         ∙ ap (λ (r : Read Bool). kept loadedScheme (after r (λ d q. pick d (got []) entries q))) (sym (w .gives))

@@ -32,13 +32,15 @@ use Rattle.text_schemes.specs.declared.scheme_reader.PrefixRead.{PrefixR
 use Rattle.text_grammar.specs.Spelling.{Token, digits, empty, byte, comma}
 use Rattle.text_grammar.specs.Tokens.{run, tokens}
 use Rattle.text_grammar.specs.Cursor.{Stepped, tokensBy}
-use Rattle.text_grammar.specs.Grammar.{Read, misspelt, got, after, same, fail, pick, expect, either, inBraces, readPerm, readNumber, readVector, readRule, afterGaps, readEntry}
+use Rattle.text_grammar.specs.Grammar.{Read, misspelt, got, after, same, fail, pick, expect, either, inBraces}
+use Rattle.text_grammar.specs.Grammar.{readPerm, readNumber, readVector, readRule, afterGaps, readEntry}
 use Rattle.text_patterns.specs.PatternMemory.{filled}
 use Rattle.text_schemes.specs.SchemeLoaded.{ruleOf, entryOf}
 use Rattle.text_grammar.specs.ItemReading.{found, kept, Moved}
 use Rattle.text_gaps.specs.PartReading.{loadedGaps, NumberAt, GapsAt}
 use Rattle.text_schemes.specs.SchemeReading.{RuleAt, EntryAt}
-use Rattle.text_schemes.specs.EntryReading.{MarkAt, ChoiceAt, prefixOf, readHead, readMiddle, readTail, PrefixAt, HeadAt, MiddleAt, TailAt, storedEntry}
+use Rattle.text_schemes.specs.EntryReading.{MarkAt, ChoiceAt, prefixOf, readHead, readMiddle, readTail}
+use Rattle.text_schemes.specs.EntryReading.{PrefixAt, HeadAt, MiddleAt, TailAt, storedEntry}
 use Rattle.text_grammar.proofs.CursorLaws.{tail-is}
 use Rattle.text_grammar.specs.Kinds.{isDigits, isEmpty, isByte, isEpsilon, isEnd}
 use Rattle.text_grammar.proofs.TextItemLaws.{same-byte, no-empty}
@@ -73,7 +75,8 @@ pick-second false ts = refl
 open-first : (k : Kind) (t : List ℕ) (ts : List Token) → isEmpty k ≡ true → chosen empty (byte 0x7B) (tokensBy k t ts) ≡ got true ts
 open-first k t ts h = ap (λ (j : Kind). chosen empty (byte 0x7B) (tokensBy j t ts)) (is-empty k h)
 
-open-other : (k : Kind) (t : List ℕ) (ts : List Token) → isEmpty k ≡ false → chosen empty (byte 0x7B) (tokensBy k t ts) ≡ found (isByte 0x7B k) false ts
+open-other : (k : Kind) (t : List ℕ) (ts : List Token) → isEmpty k ≡ false →
+    chosen empty (byte 0x7B) (tokensBy k t ts) ≡ found (isByte 0x7B k) false ts
 open-other End t ts h = refl
 open-other Digits t ts h = refl
 open-other Epsilon t ts h = refl
@@ -85,7 +88,8 @@ open-other (Byte b) t ts h = rw (no-empty b, same-byte 0x7B b) (pick-second (eqb
 close-first : (k : Kind) (t : List ℕ) (ts : List Token) → isByte 0x7D k ≡ true → chosen (byte 0x7D) comma (tokensBy k t ts) ≡ got true ts
 close-first k t ts h = ap (λ (j : Kind). chosen (byte 0x7D) comma (tokensBy j t ts)) (is-byte 0x7D k h)
 
-close-other : (k : Kind) (t : List ℕ) (ts : List Token) → isByte 0x7D k ≡ false → chosen (byte 0x7D) comma (tokensBy k t ts) ≡ found (isByte 0x2C k) false ts
+close-other : (k : Kind) (t : List ℕ) (ts : List Token) → isByte 0x7D k ≡ false →
+    chosen (byte 0x7D) comma (tokensBy k t ts) ≡ found (isByte 0x2C k) false ts
 close-other End t ts h = refl
 close-other Digits t ts h = refl
 close-other Epsilon t ts h = refl
@@ -101,11 +105,13 @@ module _ (s : List ℕ) (at : ℕ) (t : Step) (w : Stepped s at t) where
   pub marked : (n : ℕ) (b : Bool) → b ≡ isByte n (t .kind) → MarkAt n s at (record { spelt = b; next = t .next })
   marked n b e =
       record {
-        gives = ap (expect {A = ℕ} (byte n) (got 0)) (w .gives) ∙ mark-by n (t .kind) (drop (t .from) s) rest ∙ ap (λ (c : Bool). found c 0 rest) (sym e);
+        gives = ap (expect {A = ℕ} (byte n) (got 0)) (w .gives) ∙ mark-by n (t .kind) (drop (t .from) s) rest ∙
+            ap (λ (c : Bool). found c 0 rest) (sym e);
         moved = moved-by s at t w b (λ h. ap isEnd (is-byte n (t .kind) (sym e ∙ h)));
       }
 
-  pub opened : (b : Bool) → b ≡ isEmpty (t .kind) → b ≡ true → ChoiceAt empty (byte 0x7B) s at (record { spelt = true; first = true; next = t .next })
+  pub opened : (b : Bool) → b ≡ isEmpty (t .kind) → b ≡ true →
+      ChoiceAt empty (byte 0x7B) s at (record { spelt = true; first = true; next = t .next })
   opened b e h =
       record {
         gives = ap (chosen empty (byte 0x7B)) (w .gives) ∙ open-first (t .kind) (drop (t .from) s) rest (sym e ∙ h);
@@ -121,7 +127,8 @@ module _ (s : List ℕ) (at : ℕ) (t : Step) (w : Stepped s at t) where
         moved = moved-by s at t w c (λ g. ap isEnd (is-byte 0x7B (t .kind) (sym f ∙ g)));
       }
 
-  pub closed : (b : Bool) → b ≡ isByte 0x7D (t .kind) → b ≡ true → ChoiceAt (byte 0x7D) comma s at (record { spelt = true; first = true; next = t .next })
+  pub closed : (b : Bool) → b ≡ isByte 0x7D (t .kind) → b ≡ true →
+      ChoiceAt (byte 0x7D) comma s at (record { spelt = true; first = true; next = t .next })
   closed b e h =
       record {
         gives = ap (chosen (byte 0x7D) comma) (w .gives) ∙ close-first (t .kind) (drop (t .from) s) rest (sym e ∙ h);
@@ -225,7 +232,8 @@ module _ {A : Type 0} where
   pick-choice false true f g r = refl
   pick-choice false false f g r = refl
 
-  pub either-after : (t u : Token) (f g : List Token → Read A) (ts : List Token) → either t f u g ts ≡ after (chosen t u ts) (λ d q. pick d f g q)
+  pub either-after : (t u : Token) (f g : List Token → Read A) (ts : List Token) → either t f u g ts ≡
+      after (chosen t u ts) (λ d q. pick d f g q)
   either-after t u f g [] = refl
   either-after t u f g (v ∷ r) = pick-choice (same t v) (same u v) f g r
 
@@ -238,7 +246,8 @@ module _ {A B : Type 0} (load : A → B) where
   mark-first : (t : Token) (f : List Token → Read A) (ts ts1 ts2 : List Token) (b c : Bool) (x : B)
       → expect {A = ℕ} t (got 0) ts ≡ found b 0 ts1 → kept load (f ts1) ≡ found c x ts2 → kept load (expect t f ts) ≡ found (b && c) x ts2
   mark-first t f ts ts1 ts2 b c x e g =
-      ap (kept load) (expect-post t (got 0) (λ (_ : ℕ) (q : List Token). f q) ts ∙ ap (λ (m : Read ℕ). after m (λ (_ : ℕ) (q : List Token). f q)) e)
+      ap (kept load) (expect-post t (got 0) (λ (_ : ℕ) (q : List Token). f q) ts ∙ ap
+      (λ (m : Read ℕ). after m (λ (_ : ℕ) (q : List Token). f q)) e)
       ∙ split b
     where
       split : (b : Bool) → kept load (after (found {B = ℕ} b 0 ts1) (λ _ q. f q)) ≡ found (b && c) x ts2
@@ -291,8 +300,11 @@ pub headed : (s : List ℕ) (at : ℕ) (o : MarkRead) (p : PrefixRead) (c : Mark
     → HeadAt s at (record { spelt = w; prefix = p .prefix; next = c .next })
 headed s at o p c v w mo mp mc e f =
     rw (f, e) (record {
-      gives = mark-first prefixOf (byte 0x28) (λ a. after (readPerm a) (λ p b. expect comma (got p) b)) (tokens (drop at s)) (tokens (drop (o .next .at) s)) _ (o .spelt) (p .spelt && c .spelt) (p .prefix) (mo .gives)
-          (mark-last prefixOf comma (readPerm (tokens (drop (o .next .at) s))) _ _ (p .spelt) (c .spelt) (p .prefix) (mp .gives) (mc .gives));
+      gives = mark-first prefixOf (byte 0x28) (λ a. after (readPerm a) (λ p b. expect comma (got p) b))
+          (tokens (drop at s)) (tokens (drop (o .next .at) s)) _ (o .spelt) (p .spelt && c .spelt) (p .prefix)
+          (mo .gives)
+          (mark-last prefixOf comma (readPerm (tokens (drop (o .next .at) s))) _ _ (p .spelt) (c .spelt) (p .prefix)
+          (mp .gives) (mc .gives));
       moved = moved-twice s at (o .next .at) (c .next .at) (o .spelt) (p .spelt && c .spelt) (mo .moved)
           (moved-twice s (o .next .at) (p .next .at) (c .next .at) (p .spelt) (c .spelt) (mp .moved) (mc .moved));
     })
@@ -302,7 +314,8 @@ pub middled : (s : List ℕ) (at : ℕ) (g : GapsRead) (c : MarkRead) (w : Bool)
     → MiddleAt s at (record { spelt = w; gaps = g .gaps; next = c .next })
 middled s at g c w mg mc e =
     rw e (record {
-      gives = mark-last loadedGaps comma (inBraces readVector (tokens (drop at s))) _ _ (g .spelt) (c .spelt) (g .gaps) (mg .gives) (mc .gives);
+      gives = mark-last loadedGaps comma (inBraces readVector (tokens (drop at s))) _ _ (g .spelt) (c .spelt)
+          (g .gaps) (mg .gives) (mc .gives);
       moved = moved-twice s at (g .next .at) (c .next .at) (g .spelt) (c .spelt) (mg .moved) (mc .moved);
     })
 
@@ -324,13 +337,16 @@ pub rule-first : (s : List ℕ) (at : ℕ) (o : Choice) → ChoiceAt empty (byte
     → RuleAt s at (record { spelt = o .spelt; rule = Expand; next = o .next })
 rule-first s at o w h =
     record {
-      gives = choice-first ruleOf empty (byte 0x7B) expands deleted (tokens (drop at s)) _ (o .spelt) (w .gives ∙ ap (λ (b : Bool). found (o .spelt) b (tokens (drop (o .next .at) s))) h);
+      gives = choice-first ruleOf empty (byte 0x7B) expands deleted (tokens (drop at s)) _ (o .spelt)
+          (w .gives ∙ ap (λ (b : Bool). found (o .spelt) b (tokens (drop (o .next .at) s))) h);
       moved = w .moved;
     }
 
-number-mark : (ts ts1 ts2 : List Token) (b c : Bool) (n : ℕ) → readNumber ts ≡ found b n ts1 → expect {A = ℕ} (byte 0x7D) (got 0) ts1 ≡ found c 0 ts2
+number-mark : (ts ts1 ts2 : List Token) (b c : Bool) (n : ℕ) → readNumber ts ≡ found b n ts1 →
+    expect {A = ℕ} (byte 0x7D) (got 0) ts1 ≡ found c 0 ts2
     → kept ruleOf (deleted ts) ≡ found (b && c) (Delete n) ts2
-number-mark ts ts1 ts2 b c n e g = ap (λ (m : Read ℕ). kept ruleOf (after m (λ n b. expect (byte 0x7D) (got (deletes n)) b))) e ∙ split b c g
+number-mark ts ts1 ts2 b c n e g = ap (λ (m : Read ℕ). kept ruleOf
+    (after m (λ n b. expect (byte 0x7D) (got (deletes n)) b))) e ∙ split b c g
   where
     split : (b c : Bool) → expect {A = ℕ} (byte 0x7D) (got 0) ts1 ≡ found c 0 ts2
         → kept ruleOf (after (found b n ts1) (λ n b. expect (byte 0x7D) (got (deletes n)) b)) ≡ found (b && c) (Delete n) ts2
@@ -347,7 +363,8 @@ pub rule-other : (s : List ℕ) (at : ℕ) (o : Choice) (n : NumberRead) (c : Ma
     → v ≡ (n .spelt && c .spelt) → w ≡ (o .spelt && v) → RuleAt s at (record { spelt = w; rule = Delete (n .value); next = c .next })
 rule-other s at o n c v w mo h mn mc e f =
     rw (f, e) (record {
-      gives = choice-other ruleOf empty (byte 0x7B) (got expands) deleted (tokens (drop at s)) (tokens (drop (o .next .at) s)) _ (o .spelt) (n .spelt && c .spelt) (Delete (n .value))
+      gives = choice-other ruleOf empty (byte 0x7B) (got expands) deleted (tokens (drop at s))
+          (tokens (drop (o .next .at) s)) _ (o .spelt) (n .spelt && c .spelt) (Delete (n .value))
           (mo .gives ∙ ap (λ (b : Bool). found (o .spelt) b (tokens (drop (o .next .at) s))) h)
           (number-mark (tokens (drop (o .next .at) s)) _ _ (n .spelt) (c .spelt) (n .value) (mn .gives) (mc .gives));
       moved = moved-twice s at (o .next .at) (c .next .at) (o .spelt) (n .spelt && c .spelt) (mo .moved)
@@ -387,18 +404,21 @@ entry-parts ts =
 abbrev entry-made : Prefix → Gaps → Rule → Entry
 entry-made p g m = record { prefix = p .digits; length = p .length; gaps = g .parts; widths = g .widths; «gap_count» = g .count; rule = m }
 
-entry-loaded : (p : List ℕ) (g : List (List ℕ)) (m : Does) (x : Prefix) (y : Gaps) (z : Rule) → prefixOf p ≡ x → loadedGaps g ≡ y → ruleOf m ≡ z
+entry-loaded : (p : List ℕ) (g : List (List ℕ)) (m : Does) (x : Prefix) (y : Gaps) (z : Rule) → prefixOf p ≡ x →
+    loadedGaps g ≡ y → ruleOf m ≡ z
     → entryOf (entry-with p g m) ≡ entry-made x y z
 unfolding loadedGaps
 entry-loaded p g m x y z e f h =
     ap (λ (q : Prefix). entry-made q (loadedGaps g) (ruleOf m)) e ∙ ap (λ (q : Gaps). entry-made x q (ruleOf m)) f ∙ ap (entry-made x y) h
 
 entry-gives : (ts ts1 ts2 ts3 : List Token) (a b c : Bool) (x : Prefix) (y : Gaps) (z : Rule)
-    → kept prefixOf (readHead ts) ≡ found a x ts1 → kept loadedGaps (readMiddle ts1) ≡ found b y ts2 → kept ruleOf (readTail ts2) ≡ found c z ts3
+    → kept prefixOf (readHead ts) ≡ found a x ts1 → kept loadedGaps (readMiddle ts1) ≡ found b y ts2 →
+    kept ruleOf (readTail ts2) ≡ found c z ts3
     → kept entryOf (readEntry ts) ≡ found (a && (b && c)) (entry-made x y z) ts3
 entry-gives ts ts1 ts2 ts3 a b c x y z e f g =
     ap (kept entryOf) (entry-parts ts)
-    ∙ first (readHead ts) (readMiddle ts1) (readTail ts2) refl refl (see prefixOf (readHead ts) a x ts1 e) (see loadedGaps (readMiddle ts1) b y ts2 f)
+    ∙ first (readHead ts) (readMiddle ts1) (readTail ts2) refl refl (see prefixOf (readHead ts) a x ts1 e)
+    (see loadedGaps (readMiddle ts1) b y ts2 f)
     (see ruleOf (readTail ts2) c z ts3 g)
   where
     first : (m1 : Read (List ℕ)) (m2 : Read (List (List ℕ))) (m3 : Read Does) → readMiddle ts1 ≡ m2 → readTail ts2 ≡ m3
@@ -415,7 +435,8 @@ entered : (s : List ℕ) (at : ℕ) (h : PrefixRead) (g : GapsRead) (m : RuleRea
     → EntryAt s at (record { spelt = w; entry = entry-made (h .prefix) (g .gaps) (m .rule); next = m .next })
 entered s at h g m v w mh mg mm e f =
     rw (f, e) (record {
-      gives = entry-gives (tokens (drop at s)) (tokens (drop (h .next .at) s)) (tokens (drop (g .next .at) s)) _ (h .spelt) (g .spelt) (m .spelt) (h .prefix) (g .gaps) (m .rule) (mh .gives) (mg .gives) (mm .gives);
+      gives = entry-gives (tokens (drop at s)) (tokens (drop (h .next .at) s)) (tokens (drop (g .next .at) s))
+          _ (h .spelt) (g .spelt) (m .spelt) (h .prefix) (g .gaps) (m .rule) (mh .gives) (mg .gives) (mm .gives);
       moved = moved-twice s at (h .next .at) (m .next .at) (h .spelt) (g .spelt && m .spelt) (mh .moved)
           (moved-twice s (h .next .at) (g .next .at) (m .next .at) (g .spelt) (m .spelt) (mg .moved) (mm .moved));
     })
@@ -429,7 +450,8 @@ moved-on s a n b w =
       inside = λ h. let k : n ≤ length (drop a s) = w .inside (omega arith) in let l = length-drop a s in omega arith;
     }
 
-tail-on : {B : Type 0} (s : List ℕ) (a n : ℕ) (b : Bool) (x : B) → found b x (tokens (drop n (drop a s))) ≡ found b x (tokens (drop (a + n) s))
+tail-on : {B : Type 0} (s : List ℕ) (a n : ℕ) (b : Bool) (x : B) → found b x (tokens (drop n (drop a s))) ≡
+    found b x (tokens (drop (a + n) s))
 tail-on s a n b x = ap (λ (t : List ℕ). found b x (tokens t)) (drop-drop n a s)
 
 abbrev gaps-on : ℕ → GapsRead → GapsRead
@@ -442,20 +464,29 @@ middle-on : (s : List ℕ) (a : ℕ) (g : GapsRead) → MiddleAt (take (length s
 middle-on s a g w = on (subst (λ (t : List ℕ). MiddleAt t 0 g) (tail-is a s) w)
   where
     on : MiddleAt (drop a s) 0 g → MiddleAt s a (gaps-on a g)
-    on w = record { gives = w .gives ∙ tail-on s a (g .next .at) (g .spelt) (g .gaps); moved = moved-on s a (g .next .at) (g .spelt) (w .moved) }
+    on w = record {
+      gives = w .gives ∙ tail-on s a (g .next .at) (g .spelt) (g .gaps);
+      moved =
+          moved-on s a (g .next .at) (g .spelt) (w .moved);
+    }
 
 rule-part-on : (s : List ℕ) (a : ℕ) (m : RuleRead) → TailAt (take (length s - a) (drop a s)) 0 m → TailAt s a (rule-on a m)
 rule-part-on s a m w = on (subst (λ (t : List ℕ). TailAt t 0 m) (tail-is a s) w)
   where
     on : TailAt (drop a s) 0 m → TailAt s a (rule-on a m)
-    on w = record { gives = w .gives ∙ tail-on s a (m .next .at) (m .spelt) (m .rule); moved = moved-on s a (m .next .at) (m .spelt) (w .moved) }
+    on w = record {
+      gives = w .gives ∙ tail-on s a (m .next .at) (m .spelt) (m .rule);
+      moved =
+          moved-on s a (m .next .at) (m .spelt) (w .moved);
+    }
 
 -- the three parts of an entry, each read from the tail behind the one before it
 
 pub head-inside : (s : List ℕ) (h : PrefixRead) → HeadAt s 0 h → h .next .at ≤ length s
 head-inside s h mh = mh .moved .inside (omega arith)
 
-module _ (s : List ℕ) (h : PrefixRead) (g : GapsRead) (mh : HeadAt s 0 h) (mg : MiddleAt (take (length s - h .next .at) (drop (h .next .at) s)) 0 g) where
+module _ (s : List ℕ) (h : PrefixRead) (g : GapsRead) (mh : HeadAt s 0 h)
+    (mg : MiddleAt (take (length s - h .next .at) (drop (h .next .at) s)) 0 g) where
   abbrev behind : ℕ
   behind = h .next .at + g .next .at
 
@@ -467,5 +498,12 @@ module _ (s : List ℕ) (h : PrefixRead) (g : GapsRead) (mh : HeadAt s 0 h) (mg 
     tail-inside = rule-part-on s behind m mm .moved .inside middle-inside
 
     pub entered-on : (v w : Bool) → v ≡ (g .spelt && m .spelt) → w ≡ (h .spelt && v)
-        → EntryAt s 0 (record { spelt = w; entry = entry-made (h .prefix) (g .gaps) (m .rule); next = record { at = behind + m .next .at } })
-    entered-on v w p q = entered s 0 h (gaps-on (h .next .at) g) (rule-on behind m) v w mh (middle-on s (h .next .at) g mg) (rule-part-on s behind m mm) p q
+        → EntryAt s 0
+        (record {
+          spelt = w;
+          entry = entry-made (h .prefix) (g .gaps) (m .rule);
+          next =
+              record { at = behind + m .next .at };
+        })
+    entered-on v w p q = entered s 0 h (gaps-on (h .next .at) g) (rule-on behind m) v w mh
+        (middle-on s (h .next .at) g mg) (rule-part-on s behind m mm) p q

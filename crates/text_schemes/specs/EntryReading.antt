@@ -20,7 +20,8 @@ use Rattle.text_schemes.specs.declared.scheme_reader.Prefix.{Prefix}
 use Rattle.text_schemes.specs.declared.scheme_reader.PrefixRead.{PrefixRead}
 use Rattle.text_grammar.specs.Spelling.{Token, byte, comma}
 use Rattle.text_grammar.specs.Tokens.{tokens}
-use Rattle.text_grammar.specs.Grammar.{Read, misspelt, got, after, expect, either, items, inBraces, readPerm, readVector, readRule, readEntry}
+use Rattle.text_grammar.specs.Grammar.{Read, misspelt, got, after, expect, either, items, inBraces, readPerm}
+use Rattle.text_grammar.specs.Grammar.{readVector, readRule, readEntry}
 use Rattle.text_patterns.specs.PatternMemory.{filled}
 use Rattle.text_schemes.specs.SchemeLoaded.{ruleOf, entryOf}
 use Rattle.text_grammar.specs.ItemReading.{found, kept, Moved, added}
@@ -86,7 +87,8 @@ goingOn false b m ts = found b m ts
 -- is read in all is what is read from there on
 pub record ItemAt (s : List ℕ) (r : ItemRead) : Type 0 where
   pub gives : (m : Scheme)
-      → onto m (items readEntry (byte 0x7D) (tokens s)) ≡ goingOn (r .more) (r .spelt) (storedEntry m (r .entry)) (tokens (drop (r .bytes) s))
+      → onto m (items readEntry (byte 0x7D) (tokens s)) ≡
+      goingOn (r .more) (r .spelt) (storedEntry m (r .entry)) (tokens (drop (r .bytes) s))
   pub onward : r .more ≡ true → 0 < r .bytes
   pub inside : r .bytes ≤ length s
 

@@ -17,7 +17,8 @@ use Rattle.word.specs.Finding.{Finding, clean, test, firstFault}
 use Rattle.word.specs.declared.refusal.Refusal.the-variants.{NoPermutation, Rootless, Width, NoPosition, Childless, NoTarget}
 use Rattle.cell.specs.Cell.{total}
 use Rattle.forms.specs.SchemeList.{Does, expands, deletes, EntryList}
-use Rattle.scheme.specs.WellFormed.{firstAt, firstTwin, listed, largeGap, largeEntry, twinEntry, wrongWidth, outside, lacksChild, lacksTarget, schemeTests}
+use Rattle.scheme.specs.WellFormed.{firstAt, firstTwin, listed, largeGap, largeEntry, twinEntry, wrongWidth}
+use Rattle.scheme.specs.WellFormed.{outside, lacksChild, lacksTarget, schemeTests}
 use Rattle.forms.specs.SchemeMemory.{padded, partsAt, noEntry, doesOf, entryIn, schemeIn}
 use Rattle.text_patterns.specs.PatternMemory.{filled}
 use Rattle.text_patterns.specs.PatternLoading.{places-same, places-length, places-kept, take-filled, sized-faults, sized-same}
@@ -82,7 +83,8 @@ large-gap-kept b = step (below-or-not COMPONENTS (length b))
     step (inr h) = ap largeGap (short-gap b h) ∙ ap₂ _||_ (ap (ltb COMPONENTS) (length-map b partOf)) (large-part b)
 
 small-gap-same : (b : List ℕ) → largeGap b ≡ false → keptGap b ≡ b
-small-gap-same b e = short-gap b (ltb-false COMPONENTS (length b) (or-left (ltb COMPONENTS (length b)) (ltb TOTAL (total b)) e)) ∙ step (capped b)
+small-gap-same b e = short-gap b (ltb-false COMPONENTS (length b)
+    (or-left (ltb COMPONENTS (length b)) (ltb TOTAL (total b)) e)) ∙ step (capped b)
   where
     small : total b ≤ TOTAL
     small = ltb-false TOTAL (total b) (or-right (ltb COMPONENTS (length b)) (ltb TOTAL (total b)) e)
@@ -113,7 +115,8 @@ length-gaps B = length-items (keptAt B) (length B)
 
 few-gaps : (B : List (List ℕ)) → length B ≤ GAPS → keptGaps B ≡ map keptGap B
 few-gaps B h =
-    places-same (keptAt B) keptGap [] B (λ (j : ℕ) (k : j < length B). ap₂ padded (kept-width B j k (omega arith)) (kept-parts B j k (omega arith)))
+    places-same (keptAt B) keptGap [] B (λ (j : ℕ) (k : j < length B). ap₂ padded (kept-width B j k (omega arith))
+    (kept-parts B j k (omega arith)))
 
 abbrev largeGaps : List (List ℕ) → Bool
 largeGaps B = ltb GAPS (length B) || any largeGap B
@@ -170,15 +173,18 @@ schemeRest E =
     let ps = map (λ e. e .prefix) E in
     firstAt NoPermutation (λ e. not (isPerm (e .prefix))) 0 E ∷
     firstTwin twinEntry 0 [] E ∷ test Rootless (not (listed ps [])) ∷ firstAt Width wrongWidth 0 E ∷
-    firstAt NoPosition (λ e. outside (length (e .prefix)) (e .rule)) 0 E ∷ firstAt Childless (λ e. lacksChild ps (e .prefix) (e .rule)) 0 E ∷
+    firstAt NoPosition (λ e. outside (length (e .prefix)) (e .rule)) 0 E ∷ firstAt Childless
+    (λ e. lacksChild ps (e .prefix) (e .rule)) 0 E ∷
     firstAt NoTarget (λ e. lacksTarget ps (e .prefix) (e .rule)) 0 E ∷ []
 
 -- the first fault of the entries in memory is that of the list
 pub loaded-scheme-faults : (E : List EntryList) → firstFault (schemeTests (schemeIn (loadedScheme E))) ≡ firstFault (schemeTests E)
 loaded-scheme-faults E =
-    sized-faults largeEntry keptEntry large-entry-kept small-entry-same ENTRIES schemeRest E (schemeIn (loadedScheme E)) (loaded-length E) (loaded-kept E)
+    sized-faults largeEntry keptEntry large-entry-kept small-entry-same ENTRIES schemeRest E
+    (schemeIn (loadedScheme E)) (loaded-length E) (loaded-kept E)
 
 -- a list with no fault is in memory as it is
 pub loaded-scheme-same : (E : List EntryList) → firstFault (schemeTests E) ≡ clean → schemeIn (loadedScheme E) ≡ E
 loaded-scheme-same E =
-    sized-same largeEntry keptEntry large-entry-kept small-entry-same ENTRIES schemeRest E (schemeIn (loadedScheme E)) (loaded-length E) (loaded-kept E)
+    sized-same largeEntry keptEntry large-entry-kept small-entry-same ENTRIES schemeRest E
+    (schemeIn (loadedScheme E)) (loaded-length E) (loaded-kept E)

@@ -31,7 +31,8 @@ use Rattle.text_writer.specs.RoomLaws.{bound-braced, bound-perm}
 -- the digits of a permutation of at most 9 entries
 
 pub perm-digits : (u : List ℕ) → isPerm u ≡ true → length u ≤ 9 → digitRun u ≡ true
-perm-digits u p h = all-in (λ (d : ℕ). leb d 9) u (λ (d : ℕ) (m : List·Memᴰ d u). let (low, high) = perm-bounds u p m in le-leb d 9 (omega arith))
+perm-digits u p h = all-in (λ (d : ℕ). leb d 9) u (λ (d : ℕ) (m : List·Memᴰ d u). let (low, high) = perm-bounds u p
+    m in le-leb d 9 (omega arith))
 
 -- the same in memory
 pub perm-places : (n : ℕ) (l : List ℕ) → isPerm (padded n l) ≡ true → n ≤ 9 → (k : ℕ) → k < n → getD l k 0 ≤ 9

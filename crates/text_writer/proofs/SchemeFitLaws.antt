@@ -41,7 +41,7 @@ unfolding total
 part-of-total (List·Memᴰ·head {x = y} {xs = b} e) = omega arith
 part-of-total (List·Memᴰ·tail {x = y} {xs = b} m) = let k = part-of-total m in omega arith
 
--- in memory
+-- what the tests leave of an entry in memory is enough for the writer
 
 entry-fits : (e : Entry) → ProperEntry (entryIn e) → EntryFits e
 entry-fits e h =
@@ -95,7 +95,8 @@ entry-writable e h =
     let short = h .short in
     and-in (digitRun (e .prefix)) _ (perm-digits (e .prefix) (h .perm) (omega arith))
     (and-in (all writableVector (e .gaps)) (writableRule (e .rule))
-    (all-in writableVector (e .gaps) (λ (b : List ℕ) (m : List·Memᴰ b (e .gaps)). vector-writable (length (e .prefix)) b (h .wide b m) (h .small b m)))
+    (all-in writableVector (e .gaps) (λ (b : List ℕ) (m : List·Memᴰ b (e .gaps)). vector-writable
+    (length (e .prefix)) b (h .wide b m) (h .small b m)))
     (rule-writable (length (e .prefix)) (e .rule) short (h .inside)))
 
 pub scheme-writable : (E : List EntryList) → firstFault (schemeTests E) ≡ clean → all writableEntry E ≡ true

@@ -16,7 +16,8 @@ use Rattle.forms.specs.GapForm.{entryGap}
 use Rattle.forms.specs.declared.memory.Patterns.{Patterns}
 use Rattle.forms.specs.declared.memory.Entry.{Entry}
 use Rattle.forms.specs.declared.memory.Scheme.{Scheme}
-use Rattle.text_grammar.specs.Spelling.{Token, bytesOf, byte, digits, right, comma, separated, braced, permPiece, numeral, vectorPieces, rulePieces}
+use Rattle.text_grammar.specs.Spelling.{Token, bytesOf, byte, digits, right, comma, separated, braced, permPiece}
+use Rattle.text_grammar.specs.Spelling.{numeral, vectorPieces, rulePieces}
 use Rattle.text_grammar.specs.Spelling.{entryPieces, writtenPatterns, writtenScheme}
 use Rattle.text_page.specs.Page.{Room}
 use Rattle.text_writer.specs.Writable.{PatternsFit, EntryFits, SchemeFits, text, patternAt, vectorAt, gapPieces, entryAt}
@@ -26,7 +27,8 @@ pub text-append : (a b : List Token) → length (text (a ++ b)) ≡ length (text
 text-append a b = ap length (each-append bytesOf a b) ∙ length-append (text a) (text b)
 
 module _ {A : Type 0} (f : A → List Token) (most : ℕ) where
-  pub bound-separated : (l : List A) → ((x : A) → List·Memᴰ x l → length (text (f x)) < most) → length (text (separated (map f l))) ≤ length l * most
+  pub bound-separated : (l : List A) → ((x : A) → List·Memᴰ x l → length (text (f x)) < most) →
+      length (text (separated (map f l))) ≤ length l * most
   bound-separated [] h = omega arith
   bound-separated (x ∷ []) h = let here = h x (List·Memᴰ·head refl) in omega (arith, suc-mul 0 most)
   bound-separated (x ∷ (y ∷ l)) h =
@@ -34,16 +36,19 @@ module _ {A : Type 0} (f : A → List Token) (most : ℕ) where
       let later = bound-separated (y ∷ l) (λ (z : A) (m : List·Memᴰ z (y ∷ l)). h z (List·Memᴰ·tail m)) in
       omega (arith, text-append (f x) (comma ∷ separated (map f (y ∷ l))), suc-mul (length (y ∷ l)) most)
 
-  pub bound-braced : (l : List A) → ((x : A) → List·Memᴰ x l → length (text (f x)) < most) → length (text (braced (map f l))) ≤ 3 + length l * most
+  pub bound-braced : (l : List A) → ((x : A) → List·Memᴰ x l → length (text (f x)) < most) →
+      length (text (braced (map f l))) ≤ 3 + length l * most
   bound-braced [] h = omega arith
   bound-braced (x ∷ l) h =
       let whole = bound-separated (x ∷ l) h in
       omega (arith, text-append (separated (map f (x ∷ l))) (byte 0x7D ∷ []))
 
 -- items by their places
-bound-places : (f : ℕ → List Token) (most n : ℕ) → ((i : ℕ) → i < n → length (text (f i)) < most) → length (text (braced (map f (row 0 n)))) ≤ 3 + n * most
+bound-places : (f : ℕ → List Token) (most n : ℕ) → ((i : ℕ) → i < n → length (text (f i)) < most) →
+    length (text (braced (map f (row 0 n)))) ≤ 3 + n * most
 bound-places f most n h =
-    rw (length-row 0 n) at (bound-braced f most (row 0 n) (λ (i : ℕ) (m : List·Memᴰ i (row 0 n)). h i (let r = row-out 0 n m in omega arith)))
+    rw (length-row 0 n) at (bound-braced f most (row 0 n)
+    (λ (i : ℕ) (m : List·Memᴰ i (row 0 n)). h i (let r = row-out 0 n m in omega arith)))
 
 pub bound-perm : (u : List ℕ) → length (bytesOf (permPiece u)) ≤ length u + 2
 bound-perm [] = omega arith
@@ -78,7 +83,8 @@ component n = digits (numeral n) ∷ []
 
 bound-vector : (b : List ℕ) → length (text (vectorPieces b)) ≤ 6 + length b * 4
 bound-vector b =
-    let parts = bound-separated component 4 b (λ (n : ℕ) (m : List·Memᴰ n b). rw (text-one (digits (numeral n))) (omega (arith, bound-number n))) in
+    let parts = bound-separated component 4 b (λ (n : ℕ) (m : List·Memᴰ n b). rw (text-one (digits (numeral n)))
+    (omega (arith, bound-number n))) in
     omega (arith, text-append (separated (map component b)) (right ∷ []))
 
 pub bound-rule : (r : Does) → length (text (rulePieces r)) ≤ 5
@@ -120,5 +126,6 @@ bound-entry e h =
 pub room-scheme : (s : Scheme) (at : ℕ) → SchemeFits s → at ≤ 1000000 → Room (writtenScheme (schemeIn s)) at
 room-scheme s at h k =
     let few = h .few in
-    let whole = bound-places (entryAt (s .entries)) entryBytes (s .count) (λ (i : ℕ) (p : i < s .count). bound-entry (getD (s .entries) i noEntry) (h .fit i p)) in
+    let whole = bound-places (entryAt (s .entries)) entryBytes (s .count)
+    (λ (i : ℕ) (p : i < s .count). bound-entry (getD (s .entries) i noEntry) (h .fit i p)) in
     record { fits = rw (scheme-map s) (omega arith) }

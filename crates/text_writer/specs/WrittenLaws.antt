@@ -16,7 +16,9 @@ use Rattle.forms.specs.declared.memory.Patterns.{Patterns}
 use Rattle.forms.specs.declared.memory.Entry.{Entry}
 use Rattle.forms.specs.declared.memory.Scheme.{Scheme}
 use Rattle.scheme.specs.TestLaws.{row-next, row-end}
-use Rattle.text_grammar.specs.Spelling.{Token, bytesOf, byte, digits, epsilon, empty, left, right, comma, separated, braced, permPiece, numeral, vectorPieces, rulePieces, entryPieces}
+use Rattle.text_grammar.specs.Spelling.{Token, bytesOf, byte, digits, epsilon, empty, left, right, comma}
+use Rattle.text_grammar.specs.Spelling.{separated, braced, permPiece, numeral, vectorPieces, rulePieces}
+use Rattle.text_grammar.specs.Spelling.{entryPieces}
 use Rattle.text_grammar.specs.Spelling.{writtenPatterns, writtenScheme}
 use Rattle.text_grammar.specs.GrammarLaws.{numeral-one, numeral-two, numeral-three}
 use Rattle.text_page.specs.Page.{Writes, Room}
@@ -82,7 +84,8 @@ further-end f i n h = go (n - i) (omega arith)
 
 -- a page on which these items are still to come: room for the next one, its comma and its text
 -- written, none left
-module _ (f : ℕ → List Token) {total : List ℕ} {at : ℕ} {before : List ℕ} (i n : ℕ) {place : ℕ} {t : List ℕ} (c : ToCome total at before (further f i (n - i)) place t) where
+module _ (f : ℕ → List Token) {total : List ℕ} {at : ℕ} {before : List ℕ} (i n : ℕ) {place : ℕ} {t : List ℕ}
+    (c : ToCome total at before (further f i (n - i)) place t) where
   pub further-room : i < n → Room total at → Room (next f i) place
   further-room h r = room-next (next f i) (further f (i + 1) (n - (i + 1))) r c (further-step f i n h)
 
@@ -127,7 +130,8 @@ pub text-vector : (n : ℕ) (l : List ℕ) → 0 < n → n ≤ length l →
     text (vectorPieces (padded n l)) ≡
     bytesOf left ++ (text (number l 0) ++ (further (number l) 1 (n - 1) ++ bytesOf right))
 text-vector n l h k =
-    rw (padded-row n l k, map-map (λ (m : ℕ). digits (numeral m) ∷ []) (λ (j : ℕ). getD l j 0) (row 0 n)) (text-between (number l) left right n h)
+    rw (padded-row n l k, map-map (λ (m : ℕ). digits (numeral m) ∷ []) (λ (j : ℕ). getD l j 0) (row 0 n))
+    (text-between (number l) left right n h)
 
 -- a number of up to three digits: its bytes are those of the number in base ten
 pub numeral-decimal : (n : ℕ) → n ≤ 999 → bytesOf (digits (numeral n)) ≡ decimal n
@@ -155,7 +159,8 @@ patterns-map s =
     (map-map (λ (p : List ℕ). permPiece p ∷ []) (λ (i : ℕ). patternIn (getD (s .items) i noPattern)) (row 0 (s .count)))
 
 pub text-patterns : (s : Patterns) → (s .count ≡ 0 → ⊥) →
-    writtenPatterns (patternsIn s) ≡ (0x7B ∷ []) ++ (text (patternAt (s .items) 0) ++ (further (patternAt (s .items)) 1 (s .count - 1) ++ (0x7D ∷ [])))
+    writtenPatterns (patternsIn s) ≡ (0x7B ∷ []) ++ (text
+    (patternAt (s .items) 0) ++ (further (patternAt (s .items)) 1 (s .count - 1) ++ (0x7D ∷ [])))
 text-patterns s h = patterns-map s ∙ text-braced (patternAt (s .items)) (s .count) (omega arith)
 
 pub text-no-patterns : (s : Patterns) → s .count ≡ 0 → writtenPatterns (patternsIn s) ≡ bytesOf empty
@@ -184,7 +189,8 @@ pub text-entry : (e : EntryList) →
 text-entry e =
     ap (λ (r : List ℕ). 0x28 ∷ (bytesOf (permPiece (e .prefix)) ++ (0x2C ∷ r)))
     (each-append bytesOf (braced (map vectorPieces (e .gaps))) (comma ∷ (rulePieces (e .rule) ++ (byte 0x29 ∷ []))) ∙
-    ap (λ (r : List ℕ). text (braced (map vectorPieces (e .gaps))) ++ (0x2C ∷ r)) (each-append bytesOf (rulePieces (e .rule)) (byte 0x29 ∷ [])))
+    ap (λ (r : List ℕ). text (braced (map vectorPieces (e .gaps))) ++ (0x2C ∷ r))
+    (each-append bytesOf (rulePieces (e .rule)) (byte 0x29 ∷ [])))
 
 pub text-deletes : (n : ℕ) → text (rulePieces (deletes n)) ≡ (0x7B ∷ []) ++ (bytesOf (digits (numeral n)) ++ (0x7D ∷ []))
 text-deletes n = refl
@@ -197,7 +203,8 @@ scheme-map s =
     (map-map entryPieces (λ (i : ℕ). entryIn (getD (s .entries) i noEntry)) (row 0 (s .count)))
 
 pub text-scheme : (s : Scheme) → (s .count ≡ 0 → ⊥) →
-    writtenScheme (schemeIn s) ≡ (0x7B ∷ []) ++ (text (entryAt (s .entries) 0) ++ (further (entryAt (s .entries)) 1 (s .count - 1) ++ (0x7D ∷ [])))
+    writtenScheme (schemeIn s) ≡ (0x7B ∷ []) ++ (text
+    (entryAt (s .entries) 0) ++ (further (entryAt (s .entries)) 1 (s .count - 1) ++ (0x7D ∷ [])))
 text-scheme s h = scheme-map s ∙ text-braced (entryAt (s .entries)) (s .count) (omega arith)
 
 pub text-no-entries : (s : Scheme) → s .count ≡ 0 → writtenScheme (schemeIn s) ≡ bytesOf empty

@@ -44,7 +44,8 @@ module _ (s t : List ℕ) (p : PatternsRead) (reads : (p ≡ patternsAnswer s) �
 
     lists-accepted : accepted (verdictOf (patternsIn (p .patterns)) (schemeIn (q .scheme))) ≡ true
     lists-accepted =
-        ap₂ (λ (P : List (List ℕ)) (E : List EntryList). accepted (verdictOf P E)) (set-list s t w p (reads .1)) (scheme-list s t w q (reads-scheme .1)) ∙
+        ap₂ (λ (P : List (List ℕ)) (E : List EntryList). accepted (verdictOf P E)) (set-list s t w p (reads .1))
+        (scheme-list s t w q (reads-scheme .1)) ∙
         accepted-exactly (w .patterns) (w .scheme) .1 (w .formed, w .claims)
 
   -- a fault of reading
@@ -58,7 +59,8 @@ module _ (s t : List ℕ) (p : PatternsRead) (reads : (p ≡ patternsAnswer s) �
     pub kept-so : (m : ℕ) (T : List ℕ) → T ≡ tableAfter (orElse (orElse ((patternsAnswer s) .fault) ((schemeAnswer t) .fault)) g) m T
     kept-so m T = refused-table f m T h ∙ ap (λ (x : Fault). tableAfter x m T) (sym first-found)
 
-  pub count-refused : faulty f ≡ true → (n : ℕ) (T : List ℕ) (c : Counted) (r : ℕ) → c ≡ countedOr f 0 → r ≡ codeOf c → CountsTexts s t n T T r
+  pub count-refused : faulty f ≡ true → (n : ℕ) (T : List ℕ) (c : Counted) (r : ℕ) → c ≡ countedOr f 0 → r ≡
+      codeOf c → CountsTexts s t n T T r
   count-refused h n T c r e k =
       record {
         answer = k ∙ ap codeOf (refused-so h _ (countIn s t n) c e);
@@ -73,30 +75,34 @@ module _ (s t : List ℕ) (p : PatternsRead) (reads : (p ≡ patternsAnswer s) �
         counts = λ w a. absurd (true-not-false (sym h ∙ none-found w));
       }
 
-  -- none
+  -- where reading finds nothing, the lists decide
   module _ (h : faulty f ≡ false) where
     then-found : (g : Fault) → g ≡ orElse (orElse ((patternsAnswer s) .fault) ((schemeAnswer t) .fault)) g
     then-found g = sym (ap (λ (x : Fault). orElse x g) (sym read-fault) ∙ or-else-clean f g h)
 
-    pub count-done : (n : ℕ) (T T' : List ℕ) (c : Counted) (r : ℕ) → Counts (patternsIn (p .patterns)) (schemeIn (q .scheme)) n T T' c → r ≡ codeOf c →
+    pub count-done : (n : ℕ) (T T' : List ℕ) (c : Counted) (r : ℕ) →
+        Counts (patternsIn (p .patterns)) (schemeIn (q .scheme)) n T T' c → r ≡ codeOf c →
         CountsTexts s t n T T' r
     count-done n T T' c r d k =
         record {
           answer = k ∙ ap codeOf (moved .answer ∙ ap (λ (x : Fault). countedOr x (countIn s t n)) (then-found _));
           table = moved .table ∙ ap (λ (x : Fault). tableAfter x (needOf n (schemeIn ((schemeAnswer t) .scheme))) T) (then-found _);
           counts = λ (w : TextsTrue s t) (a : n ≤ LENGTH) (b : needOf n (w .scheme) ≤ length T).
-              k ∙ ap codeOf (d .counts (lists-accepted w) a (rw (scheme-list s t w q (reads-scheme .1)) b)) ∙ ap (λ (P : List (List ℕ)). length (avoiders P n)) (set-list s t w p (reads .1));
+              k ∙ ap codeOf (d .counts (lists-accepted w) a (rw (scheme-list s t w q (reads-scheme .1)) b)) ∙
+              ap (λ (P : List (List ℕ)). length (avoiders P n)) (set-list s t w p (reads .1));
         }
       where
         moved : Counts (patternsIn ((patternsAnswer s) .patterns)) (schemeIn ((schemeAnswer t) .scheme)) n T T' c
         moved = rw (← is, ← is-scheme) d
 
-    pub plain-done : (n : ℕ) (c : Counted) (r : ℕ) → PlainCounts (patternsIn (p .patterns)) (schemeIn (q .scheme)) n c → r ≡ codeOf c → PlainTexts s t n r
+    pub plain-done : (n : ℕ) (c : Counted) (r : ℕ) →
+        PlainCounts (patternsIn (p .patterns)) (schemeIn (q .scheme)) n c → r ≡ codeOf c → PlainTexts s t n r
     plain-done n c r d k =
         record {
           answer = k ∙ ap codeOf (moved .answer ∙ ap (λ (x : Fault). countedOr x (countIn s t n)) (then-found _));
           counts = λ (w : TextsTrue s t) (a : n ≤ PLAIN).
-              k ∙ ap codeOf (d .counts (lists-accepted w) a) ∙ ap (λ (P : List (List ℕ)). length (avoiders P n)) (set-list s t w p (reads .1));
+              k ∙ ap codeOf (d .counts (lists-accepted w) a) ∙
+              ap (λ (P : List (List ℕ)). length (avoiders P n)) (set-list s t w p (reads .1));
         }
       where
         moved : PlainCounts (patternsIn ((patternsAnswer s) .patterns)) (schemeIn ((schemeAnswer t) .scheme)) n c

@@ -40,7 +40,8 @@ countIn s t n = countOf (patternsIn ((patternsAnswer s) .patterns)) (schemeIn ((
 -- `after`
 pub record CountsTexts (s t : List ℕ) (n : ℕ) (before after : List ℕ) (r : ℕ) : Type 0 where
   pub answer : r ≡ codeOf (countedOr (foundIn s t (λ P E. countTests P E n (length before))) (countIn s t n))
-  pub table : after ≡ tableAfter (foundIn s t (λ P E. countTests P E n (length before))) (needOf n (schemeIn ((schemeAnswer t) .scheme))) before
+  pub table : after ≡ tableAfter (foundIn s t (λ P E. countTests P E n (length before)))
+      (needOf n (schemeIn ((schemeAnswer t) .scheme))) before
   -- "If accepted, then for every n from 0 to 20 and every table long enough, whatever it held, the
   -- count .. is exactly the number of permutations of 1 to n that contain none of the patterns".
   -- Texts are accepted exactly if TextsTrue holds of them (JudgesTexts.exactly).

@@ -58,7 +58,8 @@ position-high k r e = ltb-false k r (or-right (eqb r 0) (ltb k r) e)
 
 module _ (P : List (List ℕ)) (E : List EntryList) (proper : Proper E) where
   -- the children of an expanding entry are listed
-  pub child-listed : (e : EntryList) → List·Memᴰ e E → e .rule ≡ expands → (a : ℕ) → 1 ≤ a → a ≤ suc (length (e .prefix)) → Listed E (childAt (e .prefix) a)
+  pub child-listed : (e : EntryList) → List·Memᴰ e E → e .rule ≡ expands → (a : ℕ) → 1 ≤ a →
+      a ≤ suc (length (e .prefix)) → Listed E (childAt (e .prefix) a)
   child-listed e m r a low high =
       not-false (listed (prefixes E) (childAt (e .prefix) a))
       (none-out (λ (q : List ℕ). not (listed (prefixes E) q)) (sym (ap (lacksChild (prefixes E) (e .prefix)) r) ∙ proper .child e m)
@@ -67,7 +68,8 @@ module _ (P : List (List ℕ)) (E : List EntryList) (proper : Proper E) where
   -- the target of a deleting entry is listed
   pub target-listed : (e : EntryList) → List·Memᴰ e E → (r : ℕ) → e .rule ≡ deletes r → Listed E (deleted (r ∷ []) (e .prefix))
   target-listed e m r q =
-      not-false (listed (prefixes E) (deleted (r ∷ []) (e .prefix))) (sym (ap (lacksTarget (prefixes E) (e .prefix)) q) ∙ proper .target e m)
+      not-false (listed (prefixes E) (deleted (r ∷ []) (e .prefix)))
+      (sym (ap (lacksTarget (prefixes E) (e .prefix)) q) ∙ proper .target e m)
 
   -- one step at an entry of E
   module _ (v w : List ℕ → List ℕ → ℕ) (e : EntryList) (m : List·Memᴰ e E) (g : List ℕ) (wide : length g ≡ suc (length (e .prefix)))
@@ -75,9 +77,11 @@ module _ (P : List (List ℕ)) (E : List EntryList) (proper : Proper E) where
     rule-agrees : (rule : Does) → e .rule ≡ rule → ruleValue v P (e .prefix) g rule ≡ ruleValue w P (e .prefix) g rule
     unfolding ruleValue
     rule-agrees expands r = ap (λ n. cond (eqb (total g) 0) (cond (avoids P (e .prefix)) 1 0) n)
-        (ap total (map-same (λ s. v (childAt (e .prefix) (slot g s)) (split g s)) (λ s. w (childAt (e .prefix) (slot g s)) (split g s)) (oneTo (total g)) child))
+        (ap total (map-same (λ s. v (childAt (e .prefix) (slot g s)) (split g s))
+        (λ s. w (childAt (e .prefix) (slot g s)) (split g s)) (oneTo (total g)) child))
       where
-        child : (s : ℕ) → List·Memᴰ s (oneTo (total g)) → v (childAt (e .prefix) (slot g s)) (split g s) ≡ w (childAt (e .prefix) (slot g s)) (split g s)
+        child : (s : ℕ) → List·Memᴰ s (oneTo (total g)) → v (childAt (e .prefix) (slot g s)) (split g s) ≡
+            w (childAt (e .prefix) (slot g s)) (split g s)
         child s i =
             let (low, high) = row-out 1 (total g) i in
             let (a, b) = slot-bounds g s low (omega arith) in
@@ -89,7 +93,8 @@ module _ (P : List (List ℕ)) (E : List EntryList) (proper : Proper E) where
     rule-agrees (deletes (suc i)) r =
         let q = proper .each e m in
         let inside = position-inside (length (e .prefix)) (suc i) (sym (ap (outside (length (e .prefix))) r) ∙ q .inside) in
-        let k : i < length (e .prefix) = position-high (length (e .prefix)) (suc i) (sym (ap (outside (length (e .prefix))) r) ∙ q .inside) in
+        let k : i < length (e .prefix) = position-high (length (e .prefix)) (suc i)
+        (sym (ap (outside (length (e .prefix))) r) ∙ q .inside) in
         let d = deleted-size i (e .prefix) (q .perm) k in
         let t = merged-total (suc i ∷ []) (e .prefix) g in
         agree (deleted (suc i ∷ []) (e .prefix)) (merged (suc i ∷ []) (e .prefix) g) (target-listed e m (suc i) r)
@@ -107,7 +112,8 @@ factorial-step n = omega (arith, suc-mul n (factorial n))
 
 factorial-grows : (n d : ℕ) → factorial n ≤ factorial (n + d)
 factorial-grows n zero = rw (add-zero n) (omega arith)
-factorial-grows n (suc d) = let e : n + suc d ≡ suc (n + d) = omega arith in rw e (omega (arith, factorial-grows n d, factorial-step (n + d)))
+factorial-grows n (suc d) = let e : n + suc d ≡ suc (n + d) = omega arith in
+    rw e (omega (arith, factorial-grows n d, factorial-step (n + d)))
 
 -- steps between numbers, so that no law has to count with the largest ones
 pub at-most : (a b c : ℕ) → a ≤ b → b ≤ c → a ≤ c
@@ -162,10 +168,12 @@ module _ (P : List (List ℕ)) (E : List EntryList) (formed : WellFormed P E) (t
             (total (map (λ s. length (cell P (childAt (e .prefix) (slot g s)) (split g s))) (oneTo (total g))))
         go zero t = ap length (cell-zero P (e .prefix) g perm wide t) ∙ one (avoids P (e .prefix)) ∙
             ap (λ b. cond b (cond (avoids P (e .prefix)) 1 0)
-            (total (map (λ s. length (cell P (childAt (e .prefix) (slot g s)) (split g s))) (oneTo (total g))))) (sym (eq-eqb (total g) 0 t))
+            (total (map (λ s. length (cell P (childAt (e .prefix) (slot g s)) (split g s))) (oneTo (total g)))))
+            (sym (eq-eqb (total g) 0 t))
         go (suc n) t = size-children P (e .prefix) g n perm wide t ∙
             ap (λ b. cond b (cond (avoids P (e .prefix)) 1 0)
-            (total (map (λ s. length (cell P (childAt (e .prefix) (slot g s)) (split g s))) (oneTo (total g))))) (sym (ne-eqb (total g) 0 (λ (z : total g ≡ 0). omega arith)))
+            (total (map (λ s. length (cell P (childAt (e .prefix) (slot g s)) (split g s))) (oneTo (total g)))))
+            (sym (ne-eqb (total g) 0 (λ (z : total g ≡ 0). omega arith)))
     spoken f (deletes i) r =
         let q = left E (formed .scheme) .each e m in
         let inside = position-inside (length (e .prefix)) i (sym (ap (outside (length (e .prefix))) r) ∙ q .inside) in
@@ -173,7 +181,8 @@ module _ (P : List (List ℕ)) (E : List EntryList) (formed : WellFormed P E) (t
         sizes-of-agrees P (e .prefix) (i ∷ []) (q .perm) inside g wide
         (agrees-of-claim P (e .prefix) (i ∷ []) (q .perm) inside (e .gaps) claim g wide f)
       where
-        cast-rule : (d : Does) (i : ℕ) → d ≡ deletes i → RuleClaim P (e .prefix) (e .gaps) d → DeletionClaim P (e .prefix) (e .gaps) (i ∷ [])
+        cast-rule : (d : Does) (i : ℕ) → d ≡ deletes i → RuleClaim P (e .prefix) (e .gaps) d →
+            DeletionClaim P (e .prefix) (e .gaps) (i ∷ [])
         cast-rule d i q c = rw q at c
 
     -- at an entry of the scheme
@@ -181,12 +190,14 @@ module _ (P : List (List ℕ)) (E : List EntryList) (formed : WellFormed P E) (t
     unfolding entryValue
     entry-solves = go (free (e .gaps) g) refl
       where
-        go : (b : Bool) → free (e .gaps) g ≡ b → size P (e .prefix) g ≡ cond (free (e .gaps) g) (ruleValue (size P) P (e .prefix) g (e .rule)) 0
+        go : (b : Bool) → free (e .gaps) g ≡ b → size P (e .prefix) g ≡
+            cond (free (e .gaps) g) (ruleValue (size P) P (e .prefix) g (e .rule)) 0
         go true f = rw f (spoken f (e .rule) refl)
         go false f = rw f (covered f)
 
   -- The sizes solve the recursion at each listed prefix.
-  pub sizes-solve : (p : List ℕ) → Listed E p → (g : List ℕ) → length g ≡ suc (length p) → size P p g ≡ entryValue (size P) P (entryFor E p) g
+  pub sizes-solve : (p : List ℕ) → Listed E p → (g : List ℕ) → length g ≡ suc (length p) → size P p g ≡
+      entryValue (size P) P (entryFor E p) g
   sizes-solve p l g wide =
       let (e, m, f, s) = entry-found E p l in
       rw f (go e m s)
@@ -212,12 +223,14 @@ module _ (P : List (List ℕ)) (E : List EntryList) (formed : WellFormed P E) (t
           ih q i k w (omega (arith, less, h, ap length s))))
 
   -- no value exceeds the factorial of the total
-  pub value-at-most : (f : ℕ) (p g : List ℕ) → Listed E p → length g ≡ suc (length p) → measure p g < f → value f P E p g ≤ factorial (total g)
+  pub value-at-most : (f : ℕ) (p g : List ℕ) → Listed E p → length g ≡ suc (length p) → measure p g < f →
+      value f P E p g ≤ factorial (total g)
   value-at-most f p g l wide h = omega (arith, value-size f p g l wide h, cell-at-most P p g)
 
   -- "No value exceeds 20! = 2432902008176640000" (01): at every listed prefix, for every spacing of
   -- a length that is counted
-  pub value-at-most-twenty-factorial : (f : ℕ) (p g : List ℕ) → Listed E p → length g ≡ suc (length p) → measure p g < f → length p + total g ≤ LENGTH →
+  pub value-at-most-twenty-factorial : (f : ℕ) (p g : List ℕ) → Listed E p → length g ≡ suc (length p) →
+      measure p g < f → length p + total g ≤ LENGTH →
       value f P E p g ≤ HIGHEST
   value-at-most-twenty-factorial f p g l wide h few =
       at-most (value f P E p g) (factorial (total g)) HIGHEST (value-at-most f p g l wide h) (factorial-at-most (total g) (omega arith))

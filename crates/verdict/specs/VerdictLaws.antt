@@ -19,7 +19,8 @@ use Rattle.cell.specs.Theorems.{gap-law, finite-law}
 use Rattle.forms.specs.SchemeList.{Does, expands, deletes, EntryList}
 use Rattle.scheme.specs.WellFormed.{firstAt, outside, patternTests, schemeTests}
 use Rattle.forms.specs.SchemeMemory.{faultOf}
-use Rattle.verdict.specs.Verdict.{isEmpty, liveGap, sizesDiffer, differs, claimTests, comparedCells, judgeTests, answered, verdictOf, accepted}
+use Rattle.verdict.specs.Verdict.{isEmpty, liveGap, sizesDiffer, differs, claimTests, comparedCells}
+use Rattle.verdict.specs.Verdict.{judgeTests, answered, verdictOf, accepted}
 use Rattle.verdict.specs.Truth.{WellFormed, RuleClaim, AllTrue}
 use Rattle.scheme.specs.FindingLaws.{clean-in, clean-left, clean-right, clean-append, clean-two, first-out, first-in, none-out, none-in}
 use Rattle.scheme.specs.ProperLaws.{proper, position-inside}
@@ -76,10 +77,12 @@ module _ (P : List (List ℕ)) (E : List EntryList) (formed : firstFault (scheme
       record {
         gaps =
             live-law P (e .prefix) (e .gaps) (q .perm) .0
-            (first-out LiveGap (λ (d : EntryList). liveGap P (d .prefix) (d .gaps)) 0 (clean-in (claimTests P E) (List·Memᴰ·head refl) c) m);
+            (first-out LiveGap (λ (d : EntryList). liveGap P (d .prefix) (d .gaps)) 0
+            (clean-in (claimTests P E) (List·Memᴰ·head refl) c) m);
         rule =
             differs-law P (e .prefix) (e .gaps) (e .rule) (q .perm) (q .inside) .0
-            (first-out Irreversible (λ (d : EntryList). differs P (d .prefix) (d .gaps) (d .rule)) 0 (clean-in (claimTests P E) (List·Memᴰ·tail (List·Memᴰ·head refl)) c) m);
+            (first-out Irreversible (λ (d : EntryList). differs P (d .prefix) (d .gaps) (d .rule)) 0
+            (clean-in (claimTests P E) (List·Memᴰ·tail (List·Memᴰ·head refl)) c) m);
       }
 
   pub claims-clean : AllTrue P E → firstFault (claimTests P E) ≡ clean

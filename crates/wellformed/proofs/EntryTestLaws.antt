@@ -35,7 +35,8 @@ module _ (p : List ℕ) (n : ℕ) (h : n ≤ length p) where
   unfolding total
   total-more i k =
       let long : i < length (padded n p) = omega (arith, length-padded n p) in
-      rw (drop-cons (padded n p) i 0 long, add-one i) (ap (λ (x : ℕ). x + total (drop (suc i) (padded n p))) (rw (padded-within n p h) (getD-take n p i 0 k)))
+      rw (drop-cons (padded n p) i 0 long, add-one i)
+      (ap (λ (x : ℕ). x + total (drop (suc i) (padded n p))) (rw (padded-within n p h) (getD-take n p i 0 k)))
 
   pub total-none : (i : ℕ) → n ≤ i → total (drop i (padded n p)) ≡ 0
   unfolding total
@@ -59,11 +60,21 @@ module _ (e : Entry) where
 
   pub entry-many : e .length ≤ PREFIX → GAPS < e .«gap_count» → largeEntry (entryIn e) ≡ true
   entry-many k h =
-      rw (length-padded (e .length) (e .prefix), le-ltb PREFIX (e .length) k, length-items (gapAt e) (e .«gap_count»), lt-ltb GAPS (e .«gap_count») h) refl
+      rw (
+        length-padded (e .length) (e .prefix),
+        le-ltb PREFIX (e .length) k,
+        length-items (gapAt e) (e .«gap_count»),
+        lt-ltb GAPS (e .«gap_count») h,
+      ) refl
 
   pub entry-by-gaps : e .length ≤ PREFIX → e .«gap_count» ≤ GAPS → largeEntry (entryIn e) ≡ any largeGap (from (gapAt e) (e .«gap_count») 0)
   entry-by-gaps k h =
-      rw (length-padded (e .length) (e .prefix), le-ltb PREFIX (e .length) k, length-items (gapAt e) (e .«gap_count»), le-ltb GAPS (e .«gap_count») h)
+      rw (
+        length-padded (e .length) (e .prefix),
+        le-ltb PREFIX (e .length) k,
+        length-items (gapAt e) (e .«gap_count»),
+        le-ltb GAPS (e .«gap_count») h,
+      )
       (any-start largeGap (gapAt e) (e .«gap_count»))
 
 -- the width of a vector in test 6
@@ -129,15 +140,18 @@ sized-entry e h =
       few = omega (arith, second, length-items (gapAt e) n);
       narrow = λ (j : ℕ) (k : j < n).
           let small = any-clean (gapAt e) largeGap n j (or-right many gaps rest) k in
-          let wide = ltb-false COMPONENTS (length (gapAt e j)) (or-left (ltb COMPONENTS (length (gapAt e j))) (ltb TOTAL (total (gapAt e j))) small) in
+          let wide = ltb-false COMPONENTS (length (gapAt e j))
+          (or-left (ltb COMPONENTS (length (gapAt e j))) (ltb TOTAL (total (gapAt e j))) small) in
           omega (arith, wide, length-padded (getD (e .widths) j 0) (partsAt (e .gaps) j));
     }
 
 -- a scheme in which test 2 finds nothing lies within the ceilings
 pub sized-of-clean : (s : Scheme) → Clean ≡ faultOf (largeFinding (schemeIn s)) → Sized s
 sized-of-clean s h =
-    let parts = clean-test (ltb ENTRIES (length (schemeIn s))) (firstAt Oversize largeEntry 0 (schemeIn s)) (clean-of (largeFinding (schemeIn s)) (sym h)) in
+    let parts = clean-test (ltb ENTRIES (length (schemeIn s))) (firstAt Oversize largeEntry 0 (schemeIn s))
+    (clean-of (largeFinding (schemeIn s)) (sym h)) in
     record {
       few = omega (arith, ltb-false ENTRIES (length (schemeIn s)) (parts .0), length-items (entryAt s) (s .count));
-      each = λ (i : ℕ) (k : i < s .count). sized-entry (getD (s .entries) i noEntry) (first-clean (entryAt s) Oversize largeEntry (s .count) i (parts .1) k);
+      each = λ (i : ℕ) (k : i < s .count). sized-entry (getD (s .entries) i noEntry)
+          (first-clean (entryAt s) Oversize largeEntry (s .count) i (parts .1) k);
     }

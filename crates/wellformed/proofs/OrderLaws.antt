@@ -95,7 +95,8 @@ pub linked-of-clean : (s : Scheme) → Sized s → faultOf (firstFault (sizeTest
     faultOf (firstFault (entryTests (schemeIn s))) ≡ Clean → Linked s
 linked-of-clean s h a b =
     let E = schemeIn s in
-    let large = clean-second (test Oversize (ltb ENTRIES (length E))) (firstAt Oversize largeEntry 0 E) (clean-of (firstFault (sizeTests E)) a) in
+    let large = clean-second (test Oversize (ltb ENTRIES (length E))) (firstAt Oversize largeEntry 0 E)
+    (clean-of (firstFault (sizeTests E)) a) in
     let ends =
     clean-ends (permutationTest E) (twinTest E) (rootTest E) (widthTest E) (positionTest E) (clean-of (firstFault (entryTests E)) b) in
     linked-clean s (h .few) large (ends .0) (ends .1)

@@ -24,7 +24,8 @@ use Rattle.forms.specs.declared.memory.Fault.{Fault}
 use Rattle.scheme.specs.WellFormed.{firstAt, listed, repeats, largeEntry, twinEntry, wrongWidth}
 use Rattle.scheme.specs.TestOrder.{seen}
 use Rattle.scheme.specs.WellFormed.{permutationTest, twinTest, widthTest, positionTest}
-use Rattle.scheme.specs.TestLaws.{from, first-from, first-here, first-later, first-end, first-step, twin-from, twin-start, twin-end, twin-step, noted-start, noted-more, noted-end}
+use Rattle.scheme.specs.TestLaws.{from, first-from, first-here, first-later, first-end, first-step, twin-from}
+use Rattle.scheme.specs.TestLaws.{twin-start, twin-end, twin-step, noted-start, noted-more, noted-end}
 use Rattle.scheme.specs.Links.{prefixesIn}
 use Rattle.scheme.proofs.LookupLaws.{prefixAt, prefixes-at}
 use Rattle.wellformed.specs.EntryPass.{noFaults, twinBy, noPerm, misplaced, WithEntry, EntryFindings}
@@ -57,7 +58,8 @@ module _ (s : Scheme) (codes : List ℕ) (i : ℕ) (w : (j : ℕ) → j ≤ i �
       rw (here .is, there .is) (code-same (prefixAt s i) (prefixAt s j) (here .bytes) (there .bytes))
 
   earlier-listed : (j : ℕ) → j ≤ i →
-      any (eqb (getD codes i 0)) (seen (λ n. getD codes n 0) j) ≡ listed (map (λ (d : EntryList). d .prefix) (seen (entryAt s) j)) (prefixAt s i)
+      any (eqb (getD codes i 0)) (seen (λ n. getD codes n 0) j) ≡
+      listed (map (λ (d : EntryList). d .prefix) (seen (entryAt s) j)) (prefixAt s i)
   earlier-listed zero k = refl
   earlier-listed (suc j) k = ap₂ _||_ (code-compared j (omega arith)) (earlier-listed j (omega arith))
 
@@ -70,7 +72,8 @@ pub record Findings (s : Scheme) (f : EntryFaults) (i : ℕ) : Type 0 where
   pub none : faultOf (permutationTest (schemeIn s)) ≡ orElse (f .none) (faultOf (first-from NoPermutation noPerm (entryAt s) (s .count) i))
   pub twin : faultOf (twinTest (schemeIn s)) ≡ orElse (f .twin) (faultOf (twin-from twinEntry (entryAt s) (s .count) i))
   pub width : faultOf (widthTest (schemeIn s)) ≡ orElse (f .width) (faultOf (first-from Width wrongWidth (entryAt s) (s .count) i))
-  pub position : faultOf (positionTest (schemeIn s)) ≡ orElse (f .position) (faultOf (first-from NoPosition misplaced (entryAt s) (s .count) i))
+  pub position : faultOf (positionTest (schemeIn s)) ≡
+      orElse (f .position) (faultOf (first-from NoPosition misplaced (entryAt s) (s .count) i))
 
 pub findings-start : (s : Scheme) → Findings s noFaults 0
 findings-start s =
@@ -87,8 +90,10 @@ module _ (s : Scheme) (f : EntryFaults) (i : ℕ) (w : Findings s f i) where
   findings-more codes r k h e =
       record {
         none = first NoPermutation noPerm (faultOf (permutationTest (schemeIn s))) (f .none) (r .none) (w .none) (e .none);
-        twin = noted-more Repeated (λ n. twinEntry (seen (entryAt s) n) (entryAt s n)) (s .count) (twin-from twinEntry (entryAt s) (s .count))
-            (twin-step (entryAt s) (s .count) twinEntry) (faultOf (twinTest (schemeIn s))) i (f .twin) (r .twin) (twinBy codes i (entryAt s i)) h
+        twin = noted-more Repeated (λ n. twinEntry (seen (entryAt s) n) (entryAt s n)) (s .count)
+            (twin-from twinEntry (entryAt s) (s .count))
+            (twin-step (entryAt s) (s .count) twinEntry) (faultOf (twinTest (schemeIn s))) i (f .twin) (r .twin)
+            (twinBy codes i (entryAt s i)) h
             (w .twin) (twin-coded s codes i k) (e .twin);
         width = first Width wrongWidth (faultOf (widthTest (schemeIn s))) (f .width) (r .width) (w .width) (e .width);
         position = first NoPosition misplaced (faultOf (positionTest (schemeIn s))) (f .position) (r .position) (w .position) (e .position);
@@ -98,7 +103,8 @@ module _ (s : Scheme) (f : EntryFaults) (i : ℕ) (w : Findings s f i) where
           whole ≡ orElse found (faultOf (first-from q t (entryAt s) (s .count) i)) → next ≡ orElse found (faultIf (t (entryAt s i)) q i) →
           whole ≡ orElse next (faultOf (first-from q t (entryAt s) (s .count) (i + 1)))
       first q t whole found next a b =
-          noted-more q (λ n. t (entryAt s n)) (s .count) (first-from q t (entryAt s) (s .count)) (first-step (entryAt s) (s .count) q t) whole i found
+          noted-more q (λ n. t (entryAt s n)) (s .count) (first-from q t (entryAt s) (s .count))
+          (first-step (entryAt s) (s .count) q t) whole i found
           next (t (entryAt s i)) h a refl b
 
   pub findings-end : s .count ≤ i → EntryFindings (schemeIn s) f
@@ -120,7 +126,8 @@ pub record Pass (s : Scheme) (f : EntryFaults) (codes : List ℕ) (i : ℕ) : Ty
   pub coded : (j : ℕ) → j < i → IsCode (prefixAt s j) (getD codes j 0)
   pub findings : Findings s f i
 
-pub pass-start : (s : Scheme) (f : EntryFaults) (codes : List ℕ) → s .count ≤ ENTRIES → length codes ≡ ENTRIES → f ≡ noFaults → Pass s f codes 0
+pub pass-start : (s : Scheme) (f : EntryFaults) (codes : List ℕ) → s .count ≤ ENTRIES → length codes ≡ ENTRIES → f ≡
+    noFaults → Pass s f codes 0
 pass-start s f codes few room is =
     record {
       few = few;
@@ -139,10 +146,12 @@ module _ (s : Scheme) (f : EntryFaults) (codes : List ℕ) (i : ℕ) (w : Pass s
 
     module _ (code : ℕ) (is : IsCode (prefixAt s i) code) where
       stored : (j : ℕ) → j < i + 1 → IsCode (prefixAt s j) (getD (set codes i code) j 0)
-      stored = rows-more (λ (j y : ℕ). IsCode (prefixAt s j) y) codes 0 i code (let few = w .few in let room = w .room in omega arith) is (w .coded)
+      stored = rows-more (λ (j y : ℕ). IsCode (prefixAt s j) y) codes 0 i code
+          (let few = w .few in let room = w .room in omega arith) is (w .coded)
 
       -- the pass with one entry more
-      pub pass-more : (r : EntryFaults) → largeEntry (entryAt s i) ≡ false → WithEntry f (set codes i code) (entryAt s i) i r → Pass s r (set codes i code) (i + 1)
+      pub pass-more : (r : EntryFaults) → largeEntry (entryAt s i) ≡ false →
+          WithEntry f (set codes i code) (entryAt s i) i r → Pass s r (set codes i code) (i + 1)
       pass-more r e more =
           record {
             few = w .few;
@@ -160,7 +169,8 @@ module _ (s : Scheme) (f : EntryFaults) (codes : List ℕ) (i : ℕ) (w : Pass s
 
     pub pass-codes : Codes (prefixesIn s) (take (s .count) codes)
     pass-codes =
-        let made = codes-made (prefixAt s) (s .count) codes (let few = w .few in let room = w .room in omega arith) (λ (j : ℕ) (k : j < s .count). w .coded j (omega arith)) in
+        let made = codes-made (prefixAt s) (s .count) codes (let few = w .few in let room = w .room in omega arith)
+        (λ (j : ℕ) (k : j < s .count). w .coded j (omega arith)) in
         rw (prefixes-at s) made
 
     pub pass-findings : EntryFindings (schemeIn s) f

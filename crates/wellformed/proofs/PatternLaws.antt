@@ -43,4 +43,5 @@ module _ (s : Patterns) where
       orElse (faultOf (firstAt Oversize (λ β. ltb DIGITS (length β)) 0 (patternsIn s)))
       (orElse (faultOf (firstAt NoPermutation (λ β. not (isPattern β)) 0 (patternsIn s))) (faultOf (firstTwin listed 0 [] (patternsIn s))))
   few-patterns h = rw (length-items (placeIn s) (s .count), le-ltb PATTERNS (s .count) h)
-      (three-faults (firstAt Oversize (λ β. ltb DIGITS (length β)) 0 (patternsIn s)) (firstAt NoPermutation (λ β. not (isPattern β)) 0 (patternsIn s)) (firstTwin listed 0 [] (patternsIn s)))
+      (three-faults (firstAt Oversize (λ β. ltb DIGITS (length β)) 0 (patternsIn s))
+      (firstAt NoPermutation (λ β. not (isPattern β)) 0 (patternsIn s)) (firstTwin listed 0 [] (patternsIn s)))

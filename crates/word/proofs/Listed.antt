@@ -37,7 +37,8 @@ module _ (n : ℕ) (s : List ℕ) (i : ℕ) (h : i < length s) where
       let later : has (getD s i 0) (drop (suc i) s) ≡ true = rw (add-one i) at e in
       rw (drop-cons s i 0 h, later) (and-false (all (within n) (getD s i 0 ∷ drop (suc i) s)))
 
-  pub listed-next : (getD s i 0 ≡ 0 → ⊥) → getD s i 0 ≤ n → has (getD s i 0) (drop (i + 1) s) ≡ false → listed n (drop i s) ≡ listed n (drop (i + 1) s)
+  pub listed-next : (getD s i 0 ≡ 0 → ⊥) → getD s i 0 ≤ n → has (getD s i 0) (drop (i + 1) s) ≡ false →
+      listed n (drop i s) ≡ listed n (drop (i + 1) s)
   unfolding listed
   listed-next z a e =
       let later : has (getD s i 0) (drop (suc i) s) ≡ false = rw (add-one i) at e in

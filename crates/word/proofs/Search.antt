@@ -10,9 +10,11 @@ use mathlib.Core.Logic.{_⊎_, inl, inr}
 use native.Mathlib.Nat.{sub-zero, zero-sub, suc-sub-suc}
 use native.Mathlib.Numerals.{add-one}
 use native.Mathlib.Omega.{arith}
-use lib.ListN.{length, getD, take, drop, set, replicate, length-append, length-take, length-drop, length-set, drop-of-length-le, take-append-drop}
+use lib.ListN.{length, getD, take, drop, set, replicate, length-append, length-take, length-drop, length-set}
+use lib.ListN.{drop-of-length-le, take-append-drop}
 use lib.Dec.{ltb}
-use lib.Seq.{take-set-le, take-suc-set, take-suc, drop-cons, getD-set-same, getD-set-other, drop-length, length-take-le, getD-take, drop-set-lt, take-take}
+use lib.Seq.{take-set-le, take-suc-set, take-suc, drop-cons, getD-set-same, getD-set-other, drop-length}
+use lib.Seq.{length-take-le, getD-take, drop-set-lt, take-take}
 use borrow.Author.Tests.{not-true, not-false}
 use Rattle.word.specs.Lists.{first, sublists, row}
 use Rattle.word.specs.Word.{iso, entry, firstCopy}
@@ -114,12 +116,14 @@ no-copy f b x r s i e h l = go (iso (b ++ (x ∷ r)) (s ++ map f (i ∷ l))) ref
     go true k =
         let len : length (b ++ (x ∷ [])) ≡ length (s ++ (f i ∷ [])) =
         omega (arith, length-append b (x ∷ []), length-append s (f i ∷ []), iso-length b s e) in
-        let p : iso (b ++ (x ∷ [])) (s ++ (f i ∷ [])) ≡ true = iso-prefix (b ++ (x ∷ [])) r (s ++ (f i ∷ [])) (map f l) len (sym (go-on f b x r s i l) ∙ k) in
+        let p : iso (b ++ (x ∷ [])) (s ++ (f i ∷ [])) ≡ true =
+        iso-prefix (b ++ (x ∷ [])) r (s ++ (f i ∷ [])) (map f l) len (sym (go-on f b x r s i l) ∙ k) in
         sym p ∙ iso-snoc b x s (f i) ∙ rw (e, h) refl
 
 seek-step : (f : ℕ → ℕ) (b : List ℕ) (x : ℕ) (r s : List ℕ) (i : ℕ) (k : List (List ℕ)) (o : Option (List ℕ)) → iso b s ≡ true →
     (iso (b ++ (x ∷ [])) (s ++ (f i ∷ [])) ≡ true → o ≡ first (λ l. iso ((b ++ (x ∷ [])) ++ r) ((s ++ (f i ∷ [])) ++ map f l)) k) →
-    cond (fits b x s (f i)) (Option·map (λ l. i ∷ l) o) none ≡ Option·map (λ l. i ∷ l) (first (λ l. iso (b ++ (x ∷ r)) (s ++ map f (i ∷ l))) k)
+    cond (fits b x s (f i)) (Option·map (λ l. i ∷ l) o) none ≡
+    Option·map (λ l. i ∷ l) (first (λ l. iso (b ++ (x ∷ r)) (s ++ map f (i ∷ l))) k)
 seek-step f b x r s i k o e ih = go (fits b x s (f i)) refl
   where
     go : (c : Bool) → fits b x s (f i) ≡ c →
@@ -158,7 +162,8 @@ seek-short f b (x ∷ r) s (i ∷ q) h =
 
 seek-place : (f : ℕ → ℕ) (b : List ℕ) (x : ℕ) (r s pre : List ℕ) (i : ℕ) (q : List ℕ) → fits b x s (f i) ≡ true →
     Option·map (λ l. pre ++ l) (seek f b (x ∷ r) s (i ∷ q)) ≡
-    orElse (Option·map (λ l. (pre ++ (i ∷ [])) ++ l) (seek f (b ++ (x ∷ [])) r (s ++ (f i ∷ [])) q)) (Option·map (λ l. pre ++ l) (seek f b (x ∷ r) s q))
+    orElse (Option·map (λ l. (pre ++ (i ∷ [])) ++ l) (seek f (b ++ (x ∷ [])) r (s ++ (f i ∷ [])) q))
+    (Option·map (λ l. pre ++ l) (seek f b (x ∷ r) s q))
 unfolding seek
 seek-place f b x r s pre i q e =
     rw (e, map-orElse (λ l. pre ++ l), map-map (λ l. pre ++ l) (λ l. i ∷ l)) (simp append-assoc)
@@ -180,7 +185,8 @@ module _ (β w : List ℕ) where
 
   pub left-start : (at : List ℕ) → left at 0 (after w 0) ≡ firstCopy β w
   unfolding left seek firstCopy iso
-  left-start at = rw (sub-zero (length w)) (start (seek (entry w) [] β [] (row 1 (length w))) ∙ seek-first (entry w) [] β [] (row 1 (length w)) refl)
+  left-start at = rw (sub-zero (length w)) (start (seek (entry w) [] β [] (row 1 (length w))) ∙ seek-first (entry w)
+      [] β [] (row 1 (length w)) refl)
     where
       start : (a : Option (List ℕ)) → orElse (Option·map (λ l. l) a) none ≡ a
       start none = refl
@@ -265,7 +271,8 @@ pub weight-skip : (k n : ℕ) (at : List ℕ) (d i : ℕ) → d < k → i < n �
 unfolding weight
 weight-skip k n at d i h j = omega (arith, size-parts (k - d) (k - (d + 1)) (n - i) (n - (i + 1)) (omega arith) (omega arith))
 
-pub weight-place : (k n : ℕ) (at : List ℕ) (d i : ℕ) → d < k → i < n → d < length at → weight k n (set at d (i + 1)) (d + 1) (i + 1) < weight k n at d i
+pub weight-place : (k n : ℕ) (at : List ℕ) (d i : ℕ) → d < k → i < n → d < length at →
+    weight k n (set at d (i + 1)) (d + 1) (i + 1) < weight k n at d i
 unfolding weight load
 weight-place k n at d i h j l =
     rw (add-one d, getD-set-same at d (i + 1) 0 l, load-set k n at d (i + 1) d (omega arith))
@@ -280,7 +287,8 @@ weight-back k n at d i h = go (d - 1) (omega arith)
 
 -- the pairs of the new entries with those that stand
 
-pub pairs-none : (b e : List ℕ) (x y d j : ℕ) → d ≤ length b → d ≤ length e → d ≤ j → fits (drop j (take d b)) x (drop j (take d e)) y ≡ true
+pub pairs-none : (b e : List ℕ) (x y d j : ℕ) → d ≤ length b → d ≤ length e → d ≤ j →
+    fits (drop j (take d b)) x (drop j (take d e)) y ≡ true
 unfolding fits
 pairs-none b e x y d j hb he h =
     let lb : length (take d b) ≤ j = rw (length-take-le d b hb) h in
@@ -301,7 +309,8 @@ module _ (b e : List ℕ) (x y d j : ℕ) (hb : d ≤ length b) (he : d ≤ leng
       fits (drop j (take d b)) x (drop j (take d e)) y ≡ fits (drop (j + 1) (take d b)) x (drop (j + 1) (take d e)) y
   pair-passed t = rw (pair-cons b e x y d j hb he h, not-false (Bool·beq (ltb (getD b j 0) x) (ltb (getD e j 0) y)) t) refl
 
-  pub pair-failed : not (Bool·beq (ltb (getD b j 0) x) (ltb (getD e j 0) y)) ≡ true → fits (drop j (take d b)) x (drop j (take d e)) y ≡ false
+  pub pair-failed : not (Bool·beq (ltb (getD b j 0) x) (ltb (getD e j 0) y)) ≡ true →
+      fits (drop j (take d b)) x (drop j (take d e)) y ≡ false
   pair-failed t = rw (pair-cons b e x y d j hb he h, not-true (Bool·beq (ltb (getD b j 0) x) (ltb (getD e j 0) y)) t) refl
 
 -- the state of the walk before the entry at place d is sought after position i: the first copy is
@@ -382,7 +391,8 @@ module _ (p w : List ℕ) (l k : ℕ) (eight : length p ≡ 8) (capped : k ≡ m
         placed : firstCopy (take l p) w ≡ left (take l p) w (set at d (i + 1)) (d + 1) (after w (i + 1))
         placed =
             W .answer ∙ rw (add-one i, add-one d, after-cons w i h)
-            (left-place (take l p) w at d (suc i) (omega (arith, length-cut, W .inside)) (omega (arith, W .positions, W .inside)) (sym fit-place ∙ e))
+            (left-place (take l p) w at d (suc i) (omega (arith, length-cut, W .inside))
+            (omega (arith, W .positions, W .inside)) (sym fit-place ∙ e))
 
         rest-kept : drop k (set at d (i + 1)) ≡ replicate (8 - k) 0
         rest-kept = drop-set-lt k at d (i + 1) (W .inside) ∙ W .rest

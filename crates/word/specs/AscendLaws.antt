@@ -31,7 +31,8 @@ unfolding before
 before-first x y u v h = rw (lt-ltb x y h)
 
 -- lists that ascend
-pub ascends-map : (f : List ℕ → List ℕ) (l : List (List ℕ)) → ((u v : List ℕ) → before (f u) (f v) ≡ before u v) → ascends (map f l) ≡ ascends l
+pub ascends-map : (f : List ℕ → List ℕ) (l : List (List ℕ)) → ((u v : List ℕ) → before (f u) (f v) ≡ before u v) →
+    ascends (map f l) ≡ ascends l
 unfolding ascends
 ascends-map f [] h = refl
 ascends-map f (u ∷ l) h =
@@ -44,12 +45,14 @@ ascends-append [] m p q h = q
 ascends-append (u ∷ l) m p q h =
     let across : all (before u) m ≡ true = all-in (before u) m (λ (v : List ℕ) (n : List·Memᴰ v m). h u v (List·Memᴰ·head refl) n) in
     and-in (all (before u) (l ++ m)) (ascends (l ++ m)) (all-append (before u) l m (and-left (all (before u) l) (ascends l) p) across)
-    (ascends-append l m (and-right (all (before u) l) (ascends l) p) q (λ (t v : List ℕ) (k : List·Memᴰ t l) (n : List·Memᴰ v m). h t v (List·Memᴰ·tail k) n))
+    (ascends-append l m (and-right (all (before u) l) (ascends l) p) q
+    (λ (t v : List ℕ) (k : List·Memᴰ t l) (n : List·Memᴰ v m). h t v (List·Memᴰ·tail k) n))
 
 pub ascends-keep : (f : List ℕ → Bool) (l : List (List ℕ)) → ascends l ≡ true → ascends (keep f l) ≡ true
 unfolding ascends
 ascends-keep f [] e = refl
-ascends-keep f (u ∷ l) e = step (f u) (and-left (all (before u) l) (ascends l) e) (ascends-keep f l (and-right (all (before u) l) (ascends l) e))
+ascends-keep f (u ∷ l) e = step (f u) (and-left (all (before u) l) (ascends l) e)
+    (ascends-keep f l (and-right (all (before u) l) (ascends l) e))
   where
     step : (b : Bool) → all (before u) l ≡ true → ascends (keep f l) ≡ true → ascends (cond b (u ∷ keep f l) (keep f l)) ≡ true
     step true p q = and-in (all (before u) (keep f l)) (ascends (keep f l))
@@ -99,13 +102,15 @@ perms-once n i j h k q = ascends-once (perms n) i j (perms-ascend n) h k q
 
 -- the words of the list avoiders P n are the permutations of length n that avoid P, in
 -- lexicographic order
-pub avoiders-are : (P : List (List ℕ)) (n : ℕ) {w : List ℕ} → List·Memᴰ w (avoiders P n) → (isPerm w ≡ true) × (length w ≡ n) × (avoids P w ≡ true)
+pub avoiders-are : (P : List (List ℕ)) (n : ℕ) {w : List ℕ} → List·Memᴰ w (avoiders P n) → (isPerm w ≡ true) ×
+    (length w ≡ n) × (avoids P w ≡ true)
 unfolding avoiders
 avoiders-are P n m =
     let (k, e) = keep-out (avoids P) (perms n) m in
     let (p, l) = perms-are n k in (p, l, e)
 
-pub avoiders-all : (P : List (List ℕ)) (n : ℕ) (w : List ℕ) → isPerm w ≡ true → length w ≡ n → avoids P w ≡ true → List·Memᴰ w (avoiders P n)
+pub avoiders-all : (P : List (List ℕ)) (n : ℕ) (w : List ℕ) → isPerm w ≡ true → length w ≡ n → avoids P w ≡ true →
+    List·Memᴰ w (avoiders P n)
 unfolding avoiders
 avoiders-all P n w p l e = keep-in (avoids P) (perms-all n w p l) e
 

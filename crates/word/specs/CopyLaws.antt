@@ -16,7 +16,7 @@ use Rattle.word.specs.ListLaws.{true-not-false, any-map, first-some, sub
 use Rattle.word.specs.IsoLaws.{iso-length}
 
 module _ {A : Type 0} where
-  -- there is something
+  -- whether a search has a result
   abbrev pub found : Option A → Bool
   found none = false
   found (some a) = true

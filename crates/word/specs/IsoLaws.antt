@@ -96,7 +96,8 @@ iso-snoc [] x [] y = refl
 iso-snoc [] x (c ∷ s) y = ap (λ (t : Bool). t && iso [] (s ++ (y ∷ []))) (alike-nil-snoc x c s y)
 iso-snoc (a ∷ b) x [] y = ap (λ (t : Bool). t && iso (b ++ (x ∷ [])) []) (alike-snoc-nil a b x y)
 iso-snoc (a ∷ b) x (c ∷ s) y =
-    ap₂ _&&_ (alike-snoc a b x c s y) (iso-snoc b x s y) ∙ and-middle (alike a b c s) (Bool·beq (ltb a x) (ltb c y)) (iso b s) (fits b x s y)
+    ap₂ _&&_ (alike-snoc a b x c s y) (iso-snoc b x s y) ∙
+    and-middle (alike a b c s) (Bool·beq (ltb a x) (ltb c y)) (iso b s) (fits b x s y)
 
 alike-prefix : (a : ℕ) (b r : List ℕ) (c : ℕ) (s v : List ℕ) → length b ≡ length s
     → alike a (b ++ r) c (s ++ v) ≡ true → alike a b c s ≡ true

@@ -5,7 +5,8 @@ use native.Mathlib.Omega.{arith}
 use mathlib.Core.Path.{_≡_, refl, sym, ap, _∙_, ap₂, subst}
 use mathlib.Core.Logic.{_⊎_, inl, inr}
 use mathlib.Core.Bool.{Bool, true, false, not, _&&_, _||_, cond, Bool·beq, or-true, true≢false, false≢true}
-use mathlib.Core.List.{List, [], _∷_, _++_, map, append-assoc, map-append, map-map, List·Memᴰ, List·Memᴰ·head, List·Memᴰ·tail, List·Memᴰ·not-nil}
+use mathlib.Core.List.{List, [], _∷_, _++_, map, append-assoc, map-append, map-map, List·Memᴰ, List·Memᴰ·head}
+use mathlib.Core.List.{List·Memᴰ·tail, List·Memᴰ·not-nil}
 use mathlib.Core.List.{List·Memᴰ·cases-cons, List·Memᴰ·append-cases, List·Memᴰ·eq-of-singleton}
 use mathlib.Core.List.{Memᴰ·cast, Memᴰ·append-left, Memᴰ·append-right, Memᴰ·map, Memᴰ·of-map}
 use mathlib.Core.List.{Sublistᴰ, Sublistᴰ·slnil, Sublistᴰ·cons, Sublistᴰ·cons-cons, Sublistᴰ·nil-sublist}
@@ -157,7 +158,8 @@ module _ {A : Type 0} where
   keep-out f [] m = absurd (List·Memᴰ·not-nil m)
   keep-out f {x} (y ∷ l) m = step (f y) refl (λ (n : List·Memᴰ x (keep f l)). keep-out f l n) m
     where
-      here : f y ≡ true → (List·Memᴰ x (keep f l) → List·Memᴰ x l × (f x ≡ true)) → (x ≡ y) ⊎ List·Memᴰ x (keep f l) → List·Memᴰ x (y ∷ l) × (f x ≡ true)
+      here : f y ≡ true → (List·Memᴰ x (keep f l) → List·Memᴰ x l × (f x ≡ true)) →
+          (x ≡ y) ⊎ List·Memᴰ x (keep f l) → List·Memᴰ x (y ∷ l) × (f x ≡ true)
       here e below (inl q) = (List·Memᴰ·head q, ap f q ∙ e)
       here e below (inr n) = let r = below n in (List·Memᴰ·tail (r .0), r .1)
 
@@ -237,7 +239,8 @@ module _ {A : Type 0} where
   mem-sublists-in Sublistᴰ·slnil = List·Memᴰ·head refl
   mem-sublists-in (Sublistᴰ·cons {a = a} {l₁ = s} {l₂ = l} d) = sublists-more s a l (mem-sublists-in d)
   mem-sublists-in (Sublistᴰ·cons-cons {a = a} {b = b} {l₁ = s} {l₂ = l} e d) =
-      Memᴰ·append-left (sublists (suc (length s)) l) (Memᴰ·cast (ap (λ (c : A). c ∷ s) e) (Memᴰ·map (λ (t : List A). b ∷ t) (mem-sublists-in d)))
+      Memᴰ·append-left (sublists (suc (length s)) l) (Memᴰ·cast (ap (λ (c : A). c ∷ s) e)
+      (Memᴰ·map (λ (t : List A). b ∷ t) (mem-sublists-in d)))
 
   pub mem-sublists-out : (k : ℕ) (l : List A) {s : List A} → List·Memᴰ s (sublists k l) → Sublistᴰ s l × (length s ≡ k)
   mem-sublists-out zero l {s} m =
@@ -245,9 +248,11 @@ module _ {A : Type 0} where
       (subst (λ (t : List A). Sublistᴰ t l) (sym e) (Sublistᴰ·nil-sublist l), ap length e)
   mem-sublists-out (suc k) [] m = absurd (List·Memᴰ·not-nil m)
   mem-sublists-out (suc k) (a ∷ l) {s} m =
-      go (λ t n. mem-sublists-out k l {s = t} n) (λ n. mem-sublists-out (suc k) l {s = s} n) (List·Memᴰ·append-cases (map (λ t. a ∷ t) (sublists k l)) m)
+      go (λ t n. mem-sublists-out k l {s = t} n) (λ n. mem-sublists-out (suc k) l {s = s} n)
+      (List·Memᴰ·append-cases (map (λ t. a ∷ t) (sublists k l)) m)
     where
-      go : ((t : List A) → List·Memᴰ t (sublists k l) → Sublistᴰ t l × (length t ≡ k)) → (List·Memᴰ s (sublists (suc k) l) → Sublistᴰ s l × (length s ≡ suc k))
+      go : ((t : List A) → List·Memᴰ t (sublists k l) → Sublistᴰ t l × (length t ≡ k)) →
+          (List·Memᴰ s (sublists (suc k) l) → Sublistᴰ s l × (length s ≡ suc k))
           → List·Memᴰ s (map (λ t. a ∷ t) (sublists k l)) ⊎ List·Memᴰ s (sublists (suc k) l) → Sublistᴰ s (a ∷ l) × (length s ≡ suc k)
       go f g (inl n) =
           let o = Memᴰ·of-map (λ (t : List A). a ∷ t) (sublists k l) n in

@@ -12,7 +12,8 @@ use borrow.Author.Tests.{leb-true, le-leb, lt-leb, eqb-true, eq-eqb}
 use Rattle.word.specs.Vocabulary.{factorial, unbump}
 use Rattle.word.specs.Lists.{all, oneTo}
 use Rattle.word.specs.Word.{under, reduce, has, distinct, within, isPerm, bump, perms}
-use Rattle.word.specs.ListLaws.{and-left, and-right, and-in, not-in, not-out, below-or-not, same-or-not, any-out, any-in, all-out, all-in}
+use Rattle.word.specs.ListLaws.{and-left, and-right, and-in, not-in, not-out, below-or-not, same-or-not}
+use Rattle.word.specs.ListLaws.{any-out, any-in, all-out, all-in}
 use Rattle.word.specs.ListLaws.{each-out, each-in, length-each, map-same, length-row, row-out, row-in}
 use Rattle.word.specs.IsoLaws.{under-strict}
 use Rattle.word.specs.BumpLaws.{Bumped, stays, moves, bumped, bump-injective, bump-misses, bump-positive, bump-at-most, bump-bounds}
@@ -39,8 +40,10 @@ within-in n x h k = and-in (leb 1 x) (leb x n) (le-leb 1 x h) (le-leb x n k)
 -- a list of distinct entries, by its first entry
 pub distinct-out : (x : ℕ) (w : List ℕ) → distinct (x ∷ w) ≡ true → (List·Memᴰ x w → ⊥) × (distinct w ≡ true)
 unfolding distinct
-distinct-out x w e =
-    (λ (m : List·Memᴰ x w). not-out (has x w) (and-left (not (has x w)) (distinct w) e) (has-in m), and-right (not (has x w)) (distinct w) e)
+distinct-out x w e = (
+  λ (m : List·Memᴰ x w). not-out (has x w) (and-left (not (has x w)) (distinct w) e) (has-in m),
+  and-right (not (has x w)) (distinct w) e,
+)
 
 pub distinct-in : (x : ℕ) (w : List ℕ) → (List·Memᴰ x w → ⊥) → distinct w ≡ true → distinct (x ∷ w) ≡ true
 unfolding distinct
@@ -130,7 +133,8 @@ perm-uncons a r e = (map (unbump a) r, perm-in (map (unbump a) r) bounds rest, s
 
     rest : distinct (map (unbump a) r) ≡ true
     rest = distinct-map (unbump a) r
-        (λ (x y : ℕ) (m : List·Memᴰ x r) (n : List·Memᴰ y r) (q : unbump a x ≡ unbump a y). sym (over x m) ∙ ap (bump a) q ∙ over y n) (parts .1)
+        (λ (x y : ℕ) (m : List·Memᴰ x r) (n : List·Memᴰ y r) (q : unbump a x ≡ unbump a y). sym (over x m) ∙
+        ap (bump a) q ∙ over y n) (parts .1)
 
 -- what holds of the empty word, and of a ∷ map (bump a) s where it holds of s, holds of every
 -- permutation
@@ -183,7 +187,8 @@ perms-all n w e l = rw (← l) (perm-induction (λ w. List·Memᴰ w (perms (len
     more : (a : ℕ) (s : List ℕ) → isPerm s ≡ true → 1 ≤ a → a ≤ suc (length s) → List·Memᴰ s (perms (length s)) →
         List·Memᴰ (a ∷ map (bump a) s) (perms (suc (length (map (bump a) s))))
     more a s e p q m = rw (length-map s (bump a))
-        (each-in (λ a. map (λ s. a ∷ map (bump a) s) (perms (length s))) (row-in 1 (suc (length s)) a p (omega arith)) (Memᴰ·map (λ s. a ∷ map (bump a) s) m))
+        (each-in (λ a. map (λ s. a ∷ map (bump a) s) (perms (length s)))
+        (row-in 1 (suc (length s)) a p (omega arith)) (Memᴰ·map (λ s. a ∷ map (bump a) s) m))
 
 pub length-perms : (n : ℕ) → length (perms n) ≡ factorial n
 unfolding perms factorial

@@ -1,7 +1,10 @@
 -- The number of each refusal in the table of document 01.
 use Prim.Native.Nat.{ℕ}
 use Rattle.word.specs.declared.refusal.Refusal.{Refusal}
-use Rattle.word.specs.declared.refusal.Refusal.the-variants.{Misspelt, Oversize, NoPermutation, Repeated, Rootless, Width, NoPosition, Childless, NoTarget, LiveGap, Irreversible, ShortTable, ShortPage}
+use Rattle.word.specs.declared.refusal.Refusal.the-variants.{Misspelt, Oversize, NoPermutation, Repeated}
+use Rattle.word.specs.declared.refusal.Refusal.the-variants.{Rootless, Width, NoPosition, Childless}
+use Rattle.word.specs.declared.refusal.Refusal.the-variants.{NoTarget, LiveGap, Irreversible, ShortTable}
+use Rattle.word.specs.declared.refusal.Refusal.the-variants.{ShortPage}
 
 abbrev pub numberOf : Refusal → ℕ
 numberOf Misspelt = 1

@@ -37,7 +37,8 @@ goes-on-below t = and 0 goes-on-kinds.ps (falls 0 goes-on-kinds.ps _<_ μ-goes-o
 
 abbrev Inv-loop : goes-on-lts.InvT-loop
 Inv-loop set lengths count word len n v₀ v =
-    (completable (patternsOf set lengths count) n (take len word) ≡ any (goesOn (patternsOf set lengths count) n (take len word)) (values v n)) × (1 ≤ v)
+    (completable (patternsOf set lengths count) n (take len word) ≡
+    any (goesOn (patternsOf set lengths count) n (take len word)) (values v n)) × (1 ≤ v)
 
 abbrev μ-loop : goes-on-lts.MeasureT-loop
 μ-loop set lengths count word len n v₀ v = suc n - v
@@ -66,19 +67,23 @@ module _ (t : ℕ) where
       let a = c .before .before .args in
       let long : length (a .word) ≡ 20 = search needs in
       let size : length (take (a .len) (a .word)) ≡ a .n = length-take-le (a .len) (a .word) (omega arith) ∙ c .before .if1 .taken in
-      whole-answer (patternsOf (a .set) (a .lengths) (a .count)) (a .n) (take (a .len) (a .word)) (c .contained .result) (c .contained .ensures) (c .before .before .pre .1 .2) size
+      whole-answer (patternsOf (a .set) (a .lengths) (a .count)) (a .n) (take (a .len) (a .word))
+      (c .contained .result) (c .contained .ensures) (c .before .before .pre .1 .2) size
 
   all-allowed-requires : goes-on-lts.Need-all-allowed-requires (called t) (goes-on-at t) goes-on.Post Inv-loop μ-loop
   all-allowed-requires c κs = search needs
 
   returns-2 : goes-on-lts.Need-returns-2 (called t) (goes-on-at t) goes-on.Post Inv-loop μ-loop
   returns-2 c =
-      let a = c .before .before .before .args in
-      sym (not-allowed (patternsOf (a .set) (a .lengths) (a .count)) (a .n) (take (a .len) (a .word)) (sym (c .before .all-allowed .ensures) ∙ not-true _ (c .if2 .taken)))
+      let start = c .before .before .before in
+      let a = start .args in
+      sym (not-allowed (patternsOf (a .set) (a .lengths) (a .count)) (a .n) (take (a .len) (a .word))
+      (sym (c .before .all-allowed .ensures) ∙ not-true _ (c .if2 .taken)))
 
   loop-holds : goes-on-lts.Need-loop-holds (called t) (goes-on-at t) goes-on.Post Inv-loop μ-loop
   loop-holds c =
-      let a = c .before .before .before .args in
+      let start = c .before .before .before in
+      let a = start .args in
       let long : length (a .word) ≡ 20 = search needs in
       let size = length-take-le (a .len) (a .word) (omega arith) in
       (goes-start (patternsOf (a .set) (a .lengths) (a .count)) (a .n) (take (a .len) (a .word)) (omega arith), omega arith)
@@ -97,8 +102,10 @@ module _ (t : ℕ) where
 
   loop-again : goes-on-lts.Need-loop-again (called t) (goes-on-at t) goes-on.Post Inv-loop μ-loop
   loop-again c =
-      let a = c .before .before .before .before .before .before .before .args in
-      let l = c .before .before .before .loop in (
+      let at-loop = c .before .before .before in
+      let start = at-loop .before .before .before .before in
+      let a = start .args in
+      let l = at-loop .loop in (
         l .inv .0 ∙ goes-stands (patternsOf (a .set) (a .lengths) (a .count)) (take (a .len) (a .word)) (l .v) (a .n) (omega arith)
             (sym (c .before .stands .ensures) ∙ c .if3 .taken),
         omega arith,
@@ -112,36 +119,50 @@ module _ (t : ℕ) where
 
   goes-on-requires : goes-on-lts.Need-goes-on-requires (called t) (goes-on-at t) goes-on.Post Inv-loop μ-loop
   goes-on-requires c κs =
-      let a = c .before .before .before .before .before .before .before .before .args in
-      let l = c .before .before .before .before .loop in
-      let less : a .n - (a .len + 1) < t = omega (arith, c .before .before .before .before .before .before .before .before .pre .0) in
-      let more = begun-snoc (a .n) (take (a .len) (a .word)) (l .v) (c .before .before .before .before .before .before .before .before .pre .1 .2) (l .inv .1) (omega arith) (sym (c .before .before .stands .ensures) ∙ c .before .if3 .left) in
+      let at-stands = c .before .before in
+      let at-loop = at-stands .before .before in
+      let start = at-loop .before .before .before .before in
+      let a = start .args in
+      let l = at-loop .loop in
+      let less : a .n - (a .len + 1) < t = omega (arith, start .pre .0) in
+      let more = begun-snoc (a .n) (take (a .len) (a .word)) (l .v) (start .pre .1 .2) (l .inv .1) (omega arith)
+      (sym (at-stands .stands .ensures) ∙ c .before .if3 .left) in
       (less, (omega arith, omega arith, ap (begun (a .n)) (c .put .ensures) ∙ more))
 
   returns-3 : goes-on-lts.Need-returns-3 (called t) (goes-on-at t) goes-on.Post Inv-loop μ-loop
   returns-3 c =
-      let a = c .before .before .before .before .before .before .before .before .before .before .args in
-      let l = c .before .before .before .before .before .before .loop in
+      let at-put = c .before .before in
+      let at-if3 = at-put .before in
+      let at-stands = at-if3 .before in
+      let at-loop = at-stands .before .before in
+      let start = at-loop .before .before .before .before in
+      let a = start .args in
+      let l = at-loop .loop in
       let P = patternsOf (a .set) (a .lengths) (a .count) in
-      c .if4 .taken ∙ sym (l .inv .0 ∙ goes-there P (take (a .len) (a .word)) (l .v) (a .n) (omega arith) (sym (c .before .before .before .before .stands .ensures) ∙ c .before .before .before .if3 .left)
-      (ap (completable P (a .n)) (sym (c .before .before .put .ensures)) ∙ sym (c .before .goes-on .ensures) ∙ c .if4 .taken))
+      c .if4 .taken ∙ sym (l .inv .0 ∙ goes-there P (take (a .len) (a .word)) (l .v) (a .n) (omega arith)
+      (sym (at-stands .stands .ensures) ∙ at-if3 .if3 .left)
+      (ap (completable P (a .n)) (sym (at-put .put .ensures)) ∙ sym (c .before .goes-on .ensures) ∙ c .if4 .taken))
 
   loop-less-2 : goes-on-lts.Need-loop-less-2 (called t) (goes-on-at t) goes-on.Post Inv-loop μ-loop
   loop-less-2 c = search needs
 
   loop-again-2 : goes-on-lts.Need-loop-again-2 (called t) (goes-on-at t) goes-on.Post Inv-loop μ-loop
   loop-again-2 c =
-      let a = c .before .before .before .before .before .before .before .before .before .before .args in
-      let l = c .before .before .before .before .before .before .loop in
+      let at-put = c .before .before in
+      let at-loop = at-put .before .before .before .before in
+      let start = at-loop .before .before .before .before in
+      let a = start .args in
+      let l = at-loop .loop in
       let P = patternsOf (a .set) (a .lengths) (a .count) in (
         l .inv .0 ∙ goes-not P (take (a .len) (a .word)) (l .v) (a .n) (omega arith)
-            (ap (completable P (a .n)) (sym (c .before .before .put .ensures)) ∙ sym (c .before .goes-on .ensures) ∙ c .if4 .left),
+            (ap (completable P (a .n)) (sym (at-put .put .ensures)) ∙ sym (c .before .goes-on .ensures) ∙ c .if4 .left),
         omega arith,
       )
 
   returns-4 : goes-on-lts.Need-returns-4 (called t) (goes-on-at t) goes-on.Post Inv-loop μ-loop
   returns-4 c =
-      let a = c .before .before .before .before .before .args in
+      let start = c .before .before .before .before .before in
+      let a = start .args in
       let l = c .before .loop in
       let P = patternsOf (a .set) (a .lengths) (a .count) in
       sym (l .inv .0 ∙ ap (any (goesOn P (a .n) (take (a .len) (a .word)))) (values-none (l .v) (a .n) (omega arith)))

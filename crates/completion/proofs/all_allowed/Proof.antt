@@ -16,7 +16,8 @@ use Rattle.completion.proofs.all_allowed.Tie as tie
 
 abbrev Inv-loop : tie.InvT-loop
 Inv-loop set lengths count word len n next₀ next =
-    (allAllowed (patternsOf set lengths count) n (take len word) ≡ all (allowed (patternsOf set lengths count) (take len word)) (values next n)) × (1 ≤ next)
+    (allAllowed (patternsOf set lengths count) n (take len word) ≡
+    all (allowed (patternsOf set lengths count) (take len word)) (values next n)) × (1 ≤ next)
 
 abbrev μ-loop : tie.MeasureT-loop
 μ-loop set lengths count word len n next₀ next = suc n - next
@@ -28,8 +29,10 @@ loop-holds c =
 
 loop-again : tie.Need-loop-again Inv-loop μ-loop
 loop-again c =
-    let a = c .before .before .before .before .args in
-    let l = c .before .before .before .loop in (
+    let at-loop = c .before .before .before in
+    let start = at-loop .before in
+    let a = start .args in
+    let l = at-loop .loop in (
       l .inv .0 ∙ allowed-stands (patternsOf (a .set) (a .lengths) (a .count)) (take (a .len) (a .word)) (l .next) (a .n) (omega arith)
           (sym (c .before .stands .ensures) ∙ c .if1 .taken),
       omega arith,
@@ -37,21 +40,31 @@ loop-again c =
 
 returns : tie.Need-returns Inv-loop μ-loop
 returns c =
-    let a = c .before .before .before .before .before .before .before .args in
-    let l = c .before .before .before .before .before .before .loop in
+    let at-put = c .before .before in
+    let at-if1 = at-put .before in
+    let at-stands = at-if1 .before in
+    let at-loop = at-stands .before .before in
+    let start = at-loop .before in
+    let a = start .args in
+    let l = at-loop .loop in
     let P = patternsOf (a .set) (a .lengths) (a .count) in
     sym (l .inv .0 ∙ allowed-fails P (take (a .len) (a .word)) (l .next) (a .n) (omega arith)
-    (sym (c .before .before .before .before .stands .ensures) ∙ c .before .before .before .if1 .left)
-    (ap (avoids P) (sym (c .before .before .put .ensures)) ∙ not-true _ (sym (c .before .contained .ensures) ∙ c .if2 .taken)))
+    (sym (at-stands .stands .ensures) ∙ at-if1 .if1 .left)
+    (ap (avoids P) (sym (at-put .put .ensures)) ∙ not-true _ (sym (c .before .contained .ensures) ∙ c .if2 .taken)))
 
 loop-again-2 : tie.Need-loop-again-2 Inv-loop μ-loop
 loop-again-2 c =
-    let a = c .before .before .before .before .before .before .before .args in
-    let l = c .before .before .before .before .before .before .loop in
+    let at-put = c .before .before in
+    let at-if1 = at-put .before in
+    let at-stands = at-if1 .before in
+    let at-loop = at-stands .before .before in
+    let start = at-loop .before in
+    let a = start .args in
+    let l = at-loop .loop in
     let P = patternsOf (a .set) (a .lengths) (a .count) in (
       l .inv .0 ∙ allowed-fits P (take (a .len) (a .word)) (l .next) (a .n) (omega arith)
-          (sym (c .before .before .before .before .stands .ensures) ∙ c .before .before .before .if1 .left)
-          (ap (avoids P) (sym (c .before .before .put .ensures)) ∙ not-false _ (sym (c .before .contained .ensures) ∙ c .if2 .left)),
+          (sym (at-stands .stands .ensures) ∙ at-if1 .if1 .left)
+          (ap (avoids P) (sym (at-put .put .ensures)) ∙ not-false _ (sym (c .before .contained .ensures) ∙ c .if2 .left)),
       omega arith,
     )
 
@@ -59,7 +72,8 @@ returns-2 : tie.Need-returns-2 Inv-loop μ-loop
 returns-2 c =
     let a = c .before .before .args in
     let l = c .before .loop in
-    sym (l .inv .0 ∙ ap (all (allowed (patternsOf (a .set) (a .lengths) (a .count)) (take (a .len) (a .word)))) (values-none (l .next) (a .n) (omega arith)))
+    sym (l .inv .0 ∙ ap (all (allowed (patternsOf (a .set) (a .lengths) (a .count)) (take (a .len) (a .word))))
+    (values-none (l .next) (a .n) (omega arith)))
 
 pub all-allowed-spec : {M : Type 1} → statement M
 all-allowed-spec =

@@ -21,8 +21,10 @@ returns c =
 
 returns-2 : tie.Need-returns-2
 returns-2 c =
-    let a = c .before .before .before .args in
-    sym (not-begun (patternsOf (a .set) (a .lengths) (a .count)) (a .n) (take (a .len) (a .word)) (sym (c .before .is-begun .ensures) ∙ not-true _ (c .if2 .taken)))
+    let start = c .before .before .before in
+    let a = start .args in
+    sym (not-begun (patternsOf (a .set) (a .lengths) (a .count)) (a .n) (take (a .len) (a .word))
+    (sym (c .before .is-begun .ensures) ∙ not-true _ (c .if2 .taken)))
 
 goes-on-requires : tie.Need-goes-on-requires
 goes-on-requires c κs = (omega arith, omega arith, sym (c .before .is-begun .ensures) ∙ not-false _ (c .if2 .left))

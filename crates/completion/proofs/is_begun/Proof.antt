@@ -24,32 +24,45 @@ loop-holds c = (begun-none (c .args .n), omega arith)
 
 returns : tie.Need-returns Inv-loop μ-loop
 returns c =
-    let a = c .before .before .before .args in
+    let at-loop = c .before .before in
+    let start = at-loop .before in
+    let a = start .args in
     let long : length (a .t1) ≡ 20 = search needs in
-    sym (begun-fails (a .n) (a .t1) (c .before .before .loop .i) (a .len) (omega arith) (omega arith)
-    (λ (l : 1 ≤ getD (a .t1) (c .before .before .loop .i) 0) m e. omega (arith, c .if1 .taken)))
+    sym (begun-fails (a .n) (a .t1) (at-loop .loop .i) (a .len) (omega arith) (omega arith)
+    (λ (l : 1 ≤ getD (a .t1) (at-loop .loop .i) 0) m e. omega (arith, c .if1 .taken)))
 
 returns-2 : tie.Need-returns-2 Inv-loop μ-loop
 returns-2 c =
-    let a = c .before .before .before .before .before .args in
+    let at-loop = c .before .before .before .before in
+    let start = at-loop .before in
+    let a = start .args in
     let long : length (a .t1) ≡ 20 = search needs in
-    sym (begun-fails (a .n) (a .t1) (c .before .before .before .before .loop .i) (a .len) (omega arith) (omega arith)
-    (λ l (m : getD (a .t1) (c .before .before .before .before .loop .i) 0 ≤ a .n) e. omega (arith, c .before .wide .ensures .0)))
+    sym (begun-fails (a .n) (a .t1) (at-loop .loop .i) (a .len) (omega arith) (omega arith)
+    (λ l (m : getD (a .t1) (at-loop .loop .i) 0 ≤ a .n) e. omega (arith, c .before .wide .ensures .0)))
 
 returns-3 : tie.Need-returns-3 Inv-loop μ-loop
 returns-3 c =
-    let a = c .before .before .before .before .before .before .before .args in
+    let at-loop = c .before .before .before .before .before .before in
+    let start = at-loop .before in
+    let a = start .args in
     let long : length (a .t1) ≡ 20 = search needs in
-    sym (begun-fails (a .n) (a .t1) (c .before .before .before .before .before .before .loop .i) (a .len) (omega arith) (omega arith)
+    sym (begun-fails (a .n) (a .t1) (at-loop .loop .i) (a .len) (omega arith) (omega arith)
     (λ l m e. true-not-false (sym (c .if3 .taken) ∙ c .before .stands .ensures ∙ e)))
 
 loop-again : tie.Need-loop-again Inv-loop μ-loop
 loop-again c =
-    let a = c .before .before .before .before .before .before .before .args in
-    let i = c .before .before .before .before .before .before .loop .i in
+    let at-wide = c .before .before .before in
+    let at-if1 = at-wide .before in
+    let at-loop = at-if1 .before .before in
+    let start = at-loop .before in
+    let a = start .args in
+    let i = at-loop .loop .i in
     let long : length (a .t1) ≡ 20 = search needs in
-    let high : getD (a .t1) i 0 ≤ a .n = omega (arith, c .before .before .before .wide .ensures .0) in
-    (begun-more (a .n) (a .t1) i (omega arith) (c .before .before .before .before .before .before .loop .inv .0) (c .before .before .before .before .if1 .left) high (sym (c .before .stands .ensures) ∙ c .if3 .left), omega arith)
+    let high : getD (a .t1) i 0 ≤ a .n = omega (arith, at-wide .wide .ensures .0) in (
+      begun-more (a .n) (a .t1) i (omega arith) (at-loop .loop .inv .0) (at-if1 .if1 .left) high
+          (sym (c .before .stands .ensures) ∙ c .if3 .left),
+      omega arith,
+    )
 
 returns-4 : tie.Need-returns-4 Inv-loop μ-loop
 returns-4 c =

@@ -14,7 +14,8 @@ use Rattle.spacing.proofs.at_least_gap.Statement.{statement}
 use Rattle.spacing.proofs.at_least_gap.Tie as tie
 
 abbrev Inv-loop : tie.InvT-loop
-Inv-loop gaps j k g at p₀ p = (p ≤ k + 1) × (atLeast (take (k + 1) g) (vectorAt gaps (k + 1) j) ≡ least-from g (drop (COMPONENTS * j) gaps) k p)
+Inv-loop gaps j k g at p₀ p = (p ≤ k + 1) ×
+    (atLeast (take (k + 1) g) (vectorAt gaps (k + 1) j) ≡ least-from g (drop (COMPONENTS * j) gaps) k p)
 
 abbrev μ-loop : tie.MeasureT-loop
 μ-loop gaps j k g at p₀ p = k + 1 - p
@@ -24,21 +25,27 @@ loop-holds c = (omega arith, refl)
 
 returns : tie.Need-returns Inv-loop μ-loop
 returns c =
-    let a = c .before .before .before .before .args in
-    let l = c .before .before .before .loop in
+    let at-loop = c .before .before .before in
+    let start = at-loop .before in
+    let a = start .args in
+    let l = at-loop .loop in
     let parts = now (a .gaps) in
     let seven : length (a .t1) ≡ COMPONENTS = search needs in
-    sym (l .inv .1 ∙ least-fails (a .t1) (drop (COMPONENTS * a .j) parts) (a .k) (l .p) (omega arith) (omega (arith, part-room parts (a .j) (c .before .before .before .before .pre .1)))
+    sym (l .inv .1 ∙ least-fails (a .t1) (drop (COMPONENTS * a .j) parts) (a .k) (l .p) (omega arith)
+    (omega (arith, part-room parts (a .j) (start .pre .1)))
     (omega arith) (omega (arith, part-at parts (a .j) (l .p), c .if1 .taken)))
 
 loop-again : tie.Need-loop-again Inv-loop μ-loop
 loop-again c =
-    let a = c .before .before .before .before .args in
-    let l = c .before .before .before .loop in
+    let at-loop = c .before .before .before in
+    let start = at-loop .before in
+    let a = start .args in
+    let l = at-loop .loop in
     let parts = now (a .gaps) in
     let seven : length (a .t1) ≡ COMPONENTS = search needs in (
       omega arith,
-      l .inv .1 ∙ least-passes (a .t1) (drop (COMPONENTS * a .j) parts) (a .k) (l .p) (omega arith) (omega (arith, part-room parts (a .j) (c .before .before .before .before .pre .1)))
+      l .inv .1 ∙ least-passes (a .t1) (drop (COMPONENTS * a .j) parts) (a .k) (l .p) (omega arith)
+          (omega (arith, part-room parts (a .j) (start .pre .1)))
           (omega arith) (omega (arith, part-at parts (a .j) (l .p), c .if1 .left)),
     )
 
@@ -48,7 +55,8 @@ returns-2 c =
     let l = c .before .loop in
     let parts = now (a .gaps) in
     let seven : length (a .t1) ≡ COMPONENTS = search needs in
-    sym (l .inv .1 ∙ least-end (a .t1) (drop (COMPONENTS * a .j) parts) (a .k) (l .p) (omega arith) (omega (arith, part-room parts (a .j) (c .before .before .pre .1))) (omega arith))
+    sym (l .inv .1 ∙ least-end (a .t1) (drop (COMPONENTS * a .j) parts) (a .k) (l .p) (omega arith)
+    (omega (arith, part-room parts (a .j) (c .before .before .pre .1))) (omega arith))
 
 pub at-least-gap-spec : {M : Type 1} → statement M
 at-least-gap-spec =

@@ -15,7 +15,8 @@ use Rattle.spacing.proofs.compared_count.Tie as tie
 
 abbrev Inv-loop : tie.InvT-loop
 Inv-loop m k gaps n count₀ t₀ count t =
-    (t ≤ m) × (count + from-total (free (gapsOf gaps (k + 1) n)) k m t ≡ passing (free (gapsOf gaps (k + 1) n)) (each (vectors (suc k)) (row 0 m)))
+    (t ≤ m) × (count + from-total (free (gapsOf gaps (k + 1) n)) k m t ≡
+    passing (free (gapsOf gaps (k + 1) n)) (each (vectors (suc k)) (row 0 m)))
 
 abbrev μ-loop : tie.MeasureT-loop
 μ-loop m k gaps n count₀ t₀ count t = m - t
@@ -27,22 +28,27 @@ loop-holds c =
 
 add-count : tie.Need-add-count Inv-loop μ-loop
 add-count c =
-    let a = c .before .before .before .before .args in
-    let l = c .before .before .loop in
+    let at-loop = c .before .before in
+    let start = at-loop .before .before in
+    let a = start .args in
+    let l = at-loop .loop in
     let f = free (gapsOf (now (a .gaps)) (a .k + 1) (a .n)) in
     let most = totals-bound f (a .k) (a .m) (omega arith) (omega arith) in
     omega (arith, most, l .inv .1, totals-step f (a .k) (a .m) (l .t) (omega arith), c .free-count .ensures)
 
 loop-again : tie.Need-loop-again Inv-loop μ-loop
 loop-again c =
-    let a = c .before .before .before .before .args in
-    let l = c .before .before .loop in
+    let at-loop = c .before .before in
+    let start = at-loop .before .before in
+    let a = start .args in
+    let l = at-loop .loop in
     let f = free (gapsOf (now (a .gaps)) (a .k + 1) (a .n)) in
     (omega arith, omega (arith, l .inv .1, totals-step f (a .k) (a .m) (l .t) (omega arith), c .free-count .ensures))
 
 returns : tie.Need-returns Inv-loop μ-loop
 returns c =
-    let a = c .before .before .before .args in
+    let start = c .before .before .before in
+    let a = start .args in
     let l = c .before .loop in
     let f = free (gapsOf (now (a .gaps)) (a .k + 1) (a .n)) in
     omega (arith, l .inv .1, totals-end f (a .k) (a .m) (l .t) (omega arith))

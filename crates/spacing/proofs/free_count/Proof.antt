@@ -12,7 +12,8 @@ use native.Mathlib.Omega.{arith}
 use Rattle.cell.specs.Cell.{free, vectors}
 use Rattle.forms.specs.GapRows.{gapsOf}
 use Rattle.spacing.specs.Following.{later}
-use Rattle.spacing.proofs.SpacingCount.{passing, Walk, walk-start, walk-passes, walk-fails, walk-end, walk-on, walk-bound, less-later}
+use Rattle.spacing.proofs.SpacingCount.{passing, Walk, walk-start, walk-passes, walk-fails, walk-end}
+use Rattle.spacing.proofs.SpacingCount.{walk-on, walk-bound, less-later}
 use Rattle.spacing.proofs.free_count.Statement.{statement}
 use Rattle.spacing.proofs.free_count.Tie as tie
 
@@ -25,12 +26,15 @@ abbrev μ-loop : tie.MeasureT-loop
 loop-holds : tie.Need-loop-holds Inv-loop μ-loop
 loop-holds c =
     let a = c .before .before .args in
-    walk-start (free (gapsOf (now (a .gaps)) (a .k + 1) (a .n))) (a .k) (a .t) (take (a .k + 1) (c .first-spacing .result)) (c .first-spacing .ensures)
+    walk-start (free (gapsOf (now (a .gaps)) (a .k + 1) (a .n))) (a .k) (a .t)
+    (take (a .k + 1) (c .first-spacing .result)) (c .first-spacing .ensures)
 
 add-count : tie.Need-add-count Inv-loop μ-loop
 add-count c =
-    let a = c .before .before .before .before .before .args in
-    let l = c .before .before .loop in
+    let at-loop = c .before .before in
+    let start = at-loop .before .before .before in
+    let a = start .args in
+    let l = at-loop .loop in
     let f = free (gapsOf (now (a .gaps)) (a .k + 1) (a .n)) in
     let v = take (a .k + 1) (l .g) in
     let whole = walk-passes f (a .k) (a .t) v (l .count) (l .inv) (sym (c .before .is-free .ensures) ∙ c .if1 .taken) in
@@ -43,13 +47,16 @@ passed :
     let f = free (gapsOf (now (a .gaps)) (a .k + 1) (a .n)) in
     c .if1 .count + passing f (later (take (a .k + 1) (c .before .before .loop .g))) ≡ passing f (vectors (suc (a .k)) (a .t))
 passed c =
-    let a = c .before .before .before .before .before .args in
-    let l = c .before .before .loop in
+    let at-is-free = c .before in
+    let at-loop = at-is-free .before in
+    let start = at-loop .before .before .before in
+    let a = start .args in
+    let l = at-loop .loop in
     let f = free (gapsOf (now (a .gaps)) (a .k + 1) (a .n)) in
     let v = take (a .k + 1) (l .g) in
     ⊎-elim
-    (λ w. rw (w .1) (walk-passes f (a .k) (a .t) v (l .count) (l .inv) (sym (c .before .is-free .ensures) ∙ w .0 .taken)))
-    (λ w. rw (w .1) (walk-fails f (a .k) (a .t) v (l .count) (l .inv) (sym (c .before .is-free .ensures) ∙ w .0 .left)))
+    (λ w. rw (w .1) (walk-passes f (a .k) (a .t) v (l .count) (l .inv) (sym (at-is-free .is-free .ensures) ∙ w .0 .taken)))
+    (λ w. rw (w .1) (walk-fails f (a .k) (a .t) v (l .count) (l .inv) (sym (at-is-free .is-free .ensures) ∙ w .0 .left)))
     (c .if1 .came)
 
 next-spacing-requires : tie.Need-next-spacing-requires Inv-loop μ-loop
@@ -59,23 +66,38 @@ next-spacing-requires c κs =
 
 returns : tie.Need-returns Inv-loop μ-loop
 returns c =
-    let a = c .before .before .before .before .before .before .before .before .args in
+    let at-next-spacing = c .before .before in
+    let at-if1 = at-next-spacing .before in
+    let at-loop = at-if1 .before .before in
+    let start = at-loop .before .before .before in
+    let a = start .args in
     let f = free (gapsOf (now (a .gaps)) (a .k + 1) (a .n)) in
-    let n = c .before .before .next-spacing in
-    walk-end f (a .k) (a .t) (take (a .k + 1) (c .before .before .before .before .before .loop .g)) (take (a .k + 1) (n .result .g)) (c .before .before .before .if1 .count) (n .result .found) (passed (c .before .before .before)) (n .ensures .follows) (not-true _ (c .if2 .taken))
+    let n = at-next-spacing .next-spacing in
+    walk-end f (a .k) (a .t) (take (a .k + 1) (at-loop .loop .g)) (take (a .k + 1) (n .result .g))
+    (at-if1 .if1 .count) (n .result .found) (passed at-if1) (n .ensures .follows) (not-true _ (c .if2 .taken))
 
 loop-less : tie.Need-loop-less Inv-loop μ-loop
 loop-less c =
-    let a = c .before .before .before .before .before .before .before .before .before .args in
-    let n = c .before .before .before .next-spacing in
-    less-later (take (a .k + 1) (c .before .before .before .before .before .before .loop .g)) (take (a .k + 1) (n .result .g)) (n .result .found) (n .ensures .follows) (not-false _ (c .before .if2 .left))
+    let at-next-spacing = c .before .before .before in
+    let at-loop = at-next-spacing .before .before .before in
+    let start = at-loop .before .before .before in
+    let a = start .args in
+    let n = at-next-spacing .next-spacing in
+    less-later (take (a .k + 1) (at-loop .loop .g)) (take (a .k + 1) (n .result .g)) (n .result .found)
+    (n .ensures .follows) (not-false _ (c .before .if2 .left))
 
 loop-again : tie.Need-loop-again Inv-loop μ-loop
 loop-again c =
-    let a = c .before .before .before .before .before .before .before .before .before .args in
+    let at-next-spacing = c .before .before .before in
+    let at-if1 = at-next-spacing .before in
+    let at-loop = at-if1 .before .before in
+    let start = at-loop .before .before .before in
+    let a = start .args in
     let f = free (gapsOf (now (a .gaps)) (a .k + 1) (a .n)) in
-    let n = c .before .before .before .next-spacing in
-    walk-on f (a .k) (a .t) (take (a .k + 1) (c .before .before .before .before .before .before .loop .g)) (take (a .k + 1) (n .result .g)) (c .before .before .before .before .if1 .count) (n .result .found) (c .before .before .before .before .before .before .loop .inv .held) (passed (c .before .before .before .before)) (n .ensures .follows) (not-false _ (c .before .if2 .left))
+    let n = at-next-spacing .next-spacing in
+    walk-on f (a .k) (a .t) (take (a .k + 1) (at-loop .loop .g)) (take (a .k + 1) (n .result .g))
+    (at-if1 .if1 .count) (n .result .found) (at-loop .loop .inv .held) (passed at-if1) (n .ensures .follows)
+    (not-false _ (c .before .if2 .left))
 
 pub free-count-spec : {M : Type 1} → statement M
 free-count-spec =

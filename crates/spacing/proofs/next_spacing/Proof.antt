@@ -23,21 +23,31 @@ loop-holds c =
 
 add-n : tie.Need-add-n Inv-loop μ-loop
 add-n c =
-    let a = c .before .before .before .args in
+    let at-loop = c .before .before in
+    let start = at-loop .before in
+    let a = start .args in
     let seven : length (a .t1) ≡ COMPONENTS = search needs in
-    omega (arith, next-fits (a .t1) (a .k) (c .before .before .loop .j) (omega arith) (omega arith) (c .before .before .loop .inv) (c .if1 .taken) (c .before .before .before .pre .1))
+    omega (
+      arith,
+      next-fits (a .t1) (a .k) (at-loop .loop .j) (omega arith) (omega arith) (at-loop .loop .inv)
+          (c .if1 .taken) (start .pre .1),
+    )
 
 returns : tie.Need-returns Inv-loop μ-loop
 returns c =
-    let a = c .before .before .before .args in
+    let at-loop = c .before .before in
+    let start = at-loop .before in
+    let a = start .args in
     let seven : length (a .t1) ≡ COMPONENTS = search needs in
-    next-memory (a .t1) (a .k) (c .before .before .loop .j) (omega arith) (omega arith) (c .before .before .loop .inv) (c .if1 .taken)
+    next-memory (a .t1) (a .k) (at-loop .loop .j) (omega arith) (omega arith) (at-loop .loop .inv) (c .if1 .taken)
 
 loop-again : tie.Need-loop-again Inv-loop μ-loop
 loop-again c =
-    let a = c .before .before .before .args in
+    let at-loop = c .before .before in
+    let start = at-loop .before in
+    let a = start .args in
     let seven : length (a .t1) ≡ COMPONENTS = search needs in
-    seen-down (a .t1) (a .k) (c .before .before .loop .j) (omega arith) (omega arith) (c .before .before .loop .inv) (c .if1 .left)
+    seen-down (a .t1) (a .k) (at-loop .loop .j) (omega arith) (omega arith) (at-loop .loop .inv) (c .if1 .left)
 
 returns-2 : tie.Need-returns-2 Inv-loop μ-loop
 returns-2 c =

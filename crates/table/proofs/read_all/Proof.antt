@@ -44,7 +44,9 @@ loop-holds c =
     }
 
 slice-aggregate-read-some : tie.Need-slice-aggregate-read-some Inv-loop μ-loop
-slice-aggregate-read-some c = sym (c .before .before .before .before .loop .inv .chunk-size)
+slice-aggregate-read-some c =
+    let at-loop = c .before .before .before .before in
+    sym (at-loop .loop .inv .chunk-size)
 
 sub-turns : tie.Need-sub-turns Inv-loop μ-loop
 sub-turns c = omega arith
@@ -54,8 +56,10 @@ loop-less c = omega arith
 
 loop-again : tie.Need-loop-again Inv-loop μ-loop
 loop-again c =
-    let r = c .before .before .before .before .before .before .before .read-some in
-    let l = c .before .before .before .before .before .before .before .before .before .before .before .before .loop in
+    let at-read-some = c .before .before .before .before .before .before .before in
+    let at-loop = at-read-some .before .before .before .before .before in
+    let r = at-read-some .read-some in
+    let l = at-loop .loop in
     record {
       reads = reads-on _ _ (l .inv .reads) (r .ensures);
       set-size = (let k = l .inv .set-size in search needs);
@@ -74,20 +78,24 @@ returns c = c .before .loop .inv .reads
 
 same-length-3 : tie.Need-same-length-3 Inv-loop μ-loop
 same-length-3 c =
-    let l = c .before .before .before .before .before .before .before .before .before .before .before .before .loop in
+    let at-loop = c .before .before .before .before .before .before .before .before .before .before .before .before in
+    let l = at-loop .loop in
     let k = l .inv .set-size in
     search needs
 
 same-length-4 : tie.Need-same-length-4 Inv-loop μ-loop
 same-length-4 c =
-    let l = c .before .before .before .before .before .before .before .before .before .before .before .before .loop in
+    let at-loop = c .before .before .before .before .before .before .before .before .before .before .before .before in
+    let l = at-loop .loop in
     let k = l .inv .scheme-size in
     search needs
 
 returns-2 : tie.Need-returns-2 Inv-loop μ-loop
 returns-2 c =
-    let r = c .before .before .before .before .before .before .before .read-some in
-    let l = c .before .before .before .before .before .before .before .before .before .before .before .before .loop in
+    let at-read-some = c .before .before .before .before .before .before .before in
+    let at-loop = at-read-some .before .before .before .before .before in
+    let r = at-read-some .read-some in
+    let l = at-loop .loop in
     reads-on _ _ (l .inv .reads) (r .ensures)
 
 pub read-all-spec : {M : Type 1} → statement M

@@ -6,7 +6,9 @@ use Rattle.table.proofs.read_some.Statement.{statement}
 use Rattle.table.proofs.read_some.Tie as tie
 
 returns : tie.Need-returns
-returns c = reads-some _ _ _ _ _ (c .before .before .before .before .taken .ensures)
+returns c =
+    let at-taken = c .before .before .before .before in
+    reads-some _ _ _ _ _ (at-taken .taken .ensures)
 
 pub read-some-spec : {M : Type 1} → statement M
 read-some-spec =

@@ -20,20 +20,28 @@ loop-holds c = let a = c .args in gathered-start (a .t1) (a .t2) (a .count) _ re
 
 loop-again : tie.Need-loop-again Inv-loop μ-loop
 loop-again c =
-    let a = c .before .before .before .before .before .before .args in
-    let l = c .before .before .before .before .before .loop in
-    let d = c .before .before .digits in
+    let at-digits = c .before .before in
+    let at-loop = at-digits .before .before .before in
+    let start = at-loop .before in
+    let a = start .args in
+    let l = at-loop .loop in
+    let d = at-digits .digits in
     let b = c .before .is-basic in
-    gathered-take (a .t1) (a .t2) (a .count) (l .items) (l .n) (l .i) (l .inv) (search needs) (search needs) (omega arith) (c .before .before .before .before .before .before .pre) (d .result)
+    gathered-take (a .t1) (a .t2) (a .count) (l .items) (l .n) (l .i) (l .inv) (search needs) (search needs)
+    (omega arith) (start .pre) (d .result)
     (d .ensures .0) (b .result) (b .ensures) (c .if1 .taken) (d .ensures .1)
 
 loop-again-2 : tie.Need-loop-again-2 Inv-loop μ-loop
 loop-again-2 c =
-    let a = c .before .before .before .before .before .before .args in
-    let l = c .before .before .before .before .before .loop in
-    let d = c .before .before .digits in
+    let at-digits = c .before .before in
+    let at-loop = at-digits .before .before .before in
+    let start = at-loop .before in
+    let a = start .args in
+    let l = at-loop .loop in
+    let d = at-digits .digits in
     let b = c .before .is-basic in
-    gathered-skip (a .t1) (a .t2) (a .count) (l .items) (l .n) (l .i) (l .inv) (search needs) (search needs) (omega arith) (c .before .before .before .before .before .before .pre) (d .result)
+    gathered-skip (a .t1) (a .t2) (a .count) (l .items) (l .n) (l .i) (l .inv) (search needs) (search needs)
+    (omega arith) (start .pre) (d .result)
     (d .ensures .0) (b .result) (b .ensures) (c .if1 .left)
 
 returns : tie.Need-returns Inv-loop μ-loop

@@ -24,22 +24,29 @@ loop-holds c =
 
 returns : tie.Need-returns Inv-loop μ-loop
 returns c =
-    let a = c .before .before .before .args in
-    let l = c .before .before .loop in
-    sym (l .inv ∙ basic-none (from (a .t1) (a .t2) (a .count) (l .j)) (take (a .b) (a .q)) (from-counted (a .t1) (a .t2) (a .count) (l .j) (omega arith)))
+    let at-loop = c .before .before in
+    let start = at-loop .before in
+    let a = start .args in
+    let l = at-loop .loop in
+    sym (l .inv ∙ basic-none (from (a .t1) (a .t2) (a .count) (l .j)) (take (a .b) (a .q))
+    (from-counted (a .t1) (a .t2) (a .count) (l .j) (omega arith)))
 
 returns-2 : tie.Need-returns-2 Inv-loop μ-loop
 returns-2 c =
-    let a = c .before .before .before .before .before .before .args in
-    let l = c .before .before .before .before .before .loop in
+    let at-loop = c .before .before .before .before .before in
+    let start = at-loop .before in
+    let a = start .args in
+    let l = at-loop .loop in
     let t = c .before .leaves in
     sym (l .inv ∙ basic-here (a .t1) (a .t2) (a .count) (take (a .b) (a .q)) (l .j)
     (search needs) (search needs) (omega arith) (t .result) (t .ensures) (c .if2 .taken))
 
 loop-again : tie.Need-loop-again Inv-loop μ-loop
 loop-again c =
-    let a = c .before .before .before .before .before .before .args in
-    let l = c .before .before .before .before .before .loop in
+    let at-loop = c .before .before .before .before .before in
+    let start = at-loop .before in
+    let a = start .args in
+    let l = at-loop .loop in
     let t = c .before .leaves in
     l .inv ∙ basic-later (a .t1) (a .t2) (a .count) (take (a .b) (a .q)) (l .j)
     (search needs) (search needs) (omega arith) (t .result) (t .ensures) (c .if2 .left)
@@ -49,7 +56,8 @@ returns-3 c =
     let a = c .before .before .args in
     let l = c .before .loop in
     let rows : length (a .t1) ≡ 24 = search needs in
-    sym (l .inv ∙ basic-none (from (a .t1) (a .t2) (a .count) (l .j)) (take (a .b) (a .q)) (from-end (a .t1) (a .t2) (a .count) (l .j) (omega arith)))
+    sym (l .inv ∙ basic-none (from (a .t1) (a .t2) (a .count) (l .j)) (take (a .b) (a .q))
+    (from-end (a .t1) (a .t2) (a .count) (l .j) (omega arith)))
 
 pub is-basic-spec : {M : Type 1} → statement M
 is-basic-spec =

@@ -19,12 +19,14 @@ slice-aggregate-first-copy c =
 
 returns : tie.Need-returns
 returns c =
-    let a = c .before .before .before .args in
+    let start = c .before .before .before in
+    let a = start .args in
     found-contains (take (a .a) (a .p)) (take (a .b) (a .t3)) (c .first-copy .result) (c .first-copy .ensures)
 
 returns-2 : tie.Need-returns-2
 returns-2 c =
-    let a = c .before .before .before .args in
+    let start = c .before .before .before in
+    let a = start .args in
     let q : length (a .t3) ≡ 8 = search needs in
     found-contains (take (a .a) (a .p)) (a .t3) (c .first-copy2 .result) (c .first-copy2 .ensures) ∙
     ap (contains (take (a .a) (a .p))) (sym (take-all (a .b) (a .t3) (omega arith)))

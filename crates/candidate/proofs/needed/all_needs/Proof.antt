@@ -22,16 +22,19 @@ loop-holds c = (refl, omega arith, λ a h. absurd (omega arith))
 
 loop-again : tie.Need-loop-again Inv-loop μ-loop
 loop-again c =
-    let start = c .before .before .before .before .before .before in
+    let at-digits = c .before .before in
+    let at-loop = at-digits .before .before .before in
+    let start = at-loop .before in
     let a = start .args in
-    let l = c .before .before .before .before .before .loop in
-    let d = c .before .before .digits in
+    let l = at-loop .loop in
+    let d = at-digits .digits in
     let n = c .level-needed in
     let i = l .at / 72 in (
       length-set (l .needs) (l .at) (n .result) ∙ l .inv .0,
       omega arith,
       filled-more (a .t1) (a .t2) (l .at) (n .result) (l .needs) (omega arith)
-          (need-cut (getD (a .t1) i []) (getD (a .t2) i 0) (d .result) (l .at / 9 % 8) (l .at % 9) (n .result) (d .ensures .0) (n .ensures)) (l .inv .2),
+          (need-cut (getD (a .t1) i []) (getD (a .t2) i 0) (d .result) (l .at / 9 % 8) (l .at % 9) (n .result)
+          (d .ensures .0) (n .ensures)) (l .inv .2),
     )
 
 returns : tie.Need-returns Inv-loop μ-loop

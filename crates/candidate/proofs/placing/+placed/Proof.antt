@@ -44,430 +44,9 @@ placed-Inv-loop chosen head prefix tables s used x gone level j₀ j =
 abbrev placed-μ-loop : placed-lts.MeasureT-loop
 placed-μ-loop chosen head prefix tables s used x gone level j₀ j = length prefix - j
 
-placed-returns : (t : ℕ) → placed-lts.Need-returns (
-  told-reads.Asked,
-  told-reads.Learnt,
-  wide-reads.Asked,
-  wide-reads.Learnt,
-  pairs-fit-reads.Asked,
-  pairs-fit-reads.Learnt,
-  is-flagged-reads.Asked,
-  is-flagged-reads.Learnt,
-  either-reads.Asked,
-  either-reads.Learnt,
-  placed-below t,
-  placed.Post,
-) (placed-at t) placed.Post placed-Inv-loop placed-μ-loop
-placed-returns t c =
-    let a = c .before .before .before .args in
-    sym (placed-done (entryOf (a .t5 .need)) (entryOf (a .t5 .levels)) (flagged (a .t5 .gone)) (a .head .now) (a .prefix .now) (a .state .used) (a .chosen) (a .state .placed) (a .state .from) (c .if1 .taken))
-
-placed-shared-slice-read-x : (t : ℕ) → placed-lts.Need-shared-slice-read-x (
-  told-reads.Asked,
-  told-reads.Learnt,
-  wide-reads.Asked,
-  wide-reads.Learnt,
-  pairs-fit-reads.Asked,
-  pairs-fit-reads.Learnt,
-  is-flagged-reads.Asked,
-  is-flagged-reads.Learnt,
-  either-reads.Asked,
-  either-reads.Learnt,
-  placed-below t,
-  placed.Post,
-) (placed-at t) placed.Post placed-Inv-loop placed-μ-loop
-placed-shared-slice-read-x t c = search needs
-
-placed-told-requires : (t : ℕ) → placed-lts.Need-told-requires (
-  told-reads.Asked,
-  told-reads.Learnt,
-  wide-reads.Asked,
-  wide-reads.Learnt,
-  pairs-fit-reads.Asked,
-  pairs-fit-reads.Learnt,
-  is-flagged-reads.Asked,
-  is-flagged-reads.Learnt,
-  either-reads.Asked,
-  either-reads.Learnt,
-  placed-below t,
-  placed.Post,
-) (placed-at t) placed.Post placed-Inv-loop placed-μ-loop
-placed-told-requires t c κs = search needs
-
-placed-loop-holds : (t : ℕ) → placed-lts.Need-loop-holds (
-  told-reads.Asked,
-  told-reads.Learnt,
-  wide-reads.Asked,
-  wide-reads.Learnt,
-  pairs-fit-reads.Asked,
-  pairs-fit-reads.Learnt,
-  is-flagged-reads.Asked,
-  is-flagged-reads.Learnt,
-  either-reads.Asked,
-  either-reads.Learnt,
-  placed-below t,
-  placed.Post,
-) (placed-at t) placed.Post placed-Inv-loop placed-μ-loop
-placed-loop-holds t c = (omega arith, refl)
-
-placed-shared-slice-read-a : (t : ℕ) → placed-lts.Need-shared-slice-read-a (
-  told-reads.Asked,
-  told-reads.Learnt,
-  wide-reads.Asked,
-  wide-reads.Learnt,
-  pairs-fit-reads.Asked,
-  pairs-fit-reads.Learnt,
-  is-flagged-reads.Asked,
-  is-flagged-reads.Learnt,
-  either-reads.Asked,
-  either-reads.Learnt,
-  placed-below t,
-  placed.Post,
-) (placed-at t) placed.Post placed-Inv-loop placed-μ-loop
-placed-shared-slice-read-a t c = search needs
-
-placed-add-j : (t : ℕ) → placed-lts.Need-add-j (
-  told-reads.Asked,
-  told-reads.Learnt,
-  wide-reads.Asked,
-  wide-reads.Learnt,
-  pairs-fit-reads.Asked,
-  pairs-fit-reads.Learnt,
-  is-flagged-reads.Asked,
-  is-flagged-reads.Learnt,
-  either-reads.Asked,
-  either-reads.Learnt,
-  placed-below t,
-  placed.Post,
-) (placed-at t) placed.Post placed-Inv-loop placed-μ-loop
-placed-add-j t c = search needs
-
-placed-wide-requires : (t : ℕ) → placed-lts.Need-wide-requires (
-  told-reads.Asked,
-  told-reads.Learnt,
-  wide-reads.Asked,
-  wide-reads.Learnt,
-  pairs-fit-reads.Asked,
-  pairs-fit-reads.Learnt,
-  is-flagged-reads.Asked,
-  is-flagged-reads.Learnt,
-  either-reads.Asked,
-  either-reads.Learnt,
-  placed-below t,
-  placed.Post,
-) (placed-at t) placed.Post placed-Inv-loop placed-μ-loop
-placed-wide-requires t c κs = search needs
-
-placed-element-copy-out-here : (t : ℕ) → placed-lts.Need-element-copy-out-here (
-  told-reads.Asked,
-  told-reads.Learnt,
-  wide-reads.Asked,
-  wide-reads.Learnt,
-  pairs-fit-reads.Asked,
-  pairs-fit-reads.Learnt,
-  is-flagged-reads.Asked,
-  is-flagged-reads.Learnt,
-  either-reads.Asked,
-  either-reads.Learnt,
-  placed-below t,
-  placed.Post,
-) (placed-at t) placed.Post placed-Inv-loop placed-μ-loop
-placed-element-copy-out-here t c = search needs
-
--- the level that was looked up: behind the end of the table stands 0
-here-is : (t : ℕ) (c : placed-lts.Joined2 (
-  told-reads.Asked,
-  told-reads.Learnt,
-  wide-reads.Asked,
-  wide-reads.Learnt,
-  pairs-fit-reads.Asked,
-  pairs-fit-reads.Learnt,
-  is-flagged-reads.Asked,
-  is-flagged-reads.Learnt,
-  either-reads.Asked,
-  either-reads.Learnt,
-  placed-below t,
-  placed.Post,
-) (placed-at t) placed.Post placed-Inv-loop placed-μ-loop) →
-    let a = c .before .before .before .before .before .before .before .before .before .before .before .before .args in
-    c .if2 .here ≡ entryOf (a .t5 .levels) (getD (a .prefix .now) (c .before .before .before .before .loop .j) 0)
-here-is t c =
-    let a = c .before .before .before .before .before .before .before .before .before .before .before .before .args in
-    let nine : length (a .t5 .levels) ≡ VALUES = (let o = c .before .before .before .before .before .before .before .before .before .before .before .before .good in search needs) in
-    ⊎-elim (λ w. w .2 ∙ ap (λ (v : ℕ). getD (a .t5 .levels) v 0) (c .before .wide .ensures .0)) (λ w. w .1 ∙ sym (List·getD-eq-default (a .t5 .levels) 0 (omega (arith, w .0 .left, nine, c .before .wide .ensures .0)))) (c .if2 .came)
-
-placed-loop-less : (t : ℕ) → placed-lts.Need-loop-less (
-  told-reads.Asked,
-  told-reads.Learnt,
-  wide-reads.Asked,
-  wide-reads.Learnt,
-  pairs-fit-reads.Asked,
-  pairs-fit-reads.Learnt,
-  is-flagged-reads.Asked,
-  is-flagged-reads.Learnt,
-  either-reads.Asked,
-  either-reads.Learnt,
-  placed-below t,
-  placed.Post,
-) (placed-at t) placed.Post placed-Inv-loop placed-μ-loop
-placed-loop-less t c = search needs
-
-placed-loop-again : (t : ℕ) → placed-lts.Need-loop-again (
-  told-reads.Asked,
-  told-reads.Learnt,
-  wide-reads.Asked,
-  wide-reads.Learnt,
-  pairs-fit-reads.Asked,
-  pairs-fit-reads.Learnt,
-  is-flagged-reads.Asked,
-  is-flagged-reads.Learnt,
-  either-reads.Asked,
-  either-reads.Learnt,
-  placed-below t,
-  placed.Post,
-) (placed-at t) placed.Post placed-Inv-loop placed-μ-loop
-placed-loop-again t c =
-    let a = c .before .before .before .before .before .before .before .before .before .before .before .before .before .args in
-    let l = c .before .before .before .before .before .loop in
-    let eight : length (a .chosen) ≡ 8 = (let o = c .before .before .before .before .before .before .before .before .before .before .before .before .before .good in search needs) in
-    let room : a .state .placed < length (a .chosen) = omega (arith, c .before .before .before .before .before .before .before .before .before .before .before .before .before .pre .1, c .before .before .before .before .before .before .before .before .before .before .if1 .left) in
-    let other : entryOf (a .t5 .levels) (getD (a .prefix .now) (l .j) 0) ≡ entryOf (a .t5 .need) (getD (a .head .now) (a .state .placed) 0) → ⊥ =
-    λ q. c .if3 .taken (here-is t (c .before) ∙ q ∙ sym (c .before .before .before .before .before .before .told .ensures)) in
-    (omega (arith, l .inv .0), l .inv .1 ∙ placed-level (entryOf (a .t5 .need)) (entryOf (a .t5 .levels)) (flagged (a .t5 .gone)) (a .head .now) (a .prefix .now) (a .state .used) (a .chosen) (a .state .placed) (l .j) (c .before .before .before .before .before .before .before .before .before .before .if1 .left) (c .before .before .before .before .loop-test .taken) room other)
-
-placed-pairs-fit-requires : (t : ℕ) → placed-lts.Need-pairs-fit-requires (
-  told-reads.Asked,
-  told-reads.Learnt,
-  wide-reads.Asked,
-  wide-reads.Learnt,
-  pairs-fit-reads.Asked,
-  pairs-fit-reads.Learnt,
-  is-flagged-reads.Asked,
-  is-flagged-reads.Learnt,
-  either-reads.Asked,
-  either-reads.Learnt,
-  placed-below t,
-  placed.Post,
-) (placed-at t) placed.Post placed-Inv-loop placed-μ-loop
-placed-pairs-fit-requires t c κs = search needs
-
-placed-loop-less-2 : (t : ℕ) → placed-lts.Need-loop-less-2 (
-  told-reads.Asked,
-  told-reads.Learnt,
-  wide-reads.Asked,
-  wide-reads.Learnt,
-  pairs-fit-reads.Asked,
-  pairs-fit-reads.Learnt,
-  is-flagged-reads.Asked,
-  is-flagged-reads.Learnt,
-  either-reads.Asked,
-  either-reads.Learnt,
-  placed-below t,
-  placed.Post,
-) (placed-at t) placed.Post placed-Inv-loop placed-μ-loop
-placed-loop-less-2 t c = search needs
-
-placed-loop-again-2 : (t : ℕ) → placed-lts.Need-loop-again-2 (
-  told-reads.Asked,
-  told-reads.Learnt,
-  wide-reads.Asked,
-  wide-reads.Learnt,
-  pairs-fit-reads.Asked,
-  pairs-fit-reads.Learnt,
-  is-flagged-reads.Asked,
-  is-flagged-reads.Learnt,
-  either-reads.Asked,
-  either-reads.Learnt,
-  placed-below t,
-  placed.Post,
-) (placed-at t) placed.Post placed-Inv-loop placed-μ-loop
-placed-loop-again-2 t c =
-    let a = c .before .before .before .before .before .before .before .before .before .before .before .before .before .before .before .args in
-    let l = c .before .before .before .before .before .before .before .loop in
-    let eight : length (a .chosen) ≡ 8 = (let o = c .before .before .before .before .before .before .before .before .before .before .before .before .before .before .before .good in search needs) in
-    let room : a .state .placed < length (a .chosen) = omega (arith, c .before .before .before .before .before .before .before .before .before .before .before .before .before .before .before .pre .1, c .before .before .before .before .before .before .before .before .before .before .before .before .if1 .left) in
-    let level : entryOf (a .t5 .levels) (getD (a .prefix .now) (l .j) 0) ≡ entryOf (a .t5 .need) (getD (a .head .now) (a .state .placed) 0) =
-    sym (here-is t (c .before .before .before)) ∙ c .before .before .if3 .left ∙ c .before .before .before .before .before .before .before .before .told .ensures in (
-      omega (arith, l .inv .0),
-      l .inv .1 ∙ placed-pairs (entryOf (a .t5 .need)) (entryOf (a .t5 .levels)) (flagged (a .t5 .gone)) (a .head .now) (a .prefix .now) (a .state .used) (a .chosen) (a .state .placed) (l .j) (c .before .before .before .before .before .before .before .before .before .before .before .before .if1 .left) (c .before .before .before .before .before .before .loop-test .taken) room level
-          (sym (c .before .pairs-fit .ensures) ∙ not-true _ (c .if4 .taken)),
-    )
-
-placed-array-write-next : (t : ℕ) → placed-lts.Need-array-write-next (
-  told-reads.Asked,
-  told-reads.Learnt,
-  wide-reads.Asked,
-  wide-reads.Learnt,
-  pairs-fit-reads.Asked,
-  pairs-fit-reads.Learnt,
-  is-flagged-reads.Asked,
-  is-flagged-reads.Learnt,
-  either-reads.Asked,
-  either-reads.Learnt,
-  placed-below t,
-  placed.Post,
-) (placed-at t) placed.Post placed-Inv-loop placed-μ-loop
-placed-array-write-next t c = search needs
-
-placed-is-flagged-requires : (t : ℕ) → placed-lts.Need-is-flagged-requires (
-  told-reads.Asked,
-  told-reads.Learnt,
-  wide-reads.Asked,
-  wide-reads.Learnt,
-  pairs-fit-reads.Asked,
-  pairs-fit-reads.Learnt,
-  is-flagged-reads.Asked,
-  is-flagged-reads.Learnt,
-  either-reads.Asked,
-  either-reads.Learnt,
-  placed-below t,
-  placed.Post,
-) (placed-at t) placed.Post placed-Inv-loop placed-μ-loop
-placed-is-flagged-requires t c κs = search needs
-
-placed-either-requires : (t : ℕ) → placed-lts.Need-either-requires (
-  told-reads.Asked,
-  told-reads.Learnt,
-  wide-reads.Asked,
-  wide-reads.Learnt,
-  pairs-fit-reads.Asked,
-  pairs-fit-reads.Learnt,
-  is-flagged-reads.Asked,
-  is-flagged-reads.Learnt,
-  either-reads.Asked,
-  either-reads.Learnt,
-  placed-below t,
-  placed.Post,
-) (placed-at t) placed.Post placed-Inv-loop placed-μ-loop
-placed-either-requires t c κs = search needs
-
-placed-add-count : (t : ℕ) → placed-lts.Need-add-count (
-  told-reads.Asked,
-  told-reads.Learnt,
-  wide-reads.Asked,
-  wide-reads.Learnt,
-  pairs-fit-reads.Asked,
-  pairs-fit-reads.Learnt,
-  is-flagged-reads.Asked,
-  is-flagged-reads.Learnt,
-  either-reads.Asked,
-  either-reads.Learnt,
-  placed-below t,
-  placed.Post,
-) (placed-at t) placed.Post placed-Inv-loop placed-μ-loop
-placed-add-count t c = search needs
-
-placed-placed-requires : (t : ℕ) → placed-lts.Need-placed-requires (
-  told-reads.Asked,
-  told-reads.Learnt,
-  wide-reads.Asked,
-  wide-reads.Learnt,
-  pairs-fit-reads.Asked,
-  pairs-fit-reads.Learnt,
-  is-flagged-reads.Asked,
-  is-flagged-reads.Learnt,
-  either-reads.Asked,
-  either-reads.Learnt,
-  placed-below t,
-  placed.Post,
-) (placed-at t) placed.Post placed-Inv-loop placed-μ-loop
-placed-placed-requires t c κs = (omega (arith, c .before .before .before .before .before .before .before .before .before .before .before .before .before .before .before .before .before .pre .0, c .before .before .before .before .before .before .before .before .before .loop .inv .0, c .before .before .before .before .before .before .before .before .loop-test .taken), c .before .before .before .before .before .before .before .before .before .before .before .before .before .before .before .before .before .pre .1)
-
-placed-returns-2 : (t : ℕ) → placed-lts.Need-returns-2 (
-  told-reads.Asked,
-  told-reads.Learnt,
-  wide-reads.Asked,
-  wide-reads.Learnt,
-  pairs-fit-reads.Asked,
-  pairs-fit-reads.Learnt,
-  is-flagged-reads.Asked,
-  is-flagged-reads.Learnt,
-  either-reads.Asked,
-  either-reads.Learnt,
-  placed-below t,
-  placed.Post,
-) (placed-at t) placed.Post placed-Inv-loop placed-μ-loop
-placed-returns-2 t c =
-    let a = c .before .before .before .before .before .before .before .before .before .before .before .before .before .before .before .before .before .before .before .args in
-    let l = c .before .before .before .before .before .before .before .before .before .before .before .loop in
-    let v : ℕ = getD (a .prefix .now) (l .j) 0 in
-    let eight : length (a .chosen) ≡ 8 = (let o = c .before .before .before .before .before .before .before .before .before .before .before .before .before .before .before .before .before .before .before .good in search needs) in
-    let room : a .state .placed < length (a .chosen) = omega (arith, c .before .before .before .before .before .before .before .before .before .before .before .before .before .before .before .before .before .before .before .pre .1, c .before .before .before .before .before .before .before .before .before .before .before .before .before .before .before .before .if1 .left) in
-    let level : entryOf (a .t5 .levels) v ≡ entryOf (a .t5 .need) (getD (a .head .now) (a .state .placed) 0) =
-    sym (here-is t (c .before .before .before .before .before .before .before)) ∙ c .before .before .before .before .before .before .if3 .left ∙ c .before .before .before .before .before .before .before .before .before .before .before .before .told .ensures in
-    let more : c .before .before .either .result ≡ a .state .used || flagged (a .t5 .gone) v =
-    c .before .before .either .ensures ∙ ap (λ (b : Bool). a .state .used || b) (c .before .before .before .is-flagged .ensures) in
-    let tried : state (entryOf (a .t5 .need)) (entryOf (a .t5 .levels)) (flagged (a .t5 .gone)) (a .head .now) (a .prefix .now) (a .state .used || flagged (a .t5 .gone) v) (set (a .chosen) (a .state .placed) v) (a .state .placed + 1) (l .j + 1) ≡ true =
-    ap (λ (u : Bool). state (entryOf (a .t5 .need)) (entryOf (a .t5 .levels)) (flagged (a .t5 .gone)) (a .head .now) (a .prefix .now) u (set (a .chosen) (a .state .placed) v) (a .state .placed + 1) (l .j + 1)) (sym more) ∙
-    sym (c .before .placed .ensures) ∙ c .if5 .taken in
-    sym (l .inv .1 ∙ placed-here (entryOf (a .t5 .need)) (entryOf (a .t5 .levels)) (flagged (a .t5 .gone)) (a .head .now) (a .prefix .now) (a .state .used) (a .chosen) (a .state .placed) (l .j) (c .before .before .before .before .before .before .before .before .before .before .before .before .before .before .before .before .if1 .left) (c .before .before .before .before .before .before .before .before .before .before .loop-test .taken) room level (sym (c .before .before .before .before .before .pairs-fit .ensures) ∙ not-false _ (c .before .before .before .before .if4 .left)) tried)
-
-placed-loop-less-3 : (t : ℕ) → placed-lts.Need-loop-less-3 (
-  told-reads.Asked,
-  told-reads.Learnt,
-  wide-reads.Asked,
-  wide-reads.Learnt,
-  pairs-fit-reads.Asked,
-  pairs-fit-reads.Learnt,
-  is-flagged-reads.Asked,
-  is-flagged-reads.Learnt,
-  either-reads.Asked,
-  either-reads.Learnt,
-  placed-below t,
-  placed.Post,
-) (placed-at t) placed.Post placed-Inv-loop placed-μ-loop
-placed-loop-less-3 t c = search needs
-
-placed-loop-again-3 : (t : ℕ) → placed-lts.Need-loop-again-3 (
-  told-reads.Asked,
-  told-reads.Learnt,
-  wide-reads.Asked,
-  wide-reads.Learnt,
-  pairs-fit-reads.Asked,
-  pairs-fit-reads.Learnt,
-  is-flagged-reads.Asked,
-  is-flagged-reads.Learnt,
-  either-reads.Asked,
-  either-reads.Learnt,
-  placed-below t,
-  placed.Post,
-) (placed-at t) placed.Post placed-Inv-loop placed-μ-loop
-placed-loop-again-3 t c =
-    let a = c .before .before .before .before .before .before .before .before .before .before .before .before .before .before .before .before .before .before .before .args in
-    let l = c .before .before .before .before .before .before .before .before .before .before .before .loop in
-    let v : ℕ = getD (a .prefix .now) (l .j) 0 in
-    let eight : length (a .chosen) ≡ 8 = (let o = c .before .before .before .before .before .before .before .before .before .before .before .before .before .before .before .before .before .before .before .good in search needs) in
-    let room : a .state .placed < length (a .chosen) = omega (arith, c .before .before .before .before .before .before .before .before .before .before .before .before .before .before .before .before .before .before .before .pre .1, c .before .before .before .before .before .before .before .before .before .before .before .before .before .before .before .before .if1 .left) in
-    let level : entryOf (a .t5 .levels) v ≡ entryOf (a .t5 .need) (getD (a .head .now) (a .state .placed) 0) =
-    sym (here-is t (c .before .before .before .before .before .before .before)) ∙ c .before .before .before .before .before .before .if3 .left ∙ c .before .before .before .before .before .before .before .before .before .before .before .before .told .ensures in
-    let more : c .before .before .either .result ≡ a .state .used || flagged (a .t5 .gone) v =
-    c .before .before .either .ensures ∙ ap (λ (b : Bool). a .state .used || b) (c .before .before .before .is-flagged .ensures) in
-    let tried : state (entryOf (a .t5 .need)) (entryOf (a .t5 .levels)) (flagged (a .t5 .gone)) (a .head .now) (a .prefix .now) (a .state .used || flagged (a .t5 .gone) v) (set (a .chosen) (a .state .placed) v) (a .state .placed + 1) (l .j + 1) ≡ false =
-    ap (λ (u : Bool). state (entryOf (a .t5 .need)) (entryOf (a .t5 .levels)) (flagged (a .t5 .gone)) (a .head .now) (a .prefix .now) u (set (a .chosen) (a .state .placed) v) (a .state .placed + 1) (l .j + 1)) (sym more) ∙
-    sym (c .before .placed .ensures) ∙ c .if5 .left in
-    (omega (arith, l .inv .0), l .inv .1 ∙ placed-later (entryOf (a .t5 .need)) (entryOf (a .t5 .levels)) (flagged (a .t5 .gone)) (a .head .now) (a .prefix .now) (a .state .used) (a .chosen) (a .state .placed) (l .j) (c .before .before .before .before .before .before .before .before .before .before .before .before .before .before .before .before .if1 .left) (c .before .before .before .before .before .before .before .before .before .before .loop-test .taken) room level (sym (c .before .before .before .before .before .pairs-fit .ensures) ∙ not-false _ (c .before .before .before .before .if4 .left)) tried)
-
-placed-returns-3 : (t : ℕ) → placed-lts.Need-returns-3 (
-  told-reads.Asked,
-  told-reads.Learnt,
-  wide-reads.Asked,
-  wide-reads.Learnt,
-  pairs-fit-reads.Asked,
-  pairs-fit-reads.Learnt,
-  is-flagged-reads.Asked,
-  is-flagged-reads.Learnt,
-  either-reads.Asked,
-  either-reads.Learnt,
-  placed-below t,
-  placed.Post,
-) (placed-at t) placed.Post placed-Inv-loop placed-μ-loop
-placed-returns-3 t c =
-    let a = c .before .before .before .before .before .before .before .before .before .args in
-    let l = c .before .loop in
-    sym (l .inv .1 ∙ placed-none (entryOf (a .t5 .need)) (entryOf (a .t5 .levels)) (flagged (a .t5 .gone)) (a .head .now) (a .prefix .now) (a .state .used) (a .chosen) (a .state .placed) (l .j) (c .before .before .before .before .before .before .if1 .left) (c .loop-test .left))
-
-pub +placed-spec : {M : Type 1} → statement M
-+placed-spec = close μ-placed λ t. placed-lts.spec (
+-- what the functions that are called ask and grant
+abbrev called : ℕ → placed-lts.Claims
+called t = (
   told-reads.Asked,
   told-reads.Learnt,
   wide-reads.Asked,
@@ -481,29 +60,195 @@ pub +placed-spec : {M : Type 1} → statement M
   placed-below t,
   placed.Post,
 )
+
+placed-returns : (t : ℕ) → placed-lts.Need-returns (called t) (placed-at t) placed.Post placed-Inv-loop placed-μ-loop
+placed-returns t c =
+    let start = c .before .before .before in
+    let a = start .args in
+    sym (placed-done (entryOf (a .t5 .need)) (entryOf (a .t5 .levels)) (flagged (a .t5 .gone)) (a .head .now)
+    (a .prefix .now) (a .state .used) (a .chosen) (a .state .placed) (a .state .from) (c .if1 .taken))
+
+placed-loop-holds : (t : ℕ) → placed-lts.Need-loop-holds (called t) (placed-at t) placed.Post placed-Inv-loop placed-μ-loop
+placed-loop-holds t c = (omega arith, refl)
+
+-- the first place, and what its arrays have
+abbrev Begun : ℕ → Type 0
+Begun t = placed-lts.Start (called t) (placed-at t) placed.Post placed-Inv-loop placed-μ-loop
+
+all-levels : (t : ℕ) (start : Begun t) → length (start .args .t5 .levels) ≡ VALUES
+all-levels t start = (let o = start .good in search needs)
+
+eight-places : (t : ℕ) (start : Begun t) → length (start .args .chosen) ≡ 8
+eight-places t start = (let o = start .good in search needs)
+
+-- the level that was looked up: behind the end of the table stands 0
+here-is : (t : ℕ) (c : placed-lts.Joined2 (called t) (placed-at t) placed.Post placed-Inv-loop placed-μ-loop) →
+    let a = c .before .before .before .before .before .before .before .before .before .before .before .before .args in
+    c .if2 .here ≡ entryOf (a .t5 .levels) (getD (a .prefix .now) (c .before .before .before .before .loop .j) 0)
+here-is t c =
+    let at-wide = c .before in
+    let start = at-wide .before .before .before .before .before .before .before .before .before .before .before in
+    let a = start .args in
+    let nine = all-levels t start in
+    ⊎-elim (λ w. w .2 ∙ ap (λ (v : ℕ). getD (a .t5 .levels) v 0) (at-wide .wide .ensures .0))
+    (λ w. w .1 ∙ sym (List·getD-eq-default (a .t5 .levels) 0
+    (omega (arith, w .0 .left, nine, at-wide .wide .ensures .0)))) (c .if2 .came)
+
+placed-loop-again : (t : ℕ) → placed-lts.Need-loop-again (called t) (placed-at t) placed.Post placed-Inv-loop placed-μ-loop
+placed-loop-again t c =
+    let in-loop = c .before .before .before .before in
+    let at-loop = in-loop .before in
+    let at-told = at-loop .before in
+    let at-if1 = at-told .before .before .before .before in
+    let start = at-if1 .before .before .before in
+    let a = start .args in
+    let l = at-loop .loop in
+    let eight = eight-places t start in
+    let room : a .state .placed < length (a .chosen) = omega (arith, start .pre .1, at-if1 .if1 .left) in
+    let other : entryOf (a .t5 .levels) (getD (a .prefix .now) (l .j) 0) ≡
+    entryOf (a .t5 .need) (getD (a .head .now) (a .state .placed) 0) → ⊥ =
+    λ q. c .if3 .taken (here-is t (c .before) ∙ q ∙ sym (at-told .told .ensures)) in (
+      omega (arith, l .inv .0),
+      l .inv .1 ∙
+          placed-level (entryOf (a .t5 .need)) (entryOf (a .t5 .levels)) (flagged (a .t5 .gone)) (a .head .now)
+          (a .prefix .now) (a .state .used) (a .chosen) (a .state .placed) (l .j) (at-if1 .if1 .left)
+          (in-loop .loop-test .taken) room other,
+    )
+
+placed-loop-again-2 : (t : ℕ) → placed-lts.Need-loop-again-2 (called t) (placed-at t) placed.Post placed-Inv-loop placed-μ-loop
+placed-loop-again-2 t c =
+    let at-if3 = c .before .before in
+    let place = at-if3 .before in
+    let in-loop = place .before .before .before in
+    let at-loop = in-loop .before in
+    let at-told = at-loop .before in
+    let at-if1 = at-told .before .before .before .before in
+    let start = at-if1 .before .before .before in
+    let a = start .args in
+    let l = at-loop .loop in
+    let eight = eight-places t start in
+    let room : a .state .placed < length (a .chosen) = omega (arith, start .pre .1, at-if1 .if1 .left) in
+    let level : entryOf (a .t5 .levels) (getD (a .prefix .now) (l .j) 0) ≡
+    entryOf (a .t5 .need) (getD (a .head .now) (a .state .placed) 0) =
+    sym (here-is t place) ∙ at-if3 .if3 .left ∙ at-told .told .ensures in (
+      omega (arith, l .inv .0),
+      l .inv .1 ∙ placed-pairs (entryOf (a .t5 .need)) (entryOf (a .t5 .levels)) (flagged (a .t5 .gone))
+          (a .head .now) (a .prefix .now) (a .state .used) (a .chosen) (a .state .placed) (l .j) (at-if1 .if1 .left)
+          (in-loop .loop-test .taken) room level
+          (sym (c .before .pairs-fit .ensures) ∙ not-true _ (c .if4 .taken)),
+    )
+
+placed-placed-requires : (t : ℕ) → placed-lts.Need-placed-requires (called t) (placed-at t) placed.Post placed-Inv-loop placed-μ-loop
+placed-placed-requires t c κs =
+    let in-loop = c .before .before .before .before .before .before .before .before in
+    let at-loop = in-loop .before in
+    let start = at-loop .before .before .before .before .before .before .before .before in
+    (omega (arith, start .pre .0, at-loop .loop .inv .0, in-loop .loop-test .taken), start .pre .1)
+
+placed-returns-2 : (t : ℕ) → placed-lts.Need-returns-2 (called t) (placed-at t) placed.Post placed-Inv-loop placed-μ-loop
+placed-returns-2 t c =
+    let at-either = c .before .before in
+    let at-is-flagged = at-either .before in
+    let at-if4 = at-is-flagged .before in
+    let at-pairs-fit = at-if4 .before in
+    let at-if3 = at-pairs-fit .before in
+    let place = at-if3 .before in
+    let in-loop = place .before .before .before in
+    let at-loop = in-loop .before in
+    let at-told = at-loop .before in
+    let at-if1 = at-told .before .before .before .before in
+    let start = at-if1 .before .before .before in
+    let a = start .args in
+    let l = at-loop .loop in
+    let v : ℕ = getD (a .prefix .now) (l .j) 0 in
+    let eight = eight-places t start in
+    let room : a .state .placed < length (a .chosen) = omega (arith, start .pre .1, at-if1 .if1 .left) in
+    let level : entryOf (a .t5 .levels) v ≡ entryOf (a .t5 .need) (getD (a .head .now) (a .state .placed) 0) =
+    sym (here-is t place) ∙ at-if3 .if3 .left ∙ at-told .told .ensures in
+    let more : at-either .either .result ≡ a .state .used || flagged (a .t5 .gone) v =
+    at-either .either .ensures ∙ ap (λ (b : Bool). a .state .used || b) (at-is-flagged .is-flagged .ensures) in
+    let tried : state (entryOf (a .t5 .need)) (entryOf (a .t5 .levels)) (flagged (a .t5 .gone)) (a .head .now)
+    (a .prefix .now) (a .state .used || flagged (a .t5 .gone) v) (set (a .chosen) (a .state .placed) v)
+    (a .state .placed + 1) (l .j + 1) ≡ true =
+    ap (λ (u : Bool). state (entryOf (a .t5 .need)) (entryOf (a .t5 .levels)) (flagged (a .t5 .gone)) (a .head .now)
+    (a .prefix .now) u (set (a .chosen) (a .state .placed) v) (a .state .placed + 1) (l .j + 1)) (sym more) ∙
+    sym (c .before .placed .ensures) ∙ c .if5 .taken in
+    sym (l .inv .1 ∙ placed-here (entryOf (a .t5 .need)) (entryOf (a .t5 .levels)) (flagged (a .t5 .gone))
+    (a .head .now) (a .prefix .now) (a .state .used) (a .chosen) (a .state .placed) (l .j) (at-if1 .if1 .left)
+    (in-loop .loop-test .taken) room level (sym (at-pairs-fit .pairs-fit .ensures) ∙ not-false
+    _ (at-if4 .if4 .left)) tried)
+
+placed-loop-again-3 : (t : ℕ) → placed-lts.Need-loop-again-3 (called t) (placed-at t) placed.Post placed-Inv-loop placed-μ-loop
+placed-loop-again-3 t c =
+    let at-either = c .before .before in
+    let at-is-flagged = at-either .before in
+    let at-if4 = at-is-flagged .before in
+    let at-pairs-fit = at-if4 .before in
+    let at-if3 = at-pairs-fit .before in
+    let place = at-if3 .before in
+    let in-loop = place .before .before .before in
+    let at-loop = in-loop .before in
+    let at-told = at-loop .before in
+    let at-if1 = at-told .before .before .before .before in
+    let start = at-if1 .before .before .before in
+    let a = start .args in
+    let l = at-loop .loop in
+    let v : ℕ = getD (a .prefix .now) (l .j) 0 in
+    let eight = eight-places t start in
+    let room : a .state .placed < length (a .chosen) = omega (arith, start .pre .1, at-if1 .if1 .left) in
+    let level : entryOf (a .t5 .levels) v ≡ entryOf (a .t5 .need) (getD (a .head .now) (a .state .placed) 0) =
+    sym (here-is t place) ∙ at-if3 .if3 .left ∙ at-told .told .ensures in
+    let more : at-either .either .result ≡ a .state .used || flagged (a .t5 .gone) v =
+    at-either .either .ensures ∙ ap (λ (b : Bool). a .state .used || b) (at-is-flagged .is-flagged .ensures) in
+    let tried : state (entryOf (a .t5 .need)) (entryOf (a .t5 .levels)) (flagged (a .t5 .gone)) (a .head .now)
+    (a .prefix .now) (a .state .used || flagged (a .t5 .gone) v) (set (a .chosen) (a .state .placed) v)
+    (a .state .placed + 1) (l .j + 1) ≡ false =
+    ap (λ (u : Bool). state (entryOf (a .t5 .need)) (entryOf (a .t5 .levels)) (flagged (a .t5 .gone)) (a .head .now)
+    (a .prefix .now) u (set (a .chosen) (a .state .placed) v) (a .state .placed + 1) (l .j + 1)) (sym more) ∙
+    sym (c .before .placed .ensures) ∙ c .if5 .left in (
+      omega (arith, l .inv .0),
+      l .inv .1 ∙
+          placed-later (entryOf (a .t5 .need)) (entryOf (a .t5 .levels)) (flagged (a .t5 .gone)) (a .head .now)
+          (a .prefix .now) (a .state .used) (a .chosen) (a .state .placed) (l .j) (at-if1 .if1 .left)
+          (in-loop .loop-test .taken) room level (sym (at-pairs-fit .pairs-fit .ensures) ∙ not-false
+          _ (at-if4 .if4 .left)) tried,
+    )
+
+placed-returns-3 : (t : ℕ) → placed-lts.Need-returns-3 (called t) (placed-at t) placed.Post placed-Inv-loop placed-μ-loop
+placed-returns-3 t c =
+    let at-if1 = c .before .before .before .before .before .before in
+    let start = at-if1 .before .before .before in
+    let a = start .args in
+    let l = c .before .loop in
+    sym (l .inv .1 ∙ placed-none (entryOf (a .t5 .need)) (entryOf (a .t5 .levels)) (flagged (a .t5 .gone))
+    (a .head .now) (a .prefix .now) (a .state .used) (a .chosen) (a .state .placed) (l .j) (at-if1 .if1 .left)
+    (c .loop-test .left))
+
+pub +placed-spec : {M : Type 1} → statement M
++placed-spec = close μ-placed λ t. placed-lts.spec (called t)
     (placed-at t)
     placed.Post
     placed-Inv-loop
     placed-μ-loop
     (placed-returns t)
-    (placed-shared-slice-read-x t)
-    (placed-told-requires t)
+    (λ c. search needs)
+    (λ c κs. search needs)
     (placed-loop-holds t)
-    (placed-shared-slice-read-a t)
-    (placed-add-j t)
-    (placed-wide-requires t)
-    (placed-element-copy-out-here t)
-    (placed-loop-less t)
+    (λ c. search needs)
+    (λ c. search needs)
+    (λ c κs. search needs)
+    (λ c. search needs)
+    (λ c. search needs)
     (placed-loop-again t)
-    (placed-pairs-fit-requires t)
-    (placed-loop-less-2 t)
+    (λ c κs. search needs)
+    (λ c. search needs)
     (placed-loop-again-2 t)
-    (placed-array-write-next t)
-    (placed-is-flagged-requires t)
-    (placed-either-requires t)
-    (placed-add-count t)
+    (λ c. search needs)
+    (λ c κs. search needs)
+    (λ c κs. search needs)
+    (λ c. search needs)
     (placed-placed-requires t)
     (placed-returns-2 t)
-    (placed-loop-less-3 t)
+    (λ c. search needs)
     (placed-loop-again-3 t)
     (placed-returns-3 t)

@@ -11,24 +11,33 @@ use Rattle.candidate.proofs.placing.pairs_fit.Statement.{statement}
 use Rattle.candidate.proofs.placing.pairs_fit.Tie as tie
 
 abbrev Inv-loop : tie.InvT-loop
-Inv-loop head s x a chosen j₀ j = (j ≤ s) × (fits (take s head) x (take s chosen) a ≡ fits (drop j (take s head)) x (drop j (take s chosen)) a)
+Inv-loop head s x a chosen j₀ j = (j ≤ s) ×
+    (fits (take s head) x (take s chosen) a ≡ fits (drop j (take s head)) x (drop j (take s chosen)) a)
 
 abbrev μ-loop : tie.MeasureT-loop
 μ-loop head s x a chosen j₀ j = s - j
 
 returns : tie.Need-returns Inv-loop μ-loop
 returns c =
-    let a = c .before .before .before .before .args in
-    let l = c .before .before .before .loop in
+    let at-loop = c .before .before .before in
+    let start = at-loop .before in
+    let a = start .args in
+    let l = at-loop .loop in
     let eight : length (a .t1) ≡ 8 = search needs in
-    sym (l .inv .1 ∙ pair-failed (a .head .now) (a .t1) (a .x) (a .a) (a .s) (l .j) (omega arith) (omega arith) (omega arith) (c .if1 .taken))
+    sym (l .inv .1 ∙ pair-failed (a .head .now) (a .t1) (a .x) (a .a) (a .s) (l .j) (omega arith) (omega arith)
+    (omega arith) (c .if1 .taken))
 
 loop-again : tie.Need-loop-again Inv-loop μ-loop
 loop-again c =
-    let a = c .before .before .before .before .args in
-    let l = c .before .before .before .loop in
-    let eight : length (a .t1) ≡ 8 = search needs in
-    (omega arith, l .inv .1 ∙ pair-passed (a .head .now) (a .t1) (a .x) (a .a) (a .s) (l .j) (omega arith) (omega arith) (omega arith) (c .if1 .left))
+    let at-loop = c .before .before .before in
+    let start = at-loop .before in
+    let a = start .args in
+    let l = at-loop .loop in
+    let eight : length (a .t1) ≡ 8 = search needs in (
+      omega arith,
+      l .inv .1 ∙ pair-passed (a .head .now) (a .t1) (a .x) (a .a) (a .s) (l .j) (omega arith)
+          (omega arith) (omega arith) (c .if1 .left),
+    )
 
 returns-2 : tie.Need-returns-2 Inv-loop μ-loop
 returns-2 c =

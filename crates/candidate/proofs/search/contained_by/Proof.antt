@@ -20,13 +20,17 @@ slice-aggregate-first-copy c =
 
 returns : tie.Need-returns
 returns c =
-    let a = c .before .before .before .before .args in
-    let q = c .before .before .before .before .pre in
+    let at-first-copy = c .before in
+    let start = at-first-copy .before .before .before in
+    let a = start .args in
+    let q = start .pre in
     let β = take (getD (a .t2) (a .i) 0) (getD (a .t1) (a .i) []) in
-    let rows : length (a .t1) ≡ 24 = (let g = c .before .before .before .before .good in search needs) in
-    let long : length (a .t2) ≡ 24 = (let g = c .before .before .before .before .good in search needs) in
-    let found = sym (found-contains β (take (a .len) (a .t5)) (c .before .first-copy .result) (c .before .first-copy .ensures)) ∙ c .if1 .taken in
-    sym (ap not (not-avoided (a .t1) (a .t2) (a .count) (a .i) (take (a .len) (a .t5)) (q .1) (omega (arith, q .2)) (omega (arith, q .2)) found))
+    let rows : length (a .t1) ≡ 24 = (let g = start .good in search needs) in
+    let long : length (a .t2) ≡ 24 = (let g = start .good in search needs) in
+    let found = sym (found-contains β (take (a .len) (a .t5)) (at-first-copy .first-copy .result)
+    (at-first-copy .first-copy .ensures)) ∙ c .if1 .taken in
+    sym (ap not (not-avoided (a .t1) (a .t2) (a .count) (a .i) (take (a .len) (a .t5)) (q .1) (omega (arith, q .2))
+    (omega (arith, q .2)) found))
 
 pub contained-by-spec : {M : Type 1} → statement M
 contained-by-spec =

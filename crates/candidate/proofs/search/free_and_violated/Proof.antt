@@ -12,7 +12,8 @@ returns : tie.Need-returns
 returns c = λ R F size e N. and-false _ _ (sym (c .before .is-free .ensures) ∙ not-true _ (c .if1 .taken))
 
 returns-2 : tie.Need-returns-2
-returns-2 c = λ R F size e N. and-true _ _ _ (sym (c .before .before .is-free .ensures) ∙ not-false _ (c .before .if1 .left)) (c .spacing-violated .ensures R F size e N)
+returns-2 c = λ R F size e N. and-true _ _ _ (sym (c .before .before .is-free .ensures) ∙ not-false
+    _ (c .before .if1 .left)) (c .spacing-violated .ensures R F size e N)
 
 pub free-and-violated-spec : {M : Type 1} → statement M
 free-and-violated-spec =

@@ -25,21 +25,25 @@ slice-aggregate-placed c =
 
 slice-aggregate-placed-2 : tie.Need-slice-aggregate-placed-2
 slice-aggregate-placed-2 c =
-    let a = c .before .before .before .args in
+    let start = c .before .before .before in
+    let a = start .args in
     let six : length (a .t4) ≡ 6 = search needs in
     sym (length-take-le (a .k) (a .t4) (omega arith))
 
 placed-requires : tie.Need-placed-requires
 placed-requires c κs =
-    let a = c .before .before .before .args in
+    let start = c .before .before .before in
+    let a = start .args in
     let eight : length (a .t1) ≡ 8 = search needs in
     omega (arith, length-take-le (a .len - a .t) (a .t1) (omega arith))
 
 returns-2 : tie.Need-returns-2
 returns-2 c =
-    let a = c .before .before .before .before .args in
-    let eight : length (a .t1) ≡ 8 = (let o = c .before .before .before .before .good in search needs) in
-    λ R g r e. c .placed .ensures ∙ sym (hit-row (take (a .k) (a .t4)) R g (a .t1) (a .len) (a .t) (a .tables .levels) (a .tables .gone) (a .tables .need) (omega arith) r e (omega arith))
+    let start = c .before .before .before .before in
+    let a = start .args in
+    let eight : length (a .t1) ≡ 8 = (let o = start .good in search needs) in
+    λ R g r e. c .placed .ensures ∙ sym (hit-row (take (a .k) (a .t4)) R g (a .t1) (a .len) (a .t)
+    (a .tables .levels) (a .tables .gone) (a .tables .need) (omega arith) r e (omega arith))
 
 pub hits-spec : {M : Type 1} → statement M
 hits-spec =

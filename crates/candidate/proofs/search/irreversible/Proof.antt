@@ -16,7 +16,8 @@ use Rattle.word.specs.Containment.{patternsOf}
 use Rattle.cell.specs.Cell.{vectors}
 use Rattle.forms.specs.GapRows.{gapsOf}
 use Rattle.candidate.specs.Ready.{FlaggedFor}
-use Rattle.candidate.proofs.CandidateWalk.{lost, from-total, totals-start, totals-end, totals-here, totals-later, entry-defined, entry-answer}
+use Rattle.candidate.proofs.CandidateWalk.{lost, from-total, totals-start, totals-end, totals-here}
+use Rattle.candidate.proofs.CandidateWalk.{totals-later, entry-defined, entry-answer}
 use Rattle.candidate.proofs.search.irreversible.Statement.{statement}
 use Rattle.candidate.proofs.search.irreversible.Tie as tie
 
@@ -24,7 +25,8 @@ abbrev Inv-loop : tie.InvT-loop
 Inv-loop set lengths count bytes gaps k deleted m t₀ t =
     (m ≤ 8) × (t ≤ m) ×
     ((R : List ℕ) → FlaggedFor set lengths count (take k (deleted .prefix)) R (deleted .gone) →
-    any (lost (gapsOf gaps (k + 1) (deleted .«gap_count»)) (patternsOf set lengths count) (take k (deleted .prefix)) R) (each (vectors (suc k)) (row 0 m)) ≡
+    any (lost (gapsOf gaps (k + 1) (deleted .«gap_count»)) (patternsOf set lengths count) (take k (deleted .prefix))
+    R) (each (vectors (suc k)) (row 0 m)) ≡
     from-total (lost (gapsOf gaps (k + 1) (deleted .«gap_count»)) (patternsOf set lengths count) (take k (deleted .prefix)) R) k m t)
 
 abbrev μ-loop : tie.MeasureT-loop
@@ -35,68 +37,100 @@ deleted-values-requires c κs =
     let start = c .before .before .before .before in
     let a = start .args in
     let six : length (a .deletion .prefix) ≡ 6 = search needs in
-    let wide : length (take (a .deletion .length) (a .deletion .prefix)) ≡ a .deletion .length = length-take-le (a .deletion .length) (a .deletion .prefix) (omega (arith, start .pre .1)) in
-    (start .pre .1, start .pre .2, start .pre .6 .perm, ap (λ (n : ℕ). all (within n) (take (a .deletion .«position_count») (a .deletion .positions))) (sym wide) ∙ start .pre .6 .inside)
+    let wide : length (take (a .deletion .length) (a .deletion .prefix)) ≡ a .deletion .length =
+    length-take-le (a .deletion .length) (a .deletion .prefix) (omega (arith, start .pre .1)) in (
+      start .pre .1,
+      start .pre .2,
+      start .pre .6 .perm,
+      ap (λ (n : ℕ). all (within n) (take (a .deletion .«position_count») (a .deletion .positions))) (sym wide) ∙
+          start .pre .6 .inside,
+    )
 
 loop-holds : tie.Need-loop-holds Inv-loop μ-loop
 loop-holds c =
     let start = c .before .before .before .before .before in
-    let a = start .args in
-    (start .pre .4, omega arith, λ R F. totals-start (lost (gapsOf (now (a .gaps)) (a .deletion .length + 1) (a .deletion .«gap_count»)) (patternsOf (a .set) (a .lengths) (a .count)) (take (a .deletion .length) (a .deletion .prefix)) R) (a .deletion .length) (a .deletion .longest))
+    let a = start .args in (
+      start .pre .4,
+      omega arith,
+      λ R F. totals-start (lost
+          (gapsOf (now (a .gaps)) (a .deletion .length + 1) (a .deletion .«gap_count»))
+          (patternsOf (a .set) (a .lengths) (a .count)) (take (a .deletion .length) (a .deletion .prefix)) R)
+          (a .deletion .length) (a .deletion .longest),
+    )
 
 total-violated-requires : tie.Need-total-violated-requires Inv-loop μ-loop
 total-violated-requires c κs =
     let start = c .before .before .before .before .before .before .before in
     (start .pre .6 .few, start .pre .1, omega (arith, c .before .loop .inv .0), start .pre .0, start .pre .5)
 
+-- the array of the prefix has all its places
+six-digits : (start : tie.Start Inv-loop μ-loop) → length (start .args .deletion .prefix) ≡ 6
+six-digits start = (let o = start .good in search needs)
+
 returns : tie.Need-returns Inv-loop μ-loop
 returns c =
-    let start = c .before .before .before .before .before .before .before .before .before in
+    let at-loop = c .before .before .before in
+    let at-deleted-values = at-loop .before in
+    let start = at-deleted-values .before .before .before .before .before in
     let a = start .args in
     let R = take (a .deletion .«position_count») (a .deletion .positions) in
     let P = patternsOf (a .set) (a .lengths) (a .count) in
     let A = gapsOf (now (a .gaps)) (a .deletion .length + 1) (a .deletion .«gap_count») in
     let G = start .pre .6 in
-    let six : length (a .deletion .prefix) ≡ 6 = (let o = start .good in search needs) in
-    let wide : length (take (a .deletion .length) (a .deletion .prefix)) ≡ a .deletion .length = length-take-le (a .deletion .length) (a .deletion .prefix) (omega (arith, start .pre .1)) in
-    let F : FlaggedFor (a .set) (a .lengths) (a .count) (take (a .deletion .length) (a .deletion .prefix)) R (c .before .before .before .before .deleted-values .result) = (G, c .before .before .before .before .deleted-values .ensures) in
-    let l = c .before .before .before .loop in
+    let six = six-digits start in
+    let wide : length (take (a .deletion .length) (a .deletion .prefix)) ≡ a .deletion .length =
+    length-take-le (a .deletion .length) (a .deletion .prefix) (omega (arith, start .pre .1)) in
+    let F : FlaggedFor (a .set) (a .lengths) (a .count) (take (a .deletion .length) (a .deletion .prefix)) R
+    (at-deleted-values .deleted-values .result) = (G, at-deleted-values .deleted-values .ensures) in
+    let l = at-loop .loop in
     let here = c .before .total-violated .ensures R F (sym wide) in
-    let found : from-total (lost A P (take (a .deletion .length) (a .deletion .prefix)) R) (a .deletion .length) (a .deletion .longest) (l .t) ≡ true =
-    totals-here (lost A P (take (a .deletion .length) (a .deletion .prefix)) R) (a .deletion .length) (a .deletion .longest) (l .t) (omega arith) (sym here ∙ c .if1 .taken) in
+    let found : from-total (lost A P (take (a .deletion .length) (a .deletion .prefix)) R) (a .deletion .length)
+    (a .deletion .longest) (l .t) ≡ true =
+    totals-here (lost A P (take (a .deletion .length) (a .deletion .prefix)) R) (a .deletion .length)
+    (a .deletion .longest) (l .t) (omega arith) (sym here ∙ c .if1 .taken) in
     entry-answer (a .set) (a .lengths) (a .count) (take (a .deletion .length) (a .deletion .prefix)) A R true G
-    (sym (entry-defined P (take (a .deletion .length) (a .deletion .prefix)) A R (a .deletion .length) (a .deletion .longest) (sym wide) (start .pre .3) ∙ l .inv .2 R F ∙ found))
+    (sym (entry-defined P (take (a .deletion .length) (a .deletion .prefix)) A R (a .deletion .length)
+    (a .deletion .longest) (sym wide) (start .pre .3) ∙ l .inv .2 R F ∙ found))
 
 loop-again : tie.Need-loop-again Inv-loop μ-loop
 loop-again c =
-    let start = c .before .before .before .before .before .before .before .before .before in
+    let at-loop = c .before .before .before in
+    let start = at-loop .before .before .before .before .before .before in
     let a = start .args in
     let P = patternsOf (a .set) (a .lengths) (a .count) in
     let A = gapsOf (now (a .gaps)) (a .deletion .length + 1) (a .deletion .«gap_count») in
-    let l = c .before .before .before .loop in
-    let six : length (a .deletion .prefix) ≡ 6 = (let o = start .good in search needs) in
-    let wide : length (take (a .deletion .length) (a .deletion .prefix)) ≡ a .deletion .length = length-take-le (a .deletion .length) (a .deletion .prefix) (omega (arith, start .pre .1)) in (
+    let l = at-loop .loop in
+    let six = six-digits start in
+    let wide : length (take (a .deletion .length) (a .deletion .prefix)) ≡ a .deletion .length =
+    length-take-le (a .deletion .length) (a .deletion .prefix) (omega (arith, start .pre .1)) in (
       l .inv .0,
       omega arith,
       λ R F. l .inv .2 R F ∙
-          totals-later (lost A P (take (a .deletion .length) (a .deletion .prefix)) R) (a .deletion .length) (a .deletion .longest) (l .t) (omega arith) (sym (c .before .total-violated .ensures R F (sym wide)) ∙ c .if1 .left),
+          totals-later (lost A P (take (a .deletion .length) (a .deletion .prefix)) R) (a .deletion .length)
+          (a .deletion .longest) (l .t) (omega arith)
+          (sym (c .before .total-violated .ensures R F (sym wide)) ∙ c .if1 .left),
     )
 
 returns-2 : tie.Need-returns-2 Inv-loop μ-loop
 returns-2 c =
-    let start = c .before .before .before .before .before .before .before in
+    let at-deleted-values = c .before .before in
+    let start = at-deleted-values .before .before .before .before .before in
     let a = start .args in
     let R = take (a .deletion .«position_count») (a .deletion .positions) in
     let P = patternsOf (a .set) (a .lengths) (a .count) in
     let A = gapsOf (now (a .gaps)) (a .deletion .length + 1) (a .deletion .«gap_count») in
     let G = start .pre .6 in
-    let six : length (a .deletion .prefix) ≡ 6 = (let o = start .good in search needs) in
-    let wide : length (take (a .deletion .length) (a .deletion .prefix)) ≡ a .deletion .length = length-take-le (a .deletion .length) (a .deletion .prefix) (omega (arith, start .pre .1)) in
-    let F : FlaggedFor (a .set) (a .lengths) (a .count) (take (a .deletion .length) (a .deletion .prefix)) R (c .before .before .deleted-values .result) = (G, c .before .before .deleted-values .ensures) in
+    let six = six-digits start in
+    let wide : length (take (a .deletion .length) (a .deletion .prefix)) ≡ a .deletion .length =
+    length-take-le (a .deletion .length) (a .deletion .prefix) (omega (arith, start .pre .1)) in
+    let F : FlaggedFor (a .set) (a .lengths) (a .count) (take (a .deletion .length) (a .deletion .prefix)) R
+    (at-deleted-values .deleted-values .result) = (G, at-deleted-values .deleted-values .ensures) in
     let l = c .before .loop in
     entry-answer (a .set) (a .lengths) (a .count) (take (a .deletion .length) (a .deletion .prefix)) A R false G
-    (sym (entry-defined P (take (a .deletion .length) (a .deletion .prefix)) A R (a .deletion .length) (a .deletion .longest) (sym wide) (start .pre .3) ∙ l .inv .2 R F ∙
-    totals-end (lost A P (take (a .deletion .length) (a .deletion .prefix)) R) (a .deletion .length) (a .deletion .longest) (l .t) (omega arith)))
+    (sym (entry-defined P (take (a .deletion .length) (a .deletion .prefix)) A R (a .deletion .length)
+    (a .deletion .longest) (sym wide) (start .pre .3) ∙ l .inv .2 R F ∙
+    totals-end (lost A P (take (a .deletion .length) (a .deletion .prefix)) R) (a .deletion .length)
+    (a .deletion .longest) (l .t) (omega arith)))
 
 pub irreversible-spec : {M : Type 1} → statement M
 irreversible-spec =

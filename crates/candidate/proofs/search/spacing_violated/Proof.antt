@@ -11,7 +11,8 @@ use native.Mathlib.Omega.{arith}
 use lib.ListN.{length, getD, take, length-take}
 use lib.Seq.{length-take-le}
 use Rattle.word.specs.Ceilings.{DIGITS, PATTERNS, PREFIX}
-use Rattle.candidate.proofs.CandidateWalk.{Passed, passed-start, passed-end, passed-short, passed-missed, passed-contained, violation, word-made}
+use Rattle.candidate.proofs.CandidateWalk.{Passed, passed-start, passed-end, passed-short, passed-missed}
+use Rattle.candidate.proofs.CandidateWalk.{passed-contained, violation, word-made}
 use Rattle.candidate.proofs.BasisWalk.{take-again}
 use Rattle.candidate.specs.Ready.{patternAt}
 use Rattle.candidate.proofs.search.spacing_violated.Statement.{statement}
@@ -35,8 +36,11 @@ six-digits start = (let o = start .good in search needs)
 
 loop-holds : tie.Need-loop-holds Inv-loop μ-loop
 loop-holds c =
-    let a = c .before .before .before .before .before .before .args in
-    passed-start (a .t1) (a .t2) (a .count) (now (a .needs)) (take (a .at .deleted .length) (a .at .deleted .prefix)) (a .at .deleted .gone) (c .levels-of .result) (a .at .total)
+    let start = c .before .before .before .before .before .before in
+    let a = start .args in
+    passed-start (a .t1) (a .t2) (a .count) (now (a .needs))
+    (take (a .at .deleted .length) (a .at .deleted .prefix)) (a .at .deleted .gone) (c .levels-of .result)
+    (a .at .total)
 
 loop-again : tie.Need-loop-again Inv-loop μ-loop
 loop-again c =
@@ -51,18 +55,25 @@ loop-again c =
     let eight : length (patternAt (a .t1) (a .t2) (l .i)) ≤ DIGITS = omega (arith, d .ensures .0, d .ensures .1) in
     let rows = all-rows start in
     let long = all-lengths start in
-    passed-short (a .t1) (a .t2) (a .count) (now (a .needs)) (take (a .at .deleted .length) (a .at .deleted .prefix)) (a .at .deleted .gone) levels (a .at .total) (l .i)
+    passed-short (a .t1) (a .t2) (a .count) (now (a .needs))
+    (take (a .at .deleted .length) (a .at .deleted .prefix)) (a .at .deleted .gone) levels (a .at .total) (l .i)
     (omega arith) (omega arith) (omega arith) eight (l .inv) (omega (arith, d .ensures .0, c .if1 .taken))
 
 need-at-requires : tie.Need-need-at-requires Inv-loop μ-loop
-need-at-requires c κs = let start = c .before .before .before .before .before .before .before .before .before .before .before in (start .pre .4, start .pre .3, omega (arith, start .pre .0))
+need-at-requires c κs =
+    let place = c .before .before .before .before .before .before .before .before .before .before .before in
+    let start = place in (start .pre .4, start .pre .3, omega (arith, start .pre .0))
 
 hits-requires : tie.Need-hits-requires Inv-loop μ-loop
-hits-requires c κs = (c .before .before .digits .ensures .1, c .before .before .before .before .before .before .before .before .before .before .before .before .pre .1)
+hits-requires c κs =
+    let at-digits = c .before .before in
+    let start = at-digits .before .before .before .before .before .before .before .before .before .before in
+    (at-digits .digits .ensures .1, start .pre .1)
 
 loop-again-2 : tie.Need-loop-again-2 Inv-loop μ-loop
 loop-again-2 c =
-    let at-digits = c .before .before .before .before in
+    let at-need-at = c .before .before in
+    let at-digits = at-need-at .before .before in
     let at-loop = at-digits .before .before .before in
     let at-levels = at-loop .before in
     let start = at-levels .before .before .before .before .before .before in
@@ -73,23 +84,35 @@ loop-again-2 c =
     let eight : length (patternAt (a .t1) (a .t2) (l .i)) ≤ DIGITS = omega (arith, d .ensures .0, d .ensures .1) in
     let rows = all-rows start in
     let long = all-lengths start in
-    let need = c .before .before .need-at .ensures in
+    let need = at-need-at .need-at .ensures in
     let cut : take (d .result) (getD (a .t1) (l .i) []) ≡ patternAt (a .t1) (a .t2) (l .i) =
     ap (λ (m : ℕ). take m (getD (a .t1) (l .i) [])) (d .ensures .0) ∙ take-again (getD (a .t2) (l .i) 0) (getD (a .t1) (l .i) []) in
     let hits = c .before .hits in
     let found = rw (cut, need) at (hits .ensures) in
-    passed-missed (a .t1) (a .t2) (a .count) (now (a .needs)) (take (a .at .deleted .length) (a .at .deleted .prefix)) (a .at .deleted .gone) levels (a .at .total) (l .i)
+    passed-missed (a .t1) (a .t2) (a .count) (now (a .needs))
+    (take (a .at .deleted .length) (a .at .deleted .prefix)) (a .at .deleted .gone) levels (a .at .total) (l .i)
     (omega arith) (omega arith) (omega arith) eight (l .inv) (hits .result) found (not-true _ (c .if2 .taken))
 
 candidate-word-requires : tie.Need-candidate-word-requires Inv-loop μ-loop
-candidate-word-requires c κs = (c .before .before .before .before .before .before .before .before .before .before .before .before .before .before .pre .1, omega arith, c .before .before .before .before .digits .ensures .1)
+candidate-word-requires c κs =
+    let at-digits = c .before .before .before .before in
+    let start = at-digits .before .before .before .before .before .before .before .before .before .before in
+    (start .pre .1, omega arith, at-digits .digits .ensures .1)
 
 contained-by-requires : tie.Need-contained-by-requires Inv-loop μ-loop
-contained-by-requires c κs = (omega (arith, c .before .candidate-word .ensures .0), omega arith, c .before .before .before .before .before .before .before .before .before .before .before .before .before .before .before .before .pre .0)
+contained-by-requires c κs =
+    let at-digits = c .before .before .before .before .before .before in
+    let start = at-digits .before .before .before .before .before .before .before .before .before .before in
+    (omega (arith, c .before .candidate-word .ensures .0), omega arith, start .pre .0)
 
 loop-again-3 : tie.Need-loop-again-3 Inv-loop μ-loop
 loop-again-3 c =
-    let at-digits = c .before .before .before .before .before .before .before .before in
+    let at-candidate-word = c .before .before .before in
+    let at-if2 = at-candidate-word .before in
+    let at-hits = at-if2 .before in
+    let at-need-at = at-hits .before in
+    let at-if1 = at-need-at .before in
+    let at-digits = at-if1 .before in
     let at-loop = at-digits .before .before .before in
     let at-levels = at-loop .before in
     let start = at-levels .before .before .before .before .before .before in
@@ -100,23 +123,33 @@ loop-again-3 c =
     let eight : length (patternAt (a .t1) (a .t2) (l .i)) ≤ DIGITS = omega (arith, d .ensures .0, d .ensures .1) in
     let rows = all-rows start in
     let long = all-lengths start in
-    let need = c .before .before .before .before .before .before .need-at .ensures in
+    let need = at-need-at .need-at .ensures in
     let cut : take (d .result) (getD (a .t1) (l .i) []) ≡ patternAt (a .t1) (a .t2) (l .i) =
     ap (λ (m : ℕ). take m (getD (a .t1) (l .i) [])) (d .ensures .0) ∙ take-again (getD (a .t2) (l .i) 0) (getD (a .t1) (l .i) []) in
-    let hits = c .before .before .before .before .before .hits in
+    let hits = at-hits .hits in
     let found = rw (cut, need) at (hits .ensures) in
     let six = six-digits start in
-    let wide : length (take (a .at .deleted .length) (a .at .deleted .prefix)) ≡ a .at .deleted .length = length-take-le (a .at .deleted .length) (a .at .deleted .prefix) (omega (arith, start .pre .1)) in
-    let w = c .before .before .before .candidate-word in
-    let made = word-made (a .t1) (a .t2) (a .count) (now (a .needs)) (a .at .deleted .prefix) (a .at .deleted .gone) levels (a .at .deleted .length) (a .at .total) (l .i) (d .result) wide
-    (omega arith) (d .ensures .0) (d .ensures .1) (omega (arith, c .before .before .before .before .before .before .before .if1 .left)) (take (w .result .length) (w .result .entries)) (rw need at (w .ensures .1)) in
-    passed-contained (a .t1) (a .t2) (a .count) (now (a .needs)) (take (a .at .deleted .length) (a .at .deleted .prefix)) (a .at .deleted .gone) levels (a .at .total) (l .i)
-    (omega (arith, start .pre .0)) (omega (arith, start .pre .0)) (omega arith) eight (l .inv) (hits .result) found (not-false _ (c .before .before .before .before .if2 .left))
+    let wide : length (take (a .at .deleted .length) (a .at .deleted .prefix)) ≡ a .at .deleted .length =
+    length-take-le (a .at .deleted .length) (a .at .deleted .prefix) (omega (arith, start .pre .1)) in
+    let w = at-candidate-word .candidate-word in
+    let made = word-made (a .t1) (a .t2) (a .count) (now (a .needs)) (a .at .deleted .prefix) (a .at .deleted .gone)
+    levels (a .at .deleted .length) (a .at .total) (l .i) (d .result) wide
+    (omega arith) (d .ensures .0) (d .ensures .1) (omega (arith, at-if1 .if1 .left))
+    (take (w .result .length) (w .result .entries)) (rw need at (w .ensures .1)) in
+    passed-contained (a .t1) (a .t2) (a .count) (now (a .needs))
+    (take (a .at .deleted .length) (a .at .deleted .prefix)) (a .at .deleted .gone) levels (a .at .total) (l .i)
+    (omega (arith, start .pre .0)) (omega (arith, start .pre .0)) (omega arith) eight (l .inv) (hits .result) found
+    (not-false _ (at-if2 .if2 .left))
     (take (w .result .length) (w .result .entries)) made (not-true _ (sym (c .before .contained-by .ensures) ∙ c .if3 .taken))
 
 returns : tie.Need-returns Inv-loop μ-loop
 returns c =
-    let at-digits = c .before .before .before .before .before .before .before .before in
+    let at-candidate-word = c .before .before .before in
+    let at-if2 = at-candidate-word .before in
+    let at-hits = at-if2 .before in
+    let at-need-at = at-hits .before in
+    let at-if1 = at-need-at .before in
+    let at-digits = at-if1 .before in
     let at-loop = at-digits .before .before .before in
     let at-levels = at-loop .before in
     let start = at-levels .before .before .before .before .before .before in
@@ -127,28 +160,53 @@ returns c =
     let eight : length (patternAt (a .t1) (a .t2) (l .i)) ≤ DIGITS = omega (arith, d .ensures .0, d .ensures .1) in
     let rows = all-rows start in
     let long = all-lengths start in
-    let need = c .before .before .before .before .before .before .need-at .ensures in
+    let need = at-need-at .need-at .ensures in
     let cut : take (d .result) (getD (a .t1) (l .i) []) ≡ patternAt (a .t1) (a .t2) (l .i) =
     ap (λ (m : ℕ). take m (getD (a .t1) (l .i) [])) (d .ensures .0) ∙ take-again (getD (a .t2) (l .i) 0) (getD (a .t1) (l .i) []) in
-    let hits = c .before .before .before .before .before .hits in
+    let hits = at-hits .hits in
     let found = rw (cut, need) at (hits .ensures) in
     let six = six-digits start in
-    let wide : length (take (a .at .deleted .length) (a .at .deleted .prefix)) ≡ a .at .deleted .length = length-take-le (a .at .deleted .length) (a .at .deleted .prefix) (omega (arith, start .pre .1)) in
-    let w = c .before .before .before .candidate-word in
-    let made = word-made (a .t1) (a .t2) (a .count) (now (a .needs)) (a .at .deleted .prefix) (a .at .deleted .gone) levels (a .at .deleted .length) (a .at .total) (l .i) (d .result) wide
-    (omega arith) (d .ensures .0) (d .ensures .1) (omega (arith, c .before .before .before .before .before .before .before .if1 .left)) (take (w .result .length) (w .result .entries)) (rw need at (w .ensures .1)) in
-    λ R F size e N. violation (a .t1) (a .t2) (a .count) (now (a .needs)) (take (a .at .deleted .length) (a .at .deleted .prefix)) (a .at .deleted .gone) levels (a .at .total) (l .i)
-    (omega (arith, start .pre .0)) (omega (arith, start .pre .0)) (omega arith) eight (l .inv) (hits .result) found (not-false _ (c .before .before .before .before .if2 .left))
+    let wide : length (take (a .at .deleted .length) (a .at .deleted .prefix)) ≡ a .at .deleted .length =
+    length-take-le (a .at .deleted .length) (a .at .deleted .prefix) (omega (arith, start .pre .1)) in
+    let w = at-candidate-word .candidate-word in
+    let made = word-made (a .t1) (a .t2) (a .count) (now (a .needs)) (a .at .deleted .prefix) (a .at .deleted .gone)
+    levels (a .at .deleted .length) (a .at .total) (l .i) (d .result) wide
+    (omega arith) (d .ensures .0) (d .ensures .1) (omega (arith, at-if1 .if1 .left))
+    (take (w .result .length) (w .result .entries)) (rw need at (w .ensures .1)) in
+    λ R F size e N. violation (a .t1) (a .t2) (a .count) (now (a .needs))
+    (take (a .at .deleted .length) (a .at .deleted .prefix)) (a .at .deleted .gone) levels (a .at .total) (l .i)
+    (omega (arith, start .pre .0)) (omega (arith, start .pre .0)) (omega arith) eight (l .inv) (hits .result) found
+    (not-false _ (at-if2 .if2 .left))
     (take (w .result .length) (w .result .entries)) made (not-false _ (sym (c .before .contained-by .ensures) ∙ c .if3 .left)) R _
-    (record { given = F .0; flags = F .1; size = size; whole = e; said = λ v b. at-levels .levels-of .ensures v (omega (arith, length-take (a .at .deleted .length) (a .at .deleted .prefix))); needed = N })
+    (record {
+      given = F .0;
+      flags = F .1;
+      size = size;
+      whole = e;
+      said =
+          λ v b. at-levels .levels-of .ensures v (omega
+          (arith, length-take (a .at .deleted .length) (a .at .deleted .prefix)));
+      needed = N;
+    })
 
 returns-2 : tie.Need-returns-2 Inv-loop μ-loop
 returns-2 c =
     let at-levels = c .before .before in
     let a = at-levels .before .before .before .before .before .before .args in
     let l = c .before .loop in
-    λ R F size e N. passed-end (a .t1) (a .t2) (a .count) (now (a .needs)) (take (a .at .deleted .length) (a .at .deleted .prefix)) (a .at .deleted .gone) (at-levels .levels-of .result) (a .at .total) (l .i) (omega arith) (l .inv) R _
-    (record { given = F .0; flags = F .1; size = size; whole = e; said = λ v b. at-levels .levels-of .ensures v (omega (arith, length-take (a .at .deleted .length) (a .at .deleted .prefix))); needed = N })
+    λ R F size e N. passed-end (a .t1) (a .t2) (a .count) (now (a .needs))
+    (take (a .at .deleted .length) (a .at .deleted .prefix)) (a .at .deleted .gone)
+    (at-levels .levels-of .result) (a .at .total) (l .i) (omega arith) (l .inv) R _
+    (record {
+      given = F .0;
+      flags = F .1;
+      size = size;
+      whole = e;
+      said =
+          λ v b. at-levels .levels-of .ensures v (omega
+          (arith, length-take (a .at .deleted .length) (a .at .deleted .prefix)));
+      needed = N;
+    })
 
 pub spacing-violated-spec : {M : Type 1} → statement M
 spacing-violated-spec =

@@ -13,15 +13,18 @@ use Rattle.candidate.proofs.tables.at_most.Statement.{statement}
 use Rattle.candidate.proofs.tables.at_most.Tie as tie
 
 abbrev Inv-loop : tie.InvT-loop
-Inv-loop from to x row n₀ j₀ n j = (from ≤ j) × (j ≤ to) × (n ≤ j) × (n + under (drop j (take to row)) x ≡ under (drop from (take to row)) x)
+Inv-loop from to x row n₀ j₀ n j = (from ≤ j) × (j ≤ to) × (n ≤ j) ×
+    (n + under (drop j (take to row)) x ≡ under (drop from (take to row)) x)
 
 abbrev μ-loop : tie.MeasureT-loop
 μ-loop from to x row n₀ j₀ n j = to - j
 
 loop-again : tie.Need-loop-again Inv-loop μ-loop
 loop-again c =
-    let a = c .before .before .before .args in
-    let l = c .before .before .loop in
+    let at-loop = c .before .before in
+    let start = at-loop .before in
+    let a = start .args in
+    let l = at-loop .loop in
     let eight : length (a .t1) ≡ 8 = search needs in
     ⊎-elim (λ w. omega (arith, under-counted (a .t1) (a .to) (l .j) (a .x) (omega arith) (omega arith) (w .0 .taken)))
     (λ w. omega (arith, under-passed (a .t1) (a .to) (l .j) (a .x) (omega arith) (omega arith) (w .0 .left))) (c .if1 .came)
@@ -36,4 +39,5 @@ returns c =
 pub at-most-spec : {M : Type 1} → statement M
 at-most-spec =
     tie.close
-    (tie.spec Inv-loop μ-loop (λ c. search needs) (λ c. search needs) (λ c. search needs) (λ c. search needs) (λ c. search needs) loop-again returns)
+    (tie.spec Inv-loop μ-loop (λ c. search needs) (λ c. search needs) (λ c. search needs) (λ c. search needs)
+    (λ c. search needs) loop-again returns)

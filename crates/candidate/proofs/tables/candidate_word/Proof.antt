@@ -16,17 +16,22 @@ use Rattle.candidate.proofs.tables.candidate_word.Tie as tie
 
 returns : tie.Need-returns
 returns c =
-    let a = c .before .before .before .before .args in
-    let pre = c .before .before .before .before .pre in
+    let start = c .before .before .before .before in
+    let a = start .args in
+    let pre = start .pre in
     let six : length (a .prefix) ≡ 6 = search needs in
     let eight : length (a .row) ≡ 8 = search needs in (
       c .with-rest .ensures .0,
-      λ (p R g β : List ℕ) (r : Tabled (a .prefix) (a .k) (a .tables .levels) (a .tables .gone) (a .row) (a .len) (a .t) (a .tables .need) p R g β).
+      λ (p R g β : List ℕ) (r : Tabled (a .prefix) (a .k) (a .tables .levels) (a .tables .gone) (a .row) (a .len)
+          (a .t) (a .tables .need) p R g β).
           c .with-rest .ensures .1 g
-          (ready-reached (a .prefix) (a .k) (a .tables .levels) (a .tables .gone) (a .row) (a .len) (a .t) (a .tables .need) p R g β (pre .0) (pre .1) (pre .2)
+          (ready-reached (a .prefix) (a .k) (a .tables .levels) (a .tables .gone) (a .row) (a .len) (a .t)
+          (a .tables .need) p R g β (pre .0) (pre .1) (pre .2)
           (omega arith) (omega arith) r) ∙
-          ap (λ (v : List ℕ). v ++ map (λ y. lift g (entryOf (a .tables .need) y)) (drop (a .len - a .t) (take (a .len) (a .row)))) (c .before .kept .ensures .1) ∙
-          ready-made (a .prefix) (a .k) (a .tables .levels) (a .tables .gone) (a .row) (a .len) (a .t) (a .tables .need) p R g β (pre .0) (pre .1) (pre .2)
+          ap (λ (v : List ℕ). v ++ map (λ y. lift g (entryOf (a .tables .need) y))
+          (drop (a .len - a .t) (take (a .len) (a .row)))) (c .before .kept .ensures .1) ∙
+          ready-made (a .prefix) (a .k) (a .tables .levels) (a .tables .gone) (a .row) (a .len) (a .t)
+          (a .tables .need) p R g β (pre .0) (pre .1) (pre .2)
           (omega arith) (omega arith) r,
     )
 

@@ -17,7 +17,8 @@ use Rattle.candidate.proofs.tables.deleted_values.Tie as tie
 abbrev Inv-loop : tie.InvT-loop
 Inv-loop k count prefix positions gone₀ j₀ gone j =
     (j ≤ count) × (length gone ≡ 9) × ((v : ℕ) → v < 9 →
-    flagged gone v || has v (map (entry (take k prefix)) (drop j (take count positions))) ≡ has v (map (entry (take k prefix)) (take count positions)))
+    flagged gone v || has v (map (entry (take k prefix)) (drop j (take count positions))) ≡
+    has v (map (entry (take k prefix)) (take count positions)))
 
 abbrev μ-loop : tie.MeasureT-loop
 μ-loop k count prefix positions gone₀ j₀ gone j = count - j

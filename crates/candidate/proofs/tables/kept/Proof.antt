@@ -14,31 +14,39 @@ use Rattle.candidate.proofs.tables.kept.Tie as tie
 
 abbrev Inv-loop : tie.InvT-loop
 Inv-loop k levels gone prefix entries₀ n₀ i₀ entries n i =
-    (i ≤ k) × (n ≤ i) × (length entries ≡ 20) × (take n entries ++ keptValues levels gone (drop i (take k prefix)) ≡ keptValues levels gone (take k prefix))
+    (i ≤ k) × (n ≤ i) × (length entries ≡ 20) ×
+    (take n entries ++ keptValues levels gone (drop i (take k prefix)) ≡ keptValues levels gone (take k prefix))
 
 abbrev μ-loop : tie.MeasureT-loop
 μ-loop k levels gone prefix entries₀ n₀ i₀ entries n i = k - i
 
 loop-again : tie.Need-loop-again Inv-loop μ-loop
 loop-again c =
-    let a = c .before .before .before .before .before .before .args in
-    let l = c .before .before .before .before .before .loop in
+    let at-if1 = c .before .before in
+    let at-told = at-if1 .before in
+    let at-loop = at-told .before .before in
+    let start = at-loop .before in
+    let a = start .args in
+    let l = at-loop .loop in
     let six : length (a .t1) ≡ 6 = search needs in
-    let stays = sym (c .before .before .before .told .ensures) ∙ c .before .before .if1 .taken in
+    let stays = sym (at-told .told .ensures) ∙ at-if1 .if1 .taken in
     let value : c .added .result ≡ min (getD (a .t1) (l .i) 0 + getD (a .levels) (getD (a .t1) (l .i) 0) 0) 255 =
     c .added .ensures ∙ ap (λ (x : ℕ). min (getD (a .t1) (l .i) 0 + x) 255) (c .before .told2 .ensures) in (
       search needs,
       search needs,
       search needs,
       push (l .entries) (l .n) (c .added .result) (keptValues (a .levels) (a .gone) (drop (l .i + 1) (take (a .k) (a .t1))))
-          (keptValues (a .levels) (a .gone) (drop (l .i) (take (a .k) (a .t1)))) (keptValues (a .levels) (a .gone) (take (a .k) (a .t1))) (omega arith)
+          (keptValues (a .levels) (a .gone) (drop (l .i) (take (a .k) (a .t1))))
+          (keptValues (a .levels) (a .gone) (take (a .k) (a .t1))) (omega arith)
           (rw value (kept-here (a .levels) (a .gone) (a .t1) (a .k) (l .i) (omega arith) (omega arith) stays)) (l .inv .3),
     )
 
 loop-again-2 : tie.Need-loop-again-2 Inv-loop μ-loop
 loop-again-2 c =
-    let a = c .before .before .before .before .args in
-    let l = c .before .before .before .loop in
+    let at-loop = c .before .before .before in
+    let start = at-loop .before in
+    let a = start .args in
+    let l = at-loop .loop in
     let six : length (a .t1) ≡ 6 = search needs in (
       search needs,
       search needs,
@@ -54,7 +62,8 @@ returns c =
     let l = c .before .loop in
     let six : length (a .t1) ≡ 6 = search needs in (
       omega arith,
-      pushed (l .entries) (l .n) (keptValues (a .levels) (a .gone) (drop (l .i) (take (a .k) (a .t1)))) (keptValues (a .levels) (a .gone) (take (a .k) (a .t1)))
+      pushed (l .entries) (l .n) (keptValues (a .levels) (a .gone) (drop (l .i) (take (a .k) (a .t1))))
+          (keptValues (a .levels) (a .gone) (take (a .k) (a .t1)))
           (kept-end (a .levels) (a .gone) (a .t1) (a .k) (l .i) (omega arith) (omega arith)) (l .inv .3),
     )
 

@@ -14,7 +14,8 @@ use Rattle.candidate.proofs.tables.levels_of.Statement.{statement}
 use Rattle.candidate.proofs.tables.levels_of.Tie as tie
 
 abbrev Inv-loop : tie.InvT-loop
-Inv-loop k g levels₀ sum₀ v₀ levels sum v = (v ≤ k) × (sum ≡ level (take (k + 1) g) v) × (length levels ≡ 9) × Says levels (v + 1) (level (take (k + 1) g))
+Inv-loop k g levels₀ sum₀ v₀ levels sum v = (v ≤ k) × (sum ≡ level (take (k + 1) g) v) × (length levels ≡ 9) ×
+    Says levels (v + 1) (level (take (k + 1) g))
 
 abbrev μ-loop : tie.MeasureT-loop
 μ-loop k g levels₀ sum₀ v₀ levels sum v = k - v
@@ -37,8 +38,13 @@ loop-again c =
     let l = c .before .loop in
     let seven : length (a .t1) ≡ 7 = search needs in
     let more = level-more (a .t1) (a .k + 1) (l .v) (omega arith) (omega arith) in
-    let sum = l .sum + getD (a .t1) (l .v) 0 in
-    (omega arith, omega arith, search needs, says-more (l .levels) (l .v + 1) sum (level (take (a .k + 1) (a .t1))) (omega arith) (omega arith) (l .inv .3))
+    let sum = l .sum + getD (a .t1) (l .v) 0 in (
+      omega arith,
+      omega arith,
+      search needs,
+      says-more (l .levels) (l .v + 1) sum (level (take (a .k + 1) (a .t1))) (omega arith) (omega arith)
+          (l .inv .3),
+    )
 
 returns : tie.Need-returns Inv-loop μ-loop
 returns c =

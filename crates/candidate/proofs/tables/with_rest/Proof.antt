@@ -28,27 +28,35 @@ loop-holds c = (search needs, search needs, search needs, search needs, λ g r. 
 
 loop-again : tie.Need-loop-again Inv-loop μ-loop
 loop-again c =
-    let a = c .before .before .before .before .before .before .before .before .args in
-    let l = c .before .before .before .before .loop in
+    let at-capped = c .before in
+    let at-told = at-capped .before in
+    let at-loop = at-told .before .before in
+    let start = at-loop .before .before .before .before in
+    let a = start .args in
+    let l = at-loop .loop in
     let eight : length (a .t2) ≡ 8 = search needs in (
       search needs,
       search needs,
       omega arith,
       search needs,
       λ (g : List ℕ) (r : Reached (a .t2) (a .from) (a .to) (a .tables .need) (a .tables .levels) (a .k) g).
-          let low : getD (a .tables .need) (getD (a .t2) (l .j) 0) 0 ≤ 100 = omega (arith, r .reach (l .j) (omega arith) (omega arith), r .small) in
-          let s : c .before .capped .result ≡ getD (a .tables .need) (getD (a .t2) (l .j) 0) 0 =
-          omega (arith, c .before .capped .ensures, c .before .before .told .ensures) in
+          let low : getD (a .tables .need) (getD (a .t2) (l .j) 0) 0 ≤ 100 =
+          omega (arith, r .reach (l .j) (omega arith) (omega arith), r .small) in
+          let s : at-capped .capped .result ≡ getD (a .tables .need) (getD (a .t2) (l .j) 0) 0 =
+          omega (arith, at-capped .capped .ensures, at-told .told .ensures) in
           let y : c .lifted .result ≡ lift g (getD (a .tables .need) (getD (a .t2) (l .j) 0) 0) =
           c .lifted .ensures g (r .size) (r .says) (omega (arith, r .reach (l .j) (omega arith) (omega arith))) ∙ ap (lift g) s in
-          push (l .entries) (l .n) (c .lifted .result) (map (λ y. lift g (entryOf (a .tables .need) y)) (drop (l .j + 1) (take (a .to) (a .t2))))
+          push (l .entries) (l .n) (c .lifted .result)
+          (map (λ y. lift g (entryOf (a .tables .need) y)) (drop (l .j + 1) (take (a .to) (a .t2))))
           (map (λ y. lift g (entryOf (a .tables .need) y)) (drop (l .j) (take (a .to) (a .t2)))) _ (omega arith)
-          (rest-here (λ y. lift g (entryOf (a .tables .need) y)) (a .t2) (a .to) (l .j) (c .lifted .result) (omega arith) (omega arith) y) (l .inv .4 g r),
+          (rest-here (λ y. lift g (entryOf (a .tables .need) y)) (a .t2) (a .to) (l .j) (c .lifted .result)
+          (omega arith) (omega arith) y) (l .inv .4 g r),
     )
 
 returns : tie.Need-returns Inv-loop μ-loop
 returns c =
-    let a = c .before .before .before .before .before .args in
+    let start = c .before .before .before .before .before in
+    let a = start .args in
     let l = c .before .loop in
     let eight : length (a .t2) ≡ 8 = search needs in (
       omega arith,

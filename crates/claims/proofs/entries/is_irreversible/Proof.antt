@@ -12,7 +12,8 @@ enum-told c = search needs
 
 returns : tie.Need-returns
 returns c =
-    let a = c .before .before .before .args in
+    let start = c .before .before .before in
+    let a = start .args in
     sym (expands-differs (patternsOf (a .set) (a .lengths) (a .count)) (a .e) (c .enum-told .given .1))
 
 pub is-irreversible-spec : {M : Type 1} → statement M

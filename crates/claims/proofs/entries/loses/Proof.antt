@@ -21,7 +21,8 @@ all-parts start = (let g = start .good in search needs)
 cast-positions : tie.Need-cast-positions
 cast-positions c =
     let start = c .before .before .before .before in
-    let low = position-bound (start .args .e) (start .pre .4) (six-digits start) (start .args .cut .position) (start .pre .5) in search needs
+    let low = position-bound (start .args .e) (start .pre .4) (six-digits start) (start .args .cut .position)
+    (start .pre .5) in search needs
 
 irreversible-requires : tie.Need-irreversible-requires
 irreversible-requires c κs =
@@ -29,15 +30,24 @@ irreversible-requires c κs =
     let a = start .args in
     let q = start .pre in
     let hs : length (a .set) ≡ PATTERNS = (let g = start .good in search needs) in
-    let hl : length (a .lengths) ≡ PATTERNS = (let g = start .good in search needs) in
-    (q .0, entry-short (a .e) (q .4), omega arith, q .2, q .3, gaps-in (a .e) (q .4) (all-parts start), given (a .e) (q .4) (six-digits start) (a .cut .position) (q .5) (a .set) (a .lengths) (a .count) hs hl (q .1))
+    let hl : length (a .lengths) ≡ PATTERNS = (let g = start .good in search needs) in (
+      q .0,
+      entry-short (a .e) (q .4),
+      omega arith,
+      q .2,
+      q .3,
+      gaps-in (a .e) (q .4) (all-parts start),
+      given (a .e) (q .4) (six-digits start) (a .cut .position) (q .5) (a .set) (a .lengths) (a .count) hs hl
+          (q .1),
+    )
 
 returns : tie.Need-returns
 returns c =
     let start = c .before .before .before .before .before .before in
     let a = start .args in
     let q = start .pre in
-    answers (a .e) (q .4) (six-digits start) (a .cut .position) (q .5) (patternsOf (a .set) (a .lengths) (a .count)) (c .irreversible .result) (all-parts start) (c .irreversible .ensures)
+    answers (a .e) (q .4) (six-digits start) (a .cut .position) (q .5) (patternsOf (a .set) (a .lengths) (a .count))
+    (c .irreversible .result) (all-parts start) (c .irreversible .ensures)
 
 pub loses-spec : {M : Type 1} → statement M
 loses-spec =

@@ -15,18 +15,26 @@ at-least-requires c κs = omega (arith, c .before .pre .0)
 
 returns : tie.Need-returns
 returns c =
-    let a = c .before .before .before .args in
-    sym (shows-not (patternsOf (a .set) (a .lengths) (a .count)) (take (a .at .length) (a .at .prefix)) (take (a .at .length + 1) (a .at .parts)) (take (a .at .length + 1) (a .g))
+    let start = c .before .before .before in
+    let a = start .args in
+    sym (shows-not (patternsOf (a .set) (a .lengths) (a .count)) (take (a .at .length) (a .at .prefix))
+    (take (a .at .length + 1) (a .at .parts)) (take (a .at .length + 1) (a .g))
     (sym (c .before .at-least .ensures) ∙ not-true _ (c .if1 .taken)))
 
 is-live-at-requires : tie.Need-is-live-at-requires
-is-live-at-requires c κs = c .before .before .before .before .pre
+is-live-at-requires c κs =
+    let start = c .before .before .before .before in
+    start .pre
 
 returns-2 : tie.Need-returns-2
 returns-2 c =
-    let a = c .before .before .before .before .before .args in
-    let above = sym (c .before .before .before .at-least .ensures) ∙ not-false _ (c .before .before .if1 .left) in
-    shows-if-empty (patternsOf (a .set) (a .lengths) (a .count)) (take (a .at .length) (a .at .prefix)) (take (a .at .length + 1) (a .at .parts)) (take (a .at .length + 1) (a .g))
+    let at-if1 = c .before .before in
+    let at-at-least = at-if1 .before in
+    let start = at-at-least .before .before in
+    let a = start .args in
+    let above = sym (at-at-least .at-least .ensures) ∙ not-false _ (at-if1 .if1 .left) in
+    shows-if-empty (patternsOf (a .set) (a .lengths) (a .count)) (take (a .at .length) (a .at .prefix))
+    (take (a .at .length + 1) (a .at .parts)) (take (a .at .length + 1) (a .g))
     (c .is-live-at .result) above (c .is-live-at .ensures)
 
 pub is-empty-below-spec : {M : Type 1} → statement M

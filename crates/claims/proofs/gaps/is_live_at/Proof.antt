@@ -11,37 +11,64 @@ use borrow.Author.Needs.{needs}
 use Rattle.claims.proofs.gaps.is_live_at.Statement.{statement}
 use Rattle.claims.proofs.gaps.is_live_at.Tie as tie
 
+-- the array of the prefix has all its places
+six-digits : (start : tie.Start) → length (start .args .prefix) ≡ PREFIX
+six-digits start = (let o = start .good in search needs)
+
+-- the array of the spacing has all its places
+seven-components : (start : tie.Start) → length (start .args .t6) ≡ COMPONENTS
+seven-components start = (let o = start .good in search needs)
+
 levels-of-requires : tie.Need-levels-of-requires
 levels-of-requires c κs = let q = c .pre in (q .0, q .2)
 
 add-n : tie.Need-add-n
-add-n c = let q = c .before .before .before .before .pre in let w = c .wide .ensures in search needs
+add-n c =
+    let start = c .before .before .before .before in
+    let q = start .pre in
+    let w = c .wide .ensures in
+    search needs
 
 add-n-2 : tie.Need-add-n-2
-add-n-2 c = let q = c .before .before .before .before .before .pre in let w = c .wide2 .ensures in let v = c .before .wide .ensures in search needs
+add-n-2 c =
+    let start = c .before .before .before .before .before in
+    let q = start .pre in
+    let w = c .wide2 .ensures in
+    let v = c .before .wide .ensures in
+    search needs
 
 completable-requires : tie.Need-completable-requires
 completable-requires c κs =
-    let a = c .before .before .before .before .before .args in
-    let q = c .before .before .before .before .before .pre in
-    let v = c .before .before .before .before .levels-of in
-    let seven : length (a .t6) ≡ COMPONENTS = (let g = c .before .before .before .before .before .good in search needs) in
+    let at-levels-of = c .before .before .before .before in
+    let start = at-levels-of .before in
+    let a = start .args in
+    let q = start .pre in
+    let v = at-levels-of .levels-of in
+    let seven = seven-components start in
     let whole = cell-length (a .k) (a .t6) seven (q .0) (q .2) (v .result) (v .ensures) in
     (omega (arith, q .0), omega (arith, q .0, q .2, whole, c .wide2 .ensures .0, c .before .wide .ensures .0))
 
+-- the array of the word has all its places
+all-entries : (o : tie.After-kept) → length (o .kept .result .entries) ≡ WORD
+all-entries o = (let k = o .kept .ok in search needs)
+
 returns : tie.Need-returns
 returns c =
-    let a = c .before .before .before .before .before .before .args in
-    let q = c .before .before .before .before .before .before .pre in
-    let v = c .before .before .before .before .before .levels-of in
-    let w = c .before .before .before .before .kept in
-    let six : length (a .prefix) ≡ PREFIX = (let g = c .before .before .before .before .before .before .good in search needs) in
-    let seven : length (a .t6) ≡ COMPONENTS = (let g = c .before .before .before .before .before .before .good in search needs) in
-    let twenty : length (w .result .entries) ≡ WORD = search needs in
+    let at-wide = c .before .before in
+    let at-kept = at-wide .before .before in
+    let at-levels-of = at-kept .before in
+    let start = at-levels-of .before in
+    let a = start .args in
+    let q = start .pre in
+    let v = at-levels-of .levels-of in
+    let w = at-kept .kept in
+    let six = six-digits start in
+    let seven = seven-components start in
+    let twenty = all-entries at-kept in
     c .completable .ensures ∙
     live-is (a .k) (a .t6) seven (q .0) (q .2) (v .result) (v .ensures)
     (patternsOf (a .set) (a .lengths) (a .count)) (a .prefix) (w .result .entries) _ (w .result .length) six (q .1) twenty
-    (w .ensures .0) (w .ensures .1) (omega (arith, c .before .wide2 .ensures .0, c .before .before .wide .ensures .0))
+    (w .ensures .0) (w .ensures .1) (omega (arith, c .before .wide2 .ensures .0, at-wide .wide .ensures .0))
 
 pub is-live-at-spec : {M : Type 1} → statement M
 is-live-at-spec =

@@ -16,11 +16,13 @@ fill-sheet-requires c κs =
 
 cell-requires : tie.Need-cell-requires
 cell-requires c κs =
-    let start = c .before .before .before .before in
+    let at-fill-sheet = c .before .before in
+    let start = at-fill-sheet .before .before in
     let a = start .args in
     let p = start .pre in
-    let sheet = c .before .before .fill-sheet in
-    counted-cell (patternsOf (a .set) (a .lengths) (a .count)) (a .s) (sheet .last .0) (proper (schemeIn (a .s)) (p .1 .scheme)) (sheet .ensures .0) (sheet .result) (a .n) _
+    let sheet = at-fill-sheet .fill-sheet in
+    counted-cell (patternsOf (a .set) (a .lengths) (a .count)) (a .s) (sheet .last .0)
+    (proper (schemeIn (a .s)) (p .1 .scheme)) (sheet .ensures .0) (sheet .result) (a .n) _
     (sheet .ensures .1)
     (p .0) refl refl
 
@@ -31,7 +33,8 @@ returns c =
     let a = start .args in
     let p = start .pre in
     let sheet = at-fill-sheet .fill-sheet in
-    counted-value (patternsOf (a .set) (a .lengths) (a .count)) (a .s) (sheet .last .0) (proper (schemeIn (a .s)) (p .1 .scheme)) (sheet .ensures .0) (sheet .result) (a .n) _
+    counted-value (patternsOf (a .set) (a .lengths) (a .count)) (a .s) (sheet .last .0)
+    (proper (schemeIn (a .s)) (p .1 .scheme)) (sheet .ensures .0) (sheet .result) (a .n) _
     (sheet .ensures .1)
     (p .0) refl refl (p .1) (p .2) (c .cell .result) (c .cell .ensures)
 

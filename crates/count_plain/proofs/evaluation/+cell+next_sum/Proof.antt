@@ -15,8 +15,10 @@ use Rattle.count_step.specs.Step.{LARGEST, capped}
 use Rattle.count_plan.specs.SheetSizes.{FIELDS}
 use Rattle.count_plan.specs.SheetRows.{fieldOf, gapsAt}
 use Rattle.count_plain.specs.Reading.{CellAt, Evaluates}
-use Rattle.count_plain.proofs.CellLaws.{measureOf, index-small, few, length-small, total-is, deleted-low, deleted-high, target-at, target-falls}
-use Rattle.count_plain.proofs.CellLaws.{target-evaluates, covered-value, alone-value, sum-value, length-less, child-at, child-falls, child-evaluates, SumTo}
+use Rattle.count_plain.proofs.CellLaws.{measureOf, index-small, few, length-small, total-is, deleted-low}
+use Rattle.count_plain.proofs.CellLaws.{deleted-high, target-at, target-falls}
+use Rattle.count_plain.proofs.CellLaws.{target-evaluates, covered-value, alone-value, sum-value}
+use Rattle.count_plain.proofs.CellLaws.{length-less, child-at, child-falls, child-evaluates, SumTo}
 use Rattle.count_plain.proofs.CellLaws.{sum-start, sum-more, sum-end}
 use borrow.Fn.Kinds.{In}
 use borrow.Fn.PlainCycle.{Measures, is, falls, and}
@@ -59,499 +61,9 @@ abbrev next-sum-below : ℕ → In 1 next-sum-kinds.ps
 next-sum-below t =
     and 1 next-sum-kinds.ps (falls 1 next-sum-kinds.ps _<_ μ-next-sum t) next-sum.Pre
 
-cell-field-requires : (t : ℕ) → cell-lts.Need-field-requires (
-  field-reads.Asked,
-  field-reads.Learnt,
-  is-free-at-reads.Asked,
-  is-free-at-reads.Learnt,
-  merged-spacing-reads.Asked,
-  merged-spacing-reads.Learnt,
-  cell-below t,
-  cell.Post,
-  long-reads.Asked,
-  long-reads.Learnt,
-  next-sum-below t,
-  next-sum.Post,
-) (cell-at t) cell.Post
-cell-field-requires t c κs =
-    let a = c .before .args in
-    let q = c .before .pre .1 in
-    (index-small (now (a .sheet)) (a .e) (a .g) (a .t) q, omega arith, q .of .long)
-
-cell-is-free-at-requires : (t : ℕ) → cell-lts.Need-is-free-at-requires (
-  field-reads.Asked,
-  field-reads.Learnt,
-  is-free-at-reads.Asked,
-  is-free-at-reads.Learnt,
-  merged-spacing-reads.Asked,
-  merged-spacing-reads.Learnt,
-  cell-below t,
-  cell.Post,
-  long-reads.Asked,
-  long-reads.Learnt,
-  next-sum-below t,
-  next-sum.Post,
-) (cell-at t) cell.Post
-cell-is-free-at-requires t c κs =
-    let a = c .before .before .args in
-    let q = c .before .before .pre .1 in
-    (index-small (now (a .sheet)) (a .e) (a .g) (a .t) q, omega (arith, c .field .ensures, length-small (now (a .sheet)) (a .e) (a .g) (a .t) q), q .of .long, few (now (a .sheet)) (a .e) (a .g) (a .t) q)
-
-cell-returns : (t : ℕ) → cell-lts.Need-returns (
-  field-reads.Asked,
-  field-reads.Learnt,
-  is-free-at-reads.Asked,
-  is-free-at-reads.Learnt,
-  merged-spacing-reads.Asked,
-  merged-spacing-reads.Learnt,
-  cell-below t,
-  cell.Post,
-  long-reads.Asked,
-  long-reads.Learnt,
-  next-sum-below t,
-  next-sum.Post,
-) (cell-at t) cell.Post
-cell-returns t c =
-    let a = c .before .before .before .before .args in
-    let q = c .before .before .before .before .pre .1 in
-    let f : free (gapsAt (now (a .sheet)) (a .e) (c .before .before .field .result)) (take (c .before .before .field .result + 1) (a .g)) ≡ false =
-    sym (c .before .is-free-at .ensures) ∙ not-true (c .before .is-free-at .result) (c .if1 .taken) in
-    λ o v solved. covered-value (now (a .sheet)) (a .e) (a .g) (a .t) o (c .before .before .field .result) (c .before .before .field .ensures) v solved f
-
-cell-field-requires-2 : (t : ℕ) → cell-lts.Need-field-requires-2 (
-  field-reads.Asked,
-  field-reads.Learnt,
-  is-free-at-reads.Asked,
-  is-free-at-reads.Learnt,
-  merged-spacing-reads.Asked,
-  merged-spacing-reads.Learnt,
-  cell-below t,
-  cell.Post,
-  long-reads.Asked,
-  long-reads.Learnt,
-  next-sum-below t,
-  next-sum.Post,
-) (cell-at t) cell.Post
-cell-field-requires-2 t c κs =
-    let a = c .before .before .before .before .args in
-    let q = c .before .before .before .before .pre .1 in
-    (index-small (now (a .sheet)) (a .e) (a .g) (a .t) q, omega arith, q .of .long)
-
-cell-field-requires-3 : (t : ℕ) → cell-lts.Need-field-requires-3 (
-  field-reads.Asked,
-  field-reads.Learnt,
-  is-free-at-reads.Asked,
-  is-free-at-reads.Learnt,
-  merged-spacing-reads.Asked,
-  merged-spacing-reads.Learnt,
-  cell-below t,
-  cell.Post,
-  long-reads.Asked,
-  long-reads.Learnt,
-  next-sum-below t,
-  next-sum.Post,
-) (cell-at t) cell.Post
-cell-field-requires-3 t c κs =
-    let a = c .before .before .before .before .before .before .args in
-    let q = c .before .before .before .before .before .before .pre .1 in
-    (index-small (now (a .sheet)) (a .e) (a .g) (a .t) q, omega arith, q .of .long)
-
-cell-merged-spacing-requires : (t : ℕ) → cell-lts.Need-merged-spacing-requires (
-  field-reads.Asked,
-  field-reads.Learnt,
-  is-free-at-reads.Asked,
-  is-free-at-reads.Learnt,
-  merged-spacing-reads.Asked,
-  merged-spacing-reads.Learnt,
-  cell-below t,
-  cell.Post,
-  long-reads.Asked,
-  long-reads.Learnt,
-  next-sum-below t,
-  next-sum.Post,
-) (cell-at t) cell.Post
-cell-merged-spacing-requires t c κs =
-    let a = c .before .before .before .before .before .before .before .args in
-    let q = c .before .before .before .before .before .before .before .pre .1 in (
-      omega (arith, c .before .before .before .before .before .field .ensures, length-small (now (a .sheet)) (a .e) (a .g) (a .t) q),
-      deleted-low (now (a .sheet)) (a .e) (a .g) (a .t) q (c .before .before .before .before .before .field .result) (c .before .before .before .before .before .field .ensures) (c .before .before .field2 .result) (c .before .before .field2 .ensures) (c .before .if2 .taken),
-      deleted-high (now (a .sheet)) (a .e) (a .g) (a .t) q (c .before .before .before .before .before .field .result) (c .before .before .before .before .before .field .ensures) (c .before .before .field2 .result) (c .before .before .field2 .ensures) (c .before .if2 .taken),
-      omega (arith, total-is (now (a .sheet)) (a .e) (a .g) (a .t) q (c .before .before .before .before .before .field .result) (c .before .before .before .before .before .field .ensures), q .fits),
-    )
-
-cell-cell-requires : (t : ℕ) → cell-lts.Need-cell-requires (
-  field-reads.Asked,
-  field-reads.Learnt,
-  is-free-at-reads.Asked,
-  is-free-at-reads.Learnt,
-  merged-spacing-reads.Asked,
-  merged-spacing-reads.Learnt,
-  cell-below t,
-  cell.Post,
-  long-reads.Asked,
-  long-reads.Learnt,
-  next-sum-below t,
-  next-sum.Post,
-) (cell-at t) cell.Post
-cell-cell-requires t c κs =
-    let a = c .before .before .before .before .before .before .before .before .args in
-    let q = c .before .before .before .before .before .before .before .before .pre .1 in
-    let seven : length (c .merged-spacing .result) ≡ COMPONENTS = search needs in
-    let fall = target-falls (now (a .sheet)) (a .e) (a .g) (a .t) q (c .before .before .before .before .before .before .field .result) (c .before .before .before .before .before .before .field .ensures) (c .before .before .before .field2 .result) (c .before .before .before .field2 .ensures) (c .before .before .if2 .taken) (c .merged-spacing .result) seven (c .merged-spacing .ensures) in
-    let at = target-at (now (a .sheet)) (a .e) (a .g) (a .t) q (c .before .before .before .before .before .before .field .result) (c .before .before .before .before .before .before .field .ensures) (c .before .before .before .field2 .result) (c .before .before .before .field2 .ensures) (c .before .before .if2 .taken) (c .merged-spacing .result) seven (c .merged-spacing .ensures) in
-    subst (λ (d : ℕ). (measureOf (now (a .sheet)) d (a .t) < t) × CellAt (now (a .sheet)) d (c .merged-spacing .result) (a .t)) (sym (c .before .field3 .ensures))
-    (subst (λ (m : ℕ). measureOf (now (a .sheet)) (fieldOf (now (a .sheet)) (a .e) FIELDS) (a .t) < m) (c .before .before .before .before .before .before .before .before .pre .0) fall, at)
-
-cell-returns-2 : (t : ℕ) → cell-lts.Need-returns-2 (
-  field-reads.Asked,
-  field-reads.Learnt,
-  is-free-at-reads.Asked,
-  is-free-at-reads.Learnt,
-  merged-spacing-reads.Asked,
-  merged-spacing-reads.Learnt,
-  cell-below t,
-  cell.Post,
-  long-reads.Asked,
-  long-reads.Learnt,
-  next-sum-below t,
-  next-sum.Post,
-) (cell-at t) cell.Post
-cell-returns-2 t c =
-    let a = c .before .before .before .before .before .before .before .before .before .args in
-    let q = c .before .before .before .before .before .before .before .before .before .pre .1 in
-    let seven : length (c .before .merged-spacing .result) ≡ COMPONENTS = search needs in
-    let f : free (gapsAt (now (a .sheet)) (a .e) (c .before .before .before .before .before .before .before .field .result)) (take (c .before .before .before .before .before .before .before .field .result + 1) (a .g)) ≡ true =
-    sym (c .before .before .before .before .before .before .is-free-at .ensures) ∙ not-false (c .before .before .before .before .before .before .is-free-at .result) (c .before .before .before .before .before .if1 .left) in
-    let ev : Evaluates (now (a .sheet)) (fieldOf (now (a .sheet)) (a .e) FIELDS) (c .before .merged-spacing .result) (a .t) (c .cell .result) =
-    subst (λ (d : ℕ). Evaluates (now (a .sheet)) d (c .before .merged-spacing .result) (a .t) (c .cell .result)) (c .before .before .field3 .ensures) (c .cell .ensures) in
-    λ o v solved. target-evaluates (now (a .sheet)) (a .e) (a .g) (a .t) o (c .before .before .before .before .before .before .before .field .result) (c .before .before .before .before .before .before .before .field .ensures) (c .before .before .before .before .field2 .result) (c .before .before .before .before .field2 .ensures) (c .before .before .before .if2 .taken) (c .before .merged-spacing .result) seven (c .before .merged-spacing .ensures) v solved f (c .cell .result) ev
-
-cell-field-requires-4 : (t : ℕ) → cell-lts.Need-field-requires-4 (
-  field-reads.Asked,
-  field-reads.Learnt,
-  is-free-at-reads.Asked,
-  is-free-at-reads.Learnt,
-  merged-spacing-reads.Asked,
-  merged-spacing-reads.Learnt,
-  cell-below t,
-  cell.Post,
-  long-reads.Asked,
-  long-reads.Learnt,
-  next-sum-below t,
-  next-sum.Post,
-) (cell-at t) cell.Post
-cell-field-requires-4 t c κs =
-    let a = c .before .before .before .before .before .before .before .args in
-    let q = c .before .before .before .before .before .before .before .pre .1 in
-    (index-small (now (a .sheet)) (a .e) (a .g) (a .t) q, omega arith, q .of .long)
-
-cell-long-requires : (t : ℕ) → cell-lts.Need-long-requires (
-  field-reads.Asked,
-  field-reads.Learnt,
-  is-free-at-reads.Asked,
-  is-free-at-reads.Learnt,
-  merged-spacing-reads.Asked,
-  merged-spacing-reads.Learnt,
-  cell-below t,
-  cell.Post,
-  long-reads.Asked,
-  long-reads.Learnt,
-  next-sum-below t,
-  next-sum.Post,
-) (cell-at t) cell.Post
-cell-long-requires t c κs = search needs
-
-cell-returns-3 : (t : ℕ) → cell-lts.Need-returns-3 (
-  field-reads.Asked,
-  field-reads.Learnt,
-  is-free-at-reads.Asked,
-  is-free-at-reads.Learnt,
-  merged-spacing-reads.Asked,
-  merged-spacing-reads.Learnt,
-  cell-below t,
-  cell.Post,
-  long-reads.Asked,
-  long-reads.Learnt,
-  next-sum-below t,
-  next-sum.Post,
-) (cell-at t) cell.Post
-cell-returns-3 t c =
-    let a = c .before .before .before .before .before .before .before .before .before .args in
-    let q = c .before .before .before .before .before .before .before .before .before .pre .1 in
-    let f : free (gapsAt (now (a .sheet)) (a .e) (c .before .before .before .before .before .before .before .field .result)) (take (c .before .before .before .before .before .before .before .field .result + 1) (a .g)) ≡ true =
-    sym (c .before .before .before .before .before .before .is-free-at .ensures) ∙ not-false (c .before .before .before .before .before .before .is-free-at .result) (c .before .before .before .before .before .if1 .left) in
-    λ o v solved. alone-value (now (a .sheet)) (a .e) (a .g) (a .t) o (c .before .before .before .before .before .before .before .field .result) (c .before .before .before .before .before .before .before .field .ensures) v solved (sym (c .before .before .before .before .field2 .ensures) ∙ c .before .before .before .if2 .left) f (c .long .result)
-    (c .long .ensures ∙ c .before .field4 .ensures) (c .before .before .if3 .taken)
-
-cell-next-sum-requires : (t : ℕ) → cell-lts.Need-next-sum-requires (
-  field-reads.Asked,
-  field-reads.Learnt,
-  is-free-at-reads.Asked,
-  is-free-at-reads.Learnt,
-  merged-spacing-reads.Asked,
-  merged-spacing-reads.Learnt,
-  cell-below t,
-  cell.Post,
-  long-reads.Asked,
-  long-reads.Learnt,
-  next-sum-below t,
-  next-sum.Post,
-) (cell-at t) cell.Post
-cell-next-sum-requires t c κs = search needs
-
-cell-returns-4 : (t : ℕ) → cell-lts.Need-returns-4 (
-  field-reads.Asked,
-  field-reads.Learnt,
-  is-free-at-reads.Asked,
-  is-free-at-reads.Learnt,
-  merged-spacing-reads.Asked,
-  merged-spacing-reads.Learnt,
-  cell-below t,
-  cell.Post,
-  long-reads.Asked,
-  long-reads.Learnt,
-  next-sum-below t,
-  next-sum.Post,
-) (cell-at t) cell.Post
-cell-returns-4 t c =
-    let a = c .before .before .before .before .before .before .before .before .args in
-    let q = c .before .before .before .before .before .before .before .before .pre .1 in
-    let f : free (gapsAt (now (a .sheet)) (a .e) (c .before .before .before .before .before .before .field .result)) (take (c .before .before .before .before .before .before .field .result + 1) (a .g)) ≡ true =
-    sym (c .before .before .before .before .before .is-free-at .ensures) ∙ not-false (c .before .before .before .before .before .is-free-at .result) (c .before .before .before .before .if1 .left) in
-    let z : fieldOf (now (a .sheet)) (a .e) 1 ≡ 0 = sym (c .before .before .before .field2 .ensures) ∙ c .before .before .if2 .left in
-    λ o v solved. sum-value (now (a .sheet)) (a .e) (a .g) (a .t) o (c .before .before .before .before .before .before .field .result) (c .before .before .before .before .before .before .field .ensures) v solved z f (c .next-sum .result) (c .before .if3 .left) (c .next-sum .ensures o v solved z)
-
-abbrev next-sum-Inv-loop : next-sum-lts.InvT-loop
-next-sum-Inv-loop sheet e k g t sum₀ q₀ sum q =
-    (1 ≤ q) × (q ≤ t + 1) × (sum ≤ LARGEST) × SumTo sheet e g t q sum
-
-abbrev next-sum-μ-loop : next-sum-lts.MeasureT-loop
-next-sum-μ-loop sheet e k g t sum₀ q₀ sum q = t + 1 - q
-
-next-sum-loop-holds : (t : ℕ) → next-sum-lts.Need-loop-holds (
-  held-reads.Asked,
-  held-reads.Learnt,
-  split-spacing-reads.Asked,
-  split-spacing-reads.Learnt,
-  field-reads.Asked,
-  field-reads.Learnt,
-  cell-below t,
-  cell.Post,
-  capped-sum-reads.Asked,
-  capped-sum-reads.Learnt,
-) (next-sum-at t) next-sum.Post next-sum-Inv-loop next-sum-μ-loop
-next-sum-loop-holds t c =
-    let a = c .before .args in
-    let q = c .before .pre .1 .0 in
-    let p = c .before .pre .1 in
-    (omega arith, omega arith, omega arith, sum-start (now (a .sheet)) (a .e) (a .g) (a .t))
-
-next-sum-held-requires : (t : ℕ) → next-sum-lts.Need-held-requires (
-  held-reads.Asked,
-  held-reads.Learnt,
-  split-spacing-reads.Asked,
-  split-spacing-reads.Learnt,
-  field-reads.Asked,
-  field-reads.Learnt,
-  cell-below t,
-  cell.Post,
-  capped-sum-reads.Asked,
-  capped-sum-reads.Learnt,
-) (next-sum-at t) next-sum.Post next-sum-Inv-loop next-sum-μ-loop
-next-sum-held-requires t c κs =
-    let a = c .before .before .before .args in
-    let q = c .before .before .before .pre .1 .0 in
-    let p = c .before .before .before .pre .1 in
-    let l = c .before .loop in
-    (omega (arith, p .1, length-small (now (a .sheet)) (a .e) (a .g) (a .t) q), l .inv .0, omega (arith, total-is (now (a .sheet)) (a .e) (a .g) (a .t) q (a .k) (p .1)))
-
-next-sum-split-spacing-requires : (t : ℕ) → next-sum-lts.Need-split-spacing-requires (
-  held-reads.Asked,
-  held-reads.Learnt,
-  split-spacing-reads.Asked,
-  split-spacing-reads.Learnt,
-  field-reads.Asked,
-  field-reads.Learnt,
-  cell-below t,
-  cell.Post,
-  capped-sum-reads.Asked,
-  capped-sum-reads.Learnt,
-) (next-sum-at t) next-sum.Post next-sum-Inv-loop next-sum-μ-loop
-next-sum-split-spacing-requires t c κs =
-    let a = c .before .before .before .before .args in
-    let q = c .before .before .before .before .pre .1 .0 in
-    let p = c .before .before .before .before .pre .1 in (
-      length-less (now (a .sheet)) (a .e) (a .g) (a .t) q (a .k) (p .1) (p .2) (c .before .before .loop .q) (c .held .result .index) (c .held .result .left) (c .before .before .loop .inv .0) (omega arith) (c .held .ensures),
-      c .held .ensures .reach,
-      c .held .ensures .low,
-      c .held .ensures .high,
-      omega (arith, total-is (now (a .sheet)) (a .e) (a .g) (a .t) q (a .k) (p .1), q .fits),
-    )
-
-next-sum-add-field : (t : ℕ) → next-sum-lts.Need-add-field (
-  held-reads.Asked,
-  held-reads.Learnt,
-  split-spacing-reads.Asked,
-  split-spacing-reads.Learnt,
-  field-reads.Asked,
-  field-reads.Learnt,
-  cell-below t,
-  cell.Post,
-  capped-sum-reads.Asked,
-  capped-sum-reads.Learnt,
-) (next-sum-at t) next-sum.Post next-sum-Inv-loop next-sum-μ-loop
-next-sum-add-field t c =
-    let a = c .before .before .before .before .before .before .args in
-    let q = c .before .before .before .before .before .before .pre .1 .0 in
-    let p = c .before .before .before .before .before .before .pre .1 in
-    omega (arith, c .before .before .held .ensures .reach, p .1, length-small (now (a .sheet)) (a .e) (a .g) (a .t) q)
-
-next-sum-field-requires : (t : ℕ) → next-sum-lts.Need-field-requires (
-  held-reads.Asked,
-  held-reads.Learnt,
-  split-spacing-reads.Asked,
-  split-spacing-reads.Learnt,
-  field-reads.Asked,
-  field-reads.Learnt,
-  cell-below t,
-  cell.Post,
-  capped-sum-reads.Asked,
-  capped-sum-reads.Learnt,
-) (next-sum-at t) next-sum.Post next-sum-Inv-loop next-sum-μ-loop
-next-sum-field-requires t c κs =
-    let a = c .before .before .before .before .before .before .args in
-    let q = c .before .before .before .before .before .before .pre .1 .0 in
-    let p = c .before .before .before .before .before .before .pre .1 in
-    (index-small (now (a .sheet)) (a .e) (a .g) (a .t) q, omega (arith, c .before .before .held .ensures .reach, p .1, length-small (now (a .sheet)) (a .e) (a .g) (a .t) q), q .of .long)
-
-next-sum-sub-cell : (t : ℕ) → next-sum-lts.Need-sub-cell (
-  held-reads.Asked,
-  held-reads.Learnt,
-  split-spacing-reads.Asked,
-  split-spacing-reads.Learnt,
-  field-reads.Asked,
-  field-reads.Learnt,
-  cell-below t,
-  cell.Post,
-  capped-sum-reads.Asked,
-  capped-sum-reads.Learnt,
-) (next-sum-at t) next-sum.Post next-sum-Inv-loop next-sum-μ-loop
-next-sum-sub-cell t c = search needs
-
-next-sum-cell-requires : (t : ℕ) → next-sum-lts.Need-cell-requires (
-  held-reads.Asked,
-  held-reads.Learnt,
-  split-spacing-reads.Asked,
-  split-spacing-reads.Learnt,
-  field-reads.Asked,
-  field-reads.Learnt,
-  cell-below t,
-  cell.Post,
-  capped-sum-reads.Asked,
-  capped-sum-reads.Learnt,
-) (next-sum-at t) next-sum.Post next-sum-Inv-loop next-sum-μ-loop
-next-sum-cell-requires t c κs =
-    let a = c .before .before .before .before .before .before .before .args in
-    let q = c .before .before .before .before .before .before .before .pre .1 .0 in
-    let p = c .before .before .before .before .before .before .before .pre .1 in
-    let seven : length (c .before .before .split-spacing .result) ≡ COMPONENTS = search needs in
-    let fall = child-falls (now (a .sheet)) (a .e) (a .g) (a .t) q (a .k) (p .1) (p .2) (c .before .before .before .before .before .loop .q) (c .before .before .before .held .result .index) (c .before .before .before .held .result .left) (c .before .before .before .before .before .loop .inv .0) (omega arith) (c .before .before .before .held .ensures) (c .before .before .split-spacing .result) seven (c .before .before .split-spacing .ensures) in
-    let at = child-at (now (a .sheet)) (a .e) (a .g) (a .t) q (a .k) (p .1) (p .2) (c .before .before .before .before .before .loop .q) (c .before .before .before .held .result .index) (c .before .before .before .held .result .left) (c .before .before .before .before .before .loop .inv .0) (omega arith) (c .before .before .before .held .ensures) (c .before .before .split-spacing .result) seven (c .before .before .split-spacing .ensures) in
-    subst (λ (d : ℕ). (measureOf (now (a .sheet)) d (a .t - 1) < t) × CellAt (now (a .sheet)) d (c .before .before .split-spacing .result) (a .t - 1)) (sym (c .field .ensures))
-    (subst (λ (m : ℕ). measureOf (now (a .sheet)) (fieldOf (now (a .sheet)) (a .e) (FIELDS + c .before .before .before .held .result .index)) (a .t - 1) < m) (c .before .before .before .before .before .before .before .pre .0) fall, at)
-
-next-sum-capped-sum-requires : (t : ℕ) → next-sum-lts.Need-capped-sum-requires (
-  held-reads.Asked,
-  held-reads.Learnt,
-  split-spacing-reads.Asked,
-  split-spacing-reads.Learnt,
-  field-reads.Asked,
-  field-reads.Learnt,
-  cell-below t,
-  cell.Post,
-  capped-sum-reads.Asked,
-  capped-sum-reads.Learnt,
-) (next-sum-at t) next-sum.Post next-sum-Inv-loop next-sum-μ-loop
-next-sum-capped-sum-requires t c κs = search needs
-
-next-sum-add-q : (t : ℕ) → next-sum-lts.Need-add-q (
-  held-reads.Asked,
-  held-reads.Learnt,
-  split-spacing-reads.Asked,
-  split-spacing-reads.Learnt,
-  field-reads.Asked,
-  field-reads.Learnt,
-  cell-below t,
-  cell.Post,
-  capped-sum-reads.Asked,
-  capped-sum-reads.Learnt,
-) (next-sum-at t) next-sum.Post next-sum-Inv-loop next-sum-μ-loop
-next-sum-add-q t c = search needs
-
-next-sum-loop-less : (t : ℕ) → next-sum-lts.Need-loop-less (
-  held-reads.Asked,
-  held-reads.Learnt,
-  split-spacing-reads.Asked,
-  split-spacing-reads.Learnt,
-  field-reads.Asked,
-  field-reads.Learnt,
-  cell-below t,
-  cell.Post,
-  capped-sum-reads.Asked,
-  capped-sum-reads.Learnt,
-) (next-sum-at t) next-sum.Post next-sum-Inv-loop next-sum-μ-loop
-next-sum-loop-less t c = search needs
-
-next-sum-loop-again : (t : ℕ) → next-sum-lts.Need-loop-again (
-  held-reads.Asked,
-  held-reads.Learnt,
-  split-spacing-reads.Asked,
-  split-spacing-reads.Learnt,
-  field-reads.Asked,
-  field-reads.Learnt,
-  cell-below t,
-  cell.Post,
-  capped-sum-reads.Asked,
-  capped-sum-reads.Learnt,
-) (next-sum-at t) next-sum.Post next-sum-Inv-loop next-sum-μ-loop
-next-sum-loop-again t c =
-    let a = c .before .before .before .before .before .before .before .before .before .args in
-    let q = c .before .before .before .before .before .before .before .before .before .pre .1 .0 in
-    let p = c .before .before .before .before .before .before .before .before .before .pre .1 in
-    let l = c .before .before .before .before .before .before .before .loop in
-    let seven : length (c .before .before .before .before .split-spacing .result) ≡ COMPONENTS = search needs in
-    let ev : Evaluates (now (a .sheet)) (fieldOf (now (a .sheet)) (a .e) (FIELDS + c .before .before .before .before .before .held .result .index)) (c .before .before .before .before .split-spacing .result) (a .t - 1) (c .before .cell .result) =
-    subst (λ (d : ℕ). Evaluates (now (a .sheet)) d (c .before .before .before .before .split-spacing .result) (a .t - 1) (c .before .cell .result)) (c .before .before .field .ensures) (c .before .cell .ensures) in
-    let low : l .q ≤ a .t = omega arith in (
-      omega arith,
-      omega arith,
-      cap-high (c .capped-sum .result) (l .sum + c .before .cell .result) (c .capped-sum .ensures),
-      sum-more (now (a .sheet)) (a .e) (a .g) (a .t) (l .q) (l .sum) (c .capped-sum .result) (c .before .cell .result) low (l .inv .3) (c .capped-sum .ensures)
-          (λ o v solved z. child-evaluates (now (a .sheet)) (a .e) (a .g) (a .t) o (a .k) (p .1) z (l .q) (c .before .before .before .before .before .held .result .index) (c .before .before .before .before .before .held .result .left) (l .inv .0) low (c .before .before .before .before .before .held .ensures)
-          (c .before .before .before .before .split-spacing .result) seven (c .before .before .before .before .split-spacing .ensures) v solved (c .before .cell .result) ev),
-    )
-
-next-sum-returns : (t : ℕ) → next-sum-lts.Need-returns (
-  held-reads.Asked,
-  held-reads.Learnt,
-  split-spacing-reads.Asked,
-  split-spacing-reads.Learnt,
-  field-reads.Asked,
-  field-reads.Learnt,
-  cell-below t,
-  cell.Post,
-  capped-sum-reads.Asked,
-  capped-sum-reads.Learnt,
-) (next-sum-at t) next-sum.Post next-sum-Inv-loop next-sum-μ-loop
-next-sum-returns t c =
-    let a = c .before .before .before .args in
-    let q = c .before .before .before .pre .1 .0 in
-    let p = c .before .before .before .pre .1 in
-    let l = c .before .loop in
-    sum-end (now (a .sheet)) (a .e) (a .g) (a .t) (l .q) (l .sum) (omega arith) (l .inv .2) (l .inv .3)
-
-pub +cell+next-sum-spec : {M : Type 1} → statement M
-+cell+next-sum-spec = close μ-cell μ-next-sum (λ t. cell-lts.spec (
+-- what the functions that are called ask and grant
+abbrev cell-called : ℕ → cell-lts.Claims
+cell-called t = (
   field-reads.Asked,
   field-reads.Learnt,
   is-free-at-reads.Asked,
@@ -565,6 +77,309 @@ pub +cell+next-sum-spec : {M : Type 1} → statement M
   next-sum-below t,
   next-sum.Post,
 )
+
+cell-field-requires : (t : ℕ) → cell-lts.Need-field-requires (cell-called t) (cell-at t) cell.Post
+cell-field-requires t c κs =
+    let a = c .before .args in
+    let q = c .before .pre .1 in
+    (index-small (now (a .sheet)) (a .e) (a .g) (a .t) q, omega arith, q .of .long)
+
+cell-is-free-at-requires : (t : ℕ) → cell-lts.Need-is-free-at-requires (cell-called t) (cell-at t) cell.Post
+cell-is-free-at-requires t c κs =
+    let a = c .before .before .args in
+    let q = c .before .before .pre .1 in (
+      index-small (now (a .sheet)) (a .e) (a .g) (a .t) q,
+      omega (arith, c .field .ensures, length-small (now (a .sheet)) (a .e) (a .g) (a .t) q),
+      q .of .long,
+      few (now (a .sheet)) (a .e) (a .g) (a .t) q,
+    )
+
+cell-returns : (t : ℕ) → cell-lts.Need-returns (cell-called t) (cell-at t) cell.Post
+cell-returns t c =
+    let at-is-free-at = c .before in
+    let at-field = at-is-free-at .before in
+    let start = at-field .before .before in
+    let a = start .args in
+    let q = start .pre .1 in
+    let f : free (gapsAt (now (a .sheet)) (a .e) (at-field .field .result)) (take (at-field .field .result + 1) (a .g)) ≡ false =
+    sym (at-is-free-at .is-free-at .ensures) ∙ not-true (at-is-free-at .is-free-at .result) (c .if1 .taken) in
+    λ o v solved. covered-value (now (a .sheet)) (a .e) (a .g) (a .t) o (at-field .field .result) (at-field .field .ensures) v solved f
+
+cell-field-requires-2 : (t : ℕ) → cell-lts.Need-field-requires-2 (cell-called t) (cell-at t) cell.Post
+cell-field-requires-2 t c κs =
+    let start = c .before .before .before .before in
+    let a = start .args in
+    let q = start .pre .1 in
+    (index-small (now (a .sheet)) (a .e) (a .g) (a .t) q, omega arith, q .of .long)
+
+cell-field-requires-3 : (t : ℕ) → cell-lts.Need-field-requires-3 (cell-called t) (cell-at t) cell.Post
+cell-field-requires-3 t c κs =
+    let start = c .before .before .before .before .before .before in
+    let a = start .args in
+    let q = start .pre .1 in
+    (index-small (now (a .sheet)) (a .e) (a .g) (a .t) q, omega arith, q .of .long)
+
+cell-merged-spacing-requires : (t : ℕ) → cell-lts.Need-merged-spacing-requires (cell-called t) (cell-at t) cell.Post
+cell-merged-spacing-requires t c κs =
+    let at-if2 = c .before in
+    let at-field2 = at-if2 .before in
+    let at-field = at-field2 .before .before .before in
+    let start = at-field .before .before in
+    let a = start .args in
+    let q = start .pre .1 in (
+      omega (arith, at-field .field .ensures, length-small (now (a .sheet)) (a .e) (a .g) (a .t) q),
+      deleted-low (now (a .sheet)) (a .e) (a .g) (a .t) q (at-field .field .result) (at-field .field .ensures)
+          (at-field2 .field2 .result) (at-field2 .field2 .ensures) (at-if2 .if2 .taken),
+      deleted-high (now (a .sheet)) (a .e) (a .g) (a .t) q (at-field .field .result) (at-field .field .ensures)
+          (at-field2 .field2 .result) (at-field2 .field2 .ensures) (at-if2 .if2 .taken),
+      omega (arith, total-is (now (a .sheet)) (a .e) (a .g) (a .t) q (at-field .field .result) (at-field .field .ensures), q .fits),
+    )
+
+-- the array of the merged spacing has all its places
+merged-places : (t : ℕ) (o : cell-lts.After-merged-spacing (cell-called t) (cell-at t) cell.Post) →
+    length (o .merged-spacing .result) ≡ COMPONENTS
+merged-places t o = (let k = o .merged-spacing .ok in search needs)
+
+cell-cell-requires : (t : ℕ) → cell-lts.Need-cell-requires (cell-called t) (cell-at t) cell.Post
+cell-cell-requires t c κs =
+    let at-if2 = c .before .before in
+    let at-field2 = at-if2 .before in
+    let at-field = at-field2 .before .before .before in
+    let start = at-field .before .before in
+    let a = start .args in
+    let q = start .pre .1 in
+    let seven = merged-places t c in
+    let fall = target-falls (now (a .sheet)) (a .e) (a .g) (a .t) q (at-field .field .result)
+    (at-field .field .ensures) (at-field2 .field2 .result) (at-field2 .field2 .ensures) (at-if2 .if2 .taken)
+    (c .merged-spacing .result) seven (c .merged-spacing .ensures) in
+    let at = target-at (now (a .sheet)) (a .e) (a .g) (a .t) q (at-field .field .result) (at-field .field .ensures)
+    (at-field2 .field2 .result) (at-field2 .field2 .ensures) (at-if2 .if2 .taken) (c .merged-spacing .result)
+    seven (c .merged-spacing .ensures) in
+    subst (λ (d : ℕ). (measureOf (now (a .sheet)) d (a .t) < t) ×
+    CellAt (now (a .sheet)) d (c .merged-spacing .result) (a .t)) (sym (c .before .field3 .ensures))
+    (subst (λ (m : ℕ). measureOf (now (a .sheet)) (fieldOf (now (a .sheet)) (a .e) FIELDS) (a .t) < m) (start .pre .0) fall, at)
+
+cell-returns-2 : (t : ℕ) → cell-lts.Need-returns-2 (cell-called t) (cell-at t) cell.Post
+cell-returns-2 t c =
+    let at-merged-spacing = c .before in
+    let at-field3 = at-merged-spacing .before in
+    let at-if2 = at-field3 .before in
+    let at-field2 = at-if2 .before in
+    let at-if1 = at-field2 .before in
+    let at-is-free-at = at-if1 .before in
+    let at-field = at-is-free-at .before in
+    let start = at-field .before .before in
+    let a = start .args in
+    let q = start .pre .1 in
+    let seven = merged-places t at-merged-spacing in
+    let f : free (gapsAt (now (a .sheet)) (a .e) (at-field .field .result)) (take (at-field .field .result + 1) (a .g)) ≡ true =
+    sym (at-is-free-at .is-free-at .ensures) ∙ not-false (at-is-free-at .is-free-at .result) (at-if1 .if1 .left) in
+    let ev : Evaluates (now (a .sheet)) (fieldOf (now (a .sheet)) (a .e) FIELDS)
+    (at-merged-spacing .merged-spacing .result) (a .t) (c .cell .result) =
+    subst (λ (d : ℕ). Evaluates (now (a .sheet)) d (at-merged-spacing .merged-spacing .result) (a .t)
+    (c .cell .result)) (at-field3 .field3 .ensures) (c .cell .ensures) in
+    λ o v solved. target-evaluates (now (a .sheet)) (a .e) (a .g) (a .t) o (at-field .field .result)
+    (at-field .field .ensures) (at-field2 .field2 .result) (at-field2 .field2 .ensures) (at-if2 .if2 .taken)
+    (at-merged-spacing .merged-spacing .result) seven (at-merged-spacing .merged-spacing .ensures) v solved f
+    (c .cell .result) ev
+
+cell-field-requires-4 : (t : ℕ) → cell-lts.Need-field-requires-4 (cell-called t) (cell-at t) cell.Post
+cell-field-requires-4 t c κs =
+    let start = c .before .before .before .before .before .before .before in
+    let a = start .args in
+    let q = start .pre .1 in
+    (index-small (now (a .sheet)) (a .e) (a .g) (a .t) q, omega arith, q .of .long)
+
+cell-returns-3 : (t : ℕ) → cell-lts.Need-returns-3 (cell-called t) (cell-at t) cell.Post
+cell-returns-3 t c =
+    let at-if3 = c .before .before in
+    let at-if2 = at-if3 .before in
+    let at-field2 = at-if2 .before in
+    let at-if1 = at-field2 .before in
+    let at-is-free-at = at-if1 .before in
+    let at-field = at-is-free-at .before in
+    let start = at-field .before .before in
+    let a = start .args in
+    let q = start .pre .1 in
+    let f : free (gapsAt (now (a .sheet)) (a .e) (at-field .field .result)) (take (at-field .field .result + 1) (a .g)) ≡ true =
+    sym (at-is-free-at .is-free-at .ensures) ∙ not-false (at-is-free-at .is-free-at .result) (at-if1 .if1 .left) in
+    λ o v solved. alone-value (now (a .sheet)) (a .e) (a .g) (a .t) o (at-field .field .result)
+    (at-field .field .ensures) v solved (sym (at-field2 .field2 .ensures) ∙ at-if2 .if2 .left) f
+    (c .long .result)
+    (c .long .ensures ∙ c .before .field4 .ensures) (at-if3 .if3 .taken)
+
+cell-returns-4 : (t : ℕ) → cell-lts.Need-returns-4 (cell-called t) (cell-at t) cell.Post
+cell-returns-4 t c =
+    let at-if2 = c .before .before in
+    let at-field2 = at-if2 .before in
+    let at-if1 = at-field2 .before in
+    let at-is-free-at = at-if1 .before in
+    let at-field = at-is-free-at .before in
+    let start = at-field .before .before in
+    let a = start .args in
+    let q = start .pre .1 in
+    let f : free (gapsAt (now (a .sheet)) (a .e) (at-field .field .result)) (take (at-field .field .result + 1) (a .g)) ≡ true =
+    sym (at-is-free-at .is-free-at .ensures) ∙ not-false (at-is-free-at .is-free-at .result) (at-if1 .if1 .left) in
+    let z : fieldOf (now (a .sheet)) (a .e) 1 ≡ 0 = sym (at-field2 .field2 .ensures) ∙ at-if2 .if2 .left in
+    λ o v solved. sum-value (now (a .sheet)) (a .e) (a .g) (a .t) o (at-field .field .result)
+    (at-field .field .ensures) v solved z f (c .next-sum .result) (c .before .if3 .left)
+    (c .next-sum .ensures o v solved z)
+
+abbrev next-sum-Inv-loop : next-sum-lts.InvT-loop
+next-sum-Inv-loop sheet e k g t sum₀ q₀ sum q =
+    (1 ≤ q) × (q ≤ t + 1) × (sum ≤ LARGEST) × SumTo sheet e g t q sum
+
+abbrev next-sum-μ-loop : next-sum-lts.MeasureT-loop
+next-sum-μ-loop sheet e k g t sum₀ q₀ sum q = t + 1 - q
+
+-- what the functions that are called ask and grant
+abbrev next-sum-called : ℕ → next-sum-lts.Claims
+next-sum-called t = (
+  held-reads.Asked,
+  held-reads.Learnt,
+  split-spacing-reads.Asked,
+  split-spacing-reads.Learnt,
+  field-reads.Asked,
+  field-reads.Learnt,
+  cell-below t,
+  cell.Post,
+  capped-sum-reads.Asked,
+  capped-sum-reads.Learnt,
+)
+
+next-sum-loop-holds : (t : ℕ) → next-sum-lts.Need-loop-holds (next-sum-called t) (next-sum-at t) next-sum.Post
+    next-sum-Inv-loop next-sum-μ-loop
+next-sum-loop-holds t c =
+    let a = c .before .args in
+    let q = c .before .pre .1 .0 in
+    let p = c .before .pre .1 in
+    (omega arith, omega arith, omega arith, sum-start (now (a .sheet)) (a .e) (a .g) (a .t))
+
+next-sum-held-requires : (t : ℕ) → next-sum-lts.Need-held-requires (next-sum-called t) (next-sum-at t) next-sum.Post
+    next-sum-Inv-loop next-sum-μ-loop
+next-sum-held-requires t c κs =
+    let start = c .before .before .before in
+    let a = start .args in
+    let q = start .pre .1 .0 in
+    let p = start .pre .1 in
+    let l = c .before .loop in (
+      omega (arith, p .1, length-small (now (a .sheet)) (a .e) (a .g) (a .t) q),
+      l .inv .0,
+      omega (arith, total-is (now (a .sheet)) (a .e) (a .g) (a .t) q (a .k) (p .1)),
+    )
+
+next-sum-split-spacing-requires : (t : ℕ) →
+    next-sum-lts.Need-split-spacing-requires (next-sum-called t) (next-sum-at t) next-sum.Post next-sum-Inv-loop
+    next-sum-μ-loop
+next-sum-split-spacing-requires t c κs =
+    let at-loop = c .before .before in
+    let start = at-loop .before .before in
+    let a = start .args in
+    let q = start .pre .1 .0 in
+    let p = start .pre .1 in (
+      length-less (now (a .sheet)) (a .e) (a .g) (a .t) q (a .k) (p .1) (p .2) (at-loop .loop .q)
+          (c .held .result .index) (c .held .result .left) (at-loop .loop .inv .0) (omega arith) (c .held .ensures),
+      c .held .ensures .reach,
+      c .held .ensures .low,
+      c .held .ensures .high,
+      omega (arith, total-is (now (a .sheet)) (a .e) (a .g) (a .t) q (a .k) (p .1), q .fits),
+    )
+
+next-sum-add-field : (t : ℕ) → next-sum-lts.Need-add-field (next-sum-called t) (next-sum-at t) next-sum.Post
+    next-sum-Inv-loop next-sum-μ-loop
+next-sum-add-field t c =
+    let at-held = c .before .before in
+    let start = at-held .before .before .before .before in
+    let a = start .args in
+    let q = start .pre .1 .0 in
+    let p = start .pre .1 in
+    omega (arith, at-held .held .ensures .reach, p .1, length-small (now (a .sheet)) (a .e) (a .g) (a .t) q)
+
+next-sum-field-requires : (t : ℕ) → next-sum-lts.Need-field-requires (next-sum-called t) (next-sum-at t)
+    next-sum.Post next-sum-Inv-loop next-sum-μ-loop
+next-sum-field-requires t c κs =
+    let at-held = c .before .before in
+    let start = at-held .before .before .before .before in
+    let a = start .args in
+    let q = start .pre .1 .0 in
+    let p = start .pre .1 in (
+      index-small (now (a .sheet)) (a .e) (a .g) (a .t) q,
+      omega (arith, at-held .held .ensures .reach, p .1, length-small (now (a .sheet)) (a .e) (a .g) (a .t) q),
+      q .of .long,
+    )
+
+-- the array of the split spacing has all its places
+split-places : (t : ℕ)
+    (o : next-sum-lts.After-split-spacing (next-sum-called t) (next-sum-at t) next-sum.Post next-sum-Inv-loop next-sum-μ-loop) →
+    length (o .split-spacing .result) ≡ COMPONENTS
+split-places t o = (let k = o .split-spacing .ok in search needs)
+
+next-sum-cell-requires : (t : ℕ) → next-sum-lts.Need-cell-requires (next-sum-called t) (next-sum-at t) next-sum.Post
+    next-sum-Inv-loop next-sum-μ-loop
+next-sum-cell-requires t c κs =
+    let at-split-spacing = c .before .before in
+    let at-held = at-split-spacing .before in
+    let at-loop = at-held .before .before in
+    let start = at-loop .before .before in
+    let a = start .args in
+    let q = start .pre .1 .0 in
+    let p = start .pre .1 in
+    let seven = split-places t at-split-spacing in
+    let fall = child-falls (now (a .sheet)) (a .e) (a .g) (a .t) q (a .k) (p .1) (p .2) (at-loop .loop .q)
+    (at-held .held .result .index) (at-held .held .result .left) (at-loop .loop .inv .0) (omega arith)
+    (at-held .held .ensures) (at-split-spacing .split-spacing .result) seven
+    (at-split-spacing .split-spacing .ensures) in
+    let at = child-at (now (a .sheet)) (a .e) (a .g) (a .t) q (a .k) (p .1) (p .2) (at-loop .loop .q)
+    (at-held .held .result .index) (at-held .held .result .left) (at-loop .loop .inv .0) (omega arith)
+    (at-held .held .ensures) (at-split-spacing .split-spacing .result) seven
+    (at-split-spacing .split-spacing .ensures) in
+    subst (λ (d : ℕ). (measureOf (now (a .sheet)) d (a .t - 1) < t) ×
+    CellAt (now (a .sheet)) d (at-split-spacing .split-spacing .result) (a .t - 1)) (sym (c .field .ensures)) (
+      subst (λ (m : ℕ). measureOf (now (a .sheet)) (fieldOf (now (a .sheet)) (a .e)
+          (FIELDS + at-held .held .result .index)) (a .t - 1) < m) (start .pre .0) fall,
+      at,
+    )
+
+next-sum-loop-again : (t : ℕ) → next-sum-lts.Need-loop-again (next-sum-called t) (next-sum-at t) next-sum.Post
+    next-sum-Inv-loop next-sum-μ-loop
+next-sum-loop-again t c =
+    let at-cell = c .before in
+    let at-field = at-cell .before in
+    let at-split-spacing = at-field .before .before in
+    let at-held = at-split-spacing .before in
+    let at-loop = at-held .before .before in
+    let start = at-loop .before .before in
+    let a = start .args in
+    let q = start .pre .1 .0 in
+    let p = start .pre .1 in
+    let l = at-loop .loop in
+    let seven = split-places t at-split-spacing in
+    let ev : Evaluates (now (a .sheet)) (fieldOf (now (a .sheet)) (a .e) (FIELDS + at-held .held .result .index))
+    (at-split-spacing .split-spacing .result) (a .t - 1) (at-cell .cell .result) =
+    subst (λ (d : ℕ). Evaluates (now (a .sheet)) d (at-split-spacing .split-spacing .result) (a .t - 1)
+    (at-cell .cell .result)) (at-field .field .ensures) (at-cell .cell .ensures) in
+    let low : l .q ≤ a .t = omega arith in (
+      omega arith,
+      omega arith,
+      cap-high (c .capped-sum .result) (l .sum + at-cell .cell .result) (c .capped-sum .ensures),
+      sum-more (now (a .sheet)) (a .e) (a .g) (a .t) (l .q) (l .sum) (c .capped-sum .result) (at-cell .cell .result)
+          low (l .inv .3) (c .capped-sum .ensures)
+          (λ o v solved z. child-evaluates (now (a .sheet)) (a .e) (a .g) (a .t) o (a .k) (p .1) z (l .q)
+          (at-held .held .result .index) (at-held .held .result .left) (l .inv .0) low (at-held .held .ensures)
+          (at-split-spacing .split-spacing .result) seven (at-split-spacing .split-spacing .ensures) v solved (at-cell .cell .result) ev),
+    )
+
+next-sum-returns : (t : ℕ) → next-sum-lts.Need-returns (next-sum-called t) (next-sum-at t) next-sum.Post next-sum-Inv-loop next-sum-μ-loop
+next-sum-returns t c =
+    let start = c .before .before .before in
+    let a = start .args in
+    let q = start .pre .1 .0 in
+    let p = start .pre .1 in
+    let l = c .before .loop in
+    sum-end (now (a .sheet)) (a .e) (a .g) (a .t) (l .q) (l .sum) (omega arith) (l .inv .2) (l .inv .3)
+
+pub +cell+next-sum-spec : {M : Type 1} → statement M
++cell+next-sum-spec = close μ-cell μ-next-sum (λ t. cell-lts.spec (cell-called t)
     (cell-at t)
     cell.Post
     (cell-field-requires t)
@@ -576,22 +391,11 @@ pub +cell+next-sum-spec : {M : Type 1} → statement M
     (cell-cell-requires t)
     (cell-returns-2 t)
     (cell-field-requires-4 t)
-    (cell-long-requires t)
+    (λ c κs. search needs)
     (cell-returns-3 t)
-    (cell-next-sum-requires t)
+    (λ c κs. search needs)
     (cell-returns-4 t))
-    λ t. next-sum-lts.spec (
-      held-reads.Asked,
-      held-reads.Learnt,
-      split-spacing-reads.Asked,
-      split-spacing-reads.Learnt,
-      field-reads.Asked,
-      field-reads.Learnt,
-      cell-below t,
-      cell.Post,
-      capped-sum-reads.Asked,
-      capped-sum-reads.Learnt,
-    )
+    λ t. next-sum-lts.spec (next-sum-called t)
     (next-sum-at t)
     next-sum.Post
     next-sum-Inv-loop
@@ -601,10 +405,10 @@ pub +cell+next-sum-spec : {M : Type 1} → statement M
     (next-sum-split-spacing-requires t)
     (next-sum-add-field t)
     (next-sum-field-requires t)
-    (next-sum-sub-cell t)
+    (λ c. search needs)
     (next-sum-cell-requires t)
-    (next-sum-capped-sum-requires t)
-    (next-sum-add-q t)
-    (next-sum-loop-less t)
+    (λ c κs. search needs)
+    (λ c. search needs)
+    (λ c. search needs)
     (next-sum-loop-again t)
     (next-sum-returns t)

@@ -22,20 +22,27 @@ merged-piece-requires : tie.Need-merged-piece-requires Inv-loop μ-loop
 merged-piece-requires c κs =
     let a = c .before .before .args in
     let l = c .before .loop in
-    let seven : length (a .g) ≡ COMPONENTS = (let o = c .before .before in search needs) in
-    (omega arith, omega arith, c .before .before .pre .1, omega (arith, two-small (a .g) (a .k) (omega arith) (l .j) (omega arith), c .before .before .pre .3))
+    let seven : length (a .g) ≡ COMPONENTS = (let o = c .before .before in search needs) in (
+      omega arith,
+      omega arith,
+      c .before .before .pre .1,
+      omega (arith, two-small (a .g) (a .k) (omega arith) (l .j) (omega arith), c .before .before .pre .3),
+    )
 
 loop-again : tie.Need-loop-again Inv-loop μ-loop
 loop-again c =
-    let a = c .before .before .before .args in
-    let l = c .before .before .loop in
-    let seven : length (a .g) ≡ COMPONENTS = (let o = c .before .before .before in search needs) in
+    let at-loop = c .before .before in
+    let start = at-loop .before in
+    let a = start .args in
+    let l = at-loop .loop in
+    let seven : length (a .g) ≡ COMPONENTS = (let o = start in search needs) in
     let size = length-take-le (a .k + 1) (a .g) (omega arith) in (
       omega arith,
       length-set (l .r) (l .j) (c .merged-piece .result) ∙ l .inv .1,
       more (l .r) (mergeAt (take (a .k + 1) (a .g)) (a .v)) (l .j) (c .merged-piece .result) (omega (arith, l .inv .1))
-          (omega (arith, merge-length (take (a .k + 1) (a .g)) (a .v) (c .before .before .before .pre .1) (omega arith)))
-          (c .merged-piece .ensures ∙ merge-take (a .g) (a .k) (omega arith) (a .v) (l .j) (c .before .before .before .pre .1) (c .before .before .before .pre .2) (omega arith)) (l .inv .2),
+          (omega (arith, merge-length (take (a .k + 1) (a .g)) (a .v) (start .pre .1) (omega arith)))
+          (c .merged-piece .ensures ∙ merge-take (a .g) (a .k) (omega arith) (a .v) (l .j) (start .pre .1)
+          (start .pre .2) (omega arith)) (l .inv .2),
     )
 
 returns : tie.Need-returns Inv-loop μ-loop

@@ -22,23 +22,29 @@ narrow-requires c κs = omega (arith, c .before .before .pre .3, c .before .befo
 
 returns-2 : tie.Need-returns-2
 returns-2 c =
-    let a = c .before .before .before .args in
-    let seven : length (a .t1) ≡ COMPONENTS = (let o = c .before .before .before in search needs) in
+    let start = c .before .before .before in
+    let a = start .args in
+    let seven : length (a .t1) ≡ COMPONENTS = (let o = start in search needs) in
     c .narrow .ensures ∙ sym (split-low (a .t1) (a .i) (a .left) (omega arith) (a .j) (c .before .if2 .taken))
 
 narrow-requires-2 : tie.Need-narrow-requires-2
-narrow-requires-2 c κs = omega (arith, c .before .before .before .pre .3, c .before .before .before .pre .4)
+narrow-requires-2 c κs =
+    let start = c .before .before .before in
+    omega (arith, start .pre .3, start .pre .4)
 
 returns-3 : tie.Need-returns-3
 returns-3 c =
-    let a = c .before .before .before .before .args in
-    let seven : length (a .t1) ≡ COMPONENTS = (let o = c .before .before .before .before in search needs) in
-    ap (λ n. getD (a .t1) (a .i) 0 - n) (c .narrow2 .ensures) ∙ sym (split-high (a .t1) (a .i) (a .left) (omega arith) (a .j) (c .before .if3 .taken ∙ add-one (a .i)))
+    let start = c .before .before .before .before in
+    let a = start .args in
+    let seven : length (a .t1) ≡ COMPONENTS = (let o = start in search needs) in
+    ap (λ n. getD (a .t1) (a .i) 0 - n) (c .narrow2 .ensures) ∙
+    sym (split-high (a .t1) (a .i) (a .left) (omega arith) (a .j) (c .before .if3 .taken ∙ add-one (a .i)))
 
 returns-4 : tie.Need-returns-4
 returns-4 c =
-    let a = c .before .before .before .args in
-    let seven : length (a .t1) ≡ COMPONENTS = (let o = c .before .before .before in search needs) in
+    let start = c .before .before .before in
+    let a = start .args in
+    let seven : length (a .t1) ≡ COMPONENTS = (let o = start in search needs) in
     sym (split-after (a .t1) (a .i) (a .left) (omega arith) (a .j) (omega arith))
 
 pub split-piece-spec : {M : Type 1} → statement M

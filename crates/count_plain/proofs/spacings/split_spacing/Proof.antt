@@ -23,20 +23,28 @@ split-piece-requires : tie.Need-split-piece-requires Inv-loop μ-loop
 split-piece-requires c κs =
     let a = c .before .before .args in
     let l = c .before .loop in
-    let q = getD-take (a .k + 1) (a .g) (a .i) 0 (omega arith) in
-    (omega arith, omega arith, c .before .before .pre .2, omega (arith, c .before .before .pre .3), omega (arith, part-small (take (a .k + 1) (a .g)) (a .i), c .before .before .pre .4))
+    let q = getD-take (a .k + 1) (a .g) (a .i) 0 (omega arith) in (
+      omega arith,
+      omega arith,
+      c .before .before .pre .2,
+      omega (arith, c .before .before .pre .3),
+      omega (arith, part-small (take (a .k + 1) (a .g)) (a .i), c .before .before .pre .4),
+    )
 
 loop-again : tie.Need-loop-again Inv-loop μ-loop
 loop-again c =
-    let a = c .before .before .before .args in
-    let l = c .before .before .loop in
-    let seven : length (a .g) ≡ COMPONENTS = (let o = c .before .before .before in search needs) in
+    let at-loop = c .before .before in
+    let start = at-loop .before in
+    let a = start .args in
+    let l = at-loop .loop in
+    let seven : length (a .g) ≡ COMPONENTS = (let o = start in search needs) in
     let size = length-take-le (a .k + 1) (a .g) (omega arith) in (
       omega arith,
       length-set (l .r) (l .j) (c .split-piece .result) ∙ l .inv .1,
       more (l .r) (splitAt (take (a .k + 1) (a .g)) (a .i) (a .left)) (l .j) (c .split-piece .result) (omega (arith, l .inv .1))
           (omega (arith, split-length (take (a .k + 1) (a .g)) (a .i) (a .left) (omega arith)))
-          (c .split-piece .ensures ∙ split-take (a .g) (a .k) (omega arith) (a .i) (a .left) (l .j) (c .before .before .before .pre .1) (omega arith)) (l .inv .2),
+          (c .split-piece .ensures ∙ split-take (a .g) (a .k) (omega arith) (a .i) (a .left) (l .j) (start .pre .1)
+          (omega arith)) (l .inv .2),
     )
 
 returns : tie.Need-returns Inv-loop μ-loop

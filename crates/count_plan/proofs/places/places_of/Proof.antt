@@ -30,8 +30,9 @@ element-copy-out-e c =
 
 choose-requires : tie.Need-choose-requires Inv-loop μ-loop
 choose-requires c κs =
-    let o = c .before .before .before .before in
-    (o .pre .1, omega (arith, entry-short (o .args .t1) (o .pre .0) (c .before .before .loop .i) (omega arith)), o .pre .2)
+    let at-loop = c .before .before in
+    let o = at-loop .before .before in
+    (o .pre .1, omega (arith, entry-short (o .args .t1) (o .pre .0) (at-loop .loop .i) (omega arith)), o .pre .2)
 
 add-at : tie.Need-add-at Inv-loop μ-loop
 add-at c =

@@ -74,16 +74,18 @@ put-card-requires c κs =
 
 loop-again : tie.Need-loop-again Inv-loop μ-loop
 loop-again c =
-    let at-entry-card = c .before .before .before .before in
+    let at-put-card = c .before .before in
+    let at-entry-card = at-put-card .before .before in
     let at-loop = at-entry-card .before .before .before .before in
     let at-codes-of = at-loop .before in
     let o = at-codes-of .before .before in
     let a = o .args in
     let l = at-loop .loop in (
       omega arith,
-      sheet-more (patternsOf (a .set) (a .lengths) (a .count)) (a .t5) (l .i) (l .sheet) (c .before .before .put-card .last .0)
+      sheet-more (patternsOf (a .set) (a .lengths) (a .count)) (a .t5) (l .i) (l .sheet) (at-put-card .put-card .last .0)
           (at-entry-card .entry-card .result)
-          (l .inv .1) (at-entry-card .entry-card .ensures (prefixesIn (a .t5)) (at-codes-of .codes-of .ensures .1)) (c .before .before .put-card .ensures),
+          (l .inv .1) (at-entry-card .entry-card .ensures (prefixesIn (a .t5)) (at-codes-of .codes-of .ensures .1))
+          (at-put-card .put-card .ensures),
     )
 
 array-share-prefix-codes-2 : tie.Need-array-share-prefix-codes-2 Inv-loop μ-loop
@@ -96,7 +98,8 @@ slice-aggregate-index-in c =
     let at-codes-of = c .before .before .before in
     let start = at-codes-of .before .before in
     let codes = at-codes-of .codes-of in
-    sym (length-take-le (start .args .t5 .count) (codes .result) (omega (arith, count-few (start .args .t5) (start .pre .0), codes .ensures .0)))
+    sym (length-take-le (start .args .t5 .count) (codes .result)
+    (omega (arith, count-few (start .args .t5) (start .pre .0), codes .ensures .0)))
 
 returns : tie.Need-returns Inv-loop μ-loop
 returns c =

@@ -8,7 +8,8 @@ use Rattle.count_plan.proofs.sheet.head_of.Tie as tie
 
 returns : tie.Need-returns
 returns c =
-    let at-low8 = c .before .before .before in
+    let at-low9 = c .before .before in
+    let at-low8 = at-low9 .before in
     let at-low7 = at-low8 .before in
     let at-low6 = at-low7 .before in
     let at-low5 = at-low6 .before in
@@ -30,7 +31,7 @@ returns c =
     (ap₂ _∷_ (at-low6 .low6 .ensures)
     (ap₂ _∷_ (at-low7 .low7 .ensures)
     (ap₂ _∷_ (at-low8 .low8 .ensures)
-    (ap₂ _∷_ (c .before .before .low9 .ensures)
+    (ap₂ _∷_ (at-low9 .low9 .ensures)
     (ap₂ _∷_ (c .before .low10 .ensures)
     (ap₂ _∷_ (c .low11 .ensures)
     refl))))))))))))))))

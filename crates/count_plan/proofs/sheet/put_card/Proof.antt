@@ -8,13 +8,15 @@ use Rattle.count_plan.proofs.sheet.put_card.Tie as tie
 
 returns : tie.Need-returns
 returns c =
-    let at-put = c .before .before .before .before .before .before in
+    let at-put-gaps = c .before .before in
+    let at-put = at-put-gaps .before .before .before .before in
     let at-head-of = at-put .before .before .before in
     let start = at-head-of .before .before in
     let a = start .args in
-    card-made (a .e) (a .card) (a .at) (now (a .sheet)) (at-put .put .last .0) (c .before .before .put-gaps .last .0) (at-head-of .head-of .result)
+    card-made (a .e) (a .card) (a .at) (now (a .sheet)) (at-put .put .last .0) (at-put-gaps .put-gaps .last .0)
+    (at-head-of .head-of .result)
     (at-head-of .head-of .ensures)
-    (at-put .put .ensures) (c .before .before .put-gaps .ensures)
+    (at-put .put .ensures) (at-put-gaps .put-gaps .ensures)
 
 pub put-card-spec : {M : Type 1} → statement M
 put-card-spec =

@@ -15,7 +15,8 @@ use Rattle.count_rows.proofs.entry.links_from.Statement.{statement}
 use Rattle.count_rows.proofs.entry.links_from.Tie as tie
 
 abbrev Inv-loop : tie.InvT-loop
-Inv-loop sheet places e offset from₀ a₀ from a = (a ≤ LINKS) × (length from ≡ LINKS) × ((d : ℕ) → d < a → getD from d 0 ≡ offset + linkAt sheet places e d)
+Inv-loop sheet places e offset from₀ a₀ from a = (a ≤ LINKS) × (length from ≡ LINKS) ×
+    ((d : ℕ) → d < a → getD from d 0 ≡ offset + linkAt sheet places e d)
 
 abbrev μ-loop : tie.MeasureT-loop
 μ-loop sheet places e offset from₀ a₀ from a = LINKS - a
@@ -46,7 +47,8 @@ loop-again c =
     let e = c .place-at .ensures ∙ ap (λ n. getD (now (a .places)) n 0) (c .before .field .ensures) in (
       omega arith,
       length-set (l .from) (l .a) (a .offset + c .place-at .result) ∙ l .inv .1,
-      rows-more (λ (j x : ℕ). x ≡ a .offset + linkAt (now (a .sheet)) (now (a .places)) (a .e) j) (l .from) 0 (l .a) (a .offset + c .place-at .result)
+      rows-more (λ (j x : ℕ). x ≡ a .offset + linkAt (now (a .sheet)) (now (a .places)) (a .e) j) (l .from) 0 (l .a)
+          (a .offset + c .place-at .result)
           (omega (arith, l .inv .1)) (ap (λ n. a .offset + n) e) (l .inv .2),
     )
 
@@ -55,7 +57,8 @@ returns c =
     let start = c .before .before .before .before in
     let a = start .args in
     let l = c .before .loop in
-    links-counted (now (a .sheet)) (now (a .places)) (a .e) (a .offset) (l .from) (l .inv .1) (λ (d : ℕ) (h : d < LINKS). l .inv .2 d (omega arith))
+    links-counted (now (a .sheet)) (now (a .places)) (a .e) (a .offset) (l .from) (l .inv .1)
+    (λ (d : ℕ) (h : d < LINKS). l .inv .2 d (omega arith))
 
 pub links-from-spec : {M : Type 1} → statement M
 links-from-spec =

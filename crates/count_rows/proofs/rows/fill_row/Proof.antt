@@ -14,7 +14,8 @@ use Rattle.count_rows.proofs.rows.fill_row.Statement.{statement}
 use Rattle.count_rows.proofs.rows.fill_row.Tie as tie
 
 abbrev Inv-loop : tie.InvT-loop
-Inv-loop table₀ sheet places w b k₀ table k = (length table ≡ length table₀) × (k ≤ w .length + 1) × RowFilledTo sheet places w k table₀ table
+Inv-loop table₀ sheet places w b k₀ table k = (length table ≡ length table₀) × (k ≤ w .length + 1) ×
+    RowFilledTo sheet places w k table₀ table
 
 abbrev μ-loop : tie.MeasureT-loop
 μ-loop table₀ sheet places w b k₀ table k = k
@@ -37,21 +38,24 @@ loop-holds c =
 
 loop-again : tie.Need-loop-again Inv-loop μ-loop
 loop-again c =
-    let at-loop = c .before .before .before .before .before in
+    let at-fill-length = c .before .before in
+    let at-loop = at-fill-length .before .before .before in
     let start = at-loop .before .before .before .before .before .before in
     let a = start .args in
     let l = at-loop .loop in
-    let U = c .before .before .fill-length .last .0 in
-    let len : length (c .before .before .fill-length .last .0) ≡ length (l .table) = search needs in
+    let U = at-fill-length .fill-length .last .0 in
+    let len : length (at-fill-length .fill-length .last .0) ≡ length (l .table) = search needs in
     let e : l .k ≡ suc (l .k - 1) = omega arith in
     let done = subst (λ (m : ℕ). RowFilledTo (now (a .sheet)) (now (a .places)) (a .w) m (now (a .table)) (l .table)) e (l .inv .2) in (
       len ∙ l .inv .0,
       omega arith,
-      λ o. goes-length (o .of .s) (itemOf (now (a .sheet)) (now (a .places))) (a .w .length) (a .w .here) (a .w .before) (now (a .table)) (l .k - 1)
+      λ o. goes-length (o .of .s) (itemOf (now (a .sheet)) (now (a .places))) (a .w .length) (a .w .here)
+          (a .w .before) (now (a .table)) (l .k - 1)
           (l .table) U (done o)
-          (subst (λ (m : ℕ). Goes (o .of .s) (itemOf (now (a .sheet)) (now (a .places))) (a .w .length) (a .w .here) (a .w .before) (l .k - 1) 0
+          (subst (λ (m : ℕ). Goes (o .of .s) (itemOf (now (a .sheet)) (now (a .places))) (a .w .length) (a .w .here)
+          (a .w .before) (l .k - 1) 0
           (l .k - 1) m (l .table) U) (o .counted)
-          (c .before .before .fill-length .ensures o)),
+          (at-fill-length .fill-length .ensures o)),
     )
 
 returns : tie.Need-returns Inv-loop μ-loop

@@ -19,14 +19,15 @@ abbrev μ-loop : tie.MeasureT-loop
 
 loop-again : tie.Need-loop-again Inv-loop μ-loop
 loop-again c =
-    let at-loop = c .before .before .before .before .before in
+    let at-store = c .before .before in
+    let at-loop = at-store .before .before .before in
     let start = at-loop .before .before in
     let a = start .args in
     let l = at-loop .loop in
-    let len : length (c .before .before .store .last .0) ≡ length (l .table) = search needs in (
+    let len : length (at-store .store .last .0) ≡ length (l .table) = search needs in (
       len ∙ l .inv .0,
       omega arith,
-      c .before .before .store .ensures ∙ cleared-more (l .i) (now (a .table)) (l .table) (omega (arith, start .pre))
+      at-store .store .ensures ∙ cleared-more (l .i) (now (a .table)) (l .table) (omega (arith, start .pre))
           (l .inv .2),
     )
 

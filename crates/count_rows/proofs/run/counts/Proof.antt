@@ -39,7 +39,8 @@ run-requires c κs =
     let a = start .args in
     let p = start .pre in
     let sheet = at-fill-sheet .fill-sheet in (
-      counts-given (patternsOf (a .set) (a .lengths) (a .count)) (a .s) (sheet .last .0) (at-places-of .places-of .result) (proper (schemeIn (a .s)) (p .1 .scheme))
+      counts-given (patternsOf (a .set) (a .lengths) (a .count)) (a .s) (sheet .last .0)
+          (at-places-of .places-of .result) (proper (schemeIn (a .s)) (p .1 .scheme))
           (sheet .ensures .0) (a .n) (p .0)
           (at-places-of .places-of .ensures) (at-place-at .place-at .result) (at-place-at2 .place-at2 .result) (sheet .result)
           (at-place-at .place-at .ensures) (at-place-at2 .place-at2 .ensures)
@@ -71,7 +72,8 @@ clear-requires c κs =
 
 returns : tie.Need-returns
 returns c =
-    let at-run = c .before .before .before .before .before .before in
+    let at-clear = c .before .before in
+    let at-run = at-clear .before .before .before .before in
     let at-place-at2 = at-run .before .before .before .before .before in
     let at-place-at = at-place-at2 .before .before in
     let at-places-of = at-place-at .before .before in
@@ -83,14 +85,19 @@ returns c =
     let sheet = at-fill-sheet .fill-sheet in
     let places = at-places-of .places-of in
     let ran = at-run .run in
-    let we : at-place-at .place-at .result ≡ widthOf (a .n) (a .s) = at-place-at .place-at .ensures ∙ places .ensures .at (a .s .count) (omega arith) in
+    let we : at-place-at .place-at .result ≡ widthOf (a .n) (a .s) = at-place-at .place-at .ensures ∙
+    places .ensures .at (a .s .count) (omega arith) in
     let ne : 2 * widthOf (a .n) (a .s) ≡ needOf (a .n) (schemeIn (a .s)) = ap (λ m. 2 * m) (width-sum (a .n) (a .s)) in
-    let o = counts-given P (a .s) (sheet .last .0) (places .result) (proper (schemeIn (a .s)) (p .1 .scheme)) (sheet .ensures .0) (a .n) (p .0) (places .ensures)
+    let o = counts-given P (a .s) (sheet .last .0) (places .result) (proper (schemeIn (a .s)) (p .1 .scheme))
+    (sheet .ensures .0) (a .n) (p .0) (places .ensures)
     (at-place-at .place-at .result)
-    (at-place-at2 .place-at2 .result) (sheet .result) (at-place-at .place-at .ensures) (at-place-at2 .place-at2 .ensures) (sheet .ensures .1) in
-    let (rows, counted, kept) = ran .ensures o (o .outlook) (size P) (sizes-solved P (a .s) (p .1) (p .2)) (omega (arith, we, ne, p .3)) in (
+    (at-place-at2 .place-at2 .result) (sheet .result) (at-place-at .place-at .ensures)
+    (at-place-at2 .place-at2 .ensures) (sheet .ensures .1) in
+    let (rows, counted, kept) = ran .ensures o (o .outlook) (size P) (sizes-solved P (a .s) (p .1) (p .2))
+    (omega (arith, we, ne, p .3)) in (
       run-counts P (a .s) (a .n) (ran .result) (p .1) (p .2) counted,
-      c .before .before .clear .ensures ∙ ap (λ (m : ℕ). cleared (2 * m) (ran .last .0)) we ∙ kept-drop (a .n) (a .s) (now (a .table)) (ran .last .0) kept ∙
+      at-clear .clear .ensures ∙ ap (λ (m : ℕ). cleared (2 * m) (ran .last .0)) we ∙
+          kept-drop (a .n) (a .s) (now (a .table)) (ran .last .0) kept ∙
           ap (λ (m : ℕ). cleared m (now (a .table))) ne,
     )
 

@@ -19,7 +19,8 @@ use Rattle.count_rows.proofs.run.run.Tie as tie
 
 abbrev Inv-loop : tie.InvT-loop
 Inv-loop table₀ sheet places f b counts₀ here₀ before₀ j₀ table counts here before j =
-    (length table ≡ length table₀) × (j ≤ f .last + 1) × Blocks sheet places f j here before × RunFilledTo sheet places f j table₀ table counts
+    (length table ≡ length table₀) × (j ≤ f .last + 1) × Blocks sheet places f j here before ×
+    RunFilledTo sheet places f j table₀ table counts
 
 abbrev μ-loop : tie.MeasureT-loop
 μ-loop table₀ sheet places f b counts₀ here₀ before₀ j₀ table counts here before j = f .last + 1 - j
@@ -88,7 +89,8 @@ loop-again c =
           (l .inv .2 o .1, l .inv .2 o .0 ∙ twice),
       λ o.
           let (h, b) = l .inv .2 o in
-          run-more (o .of .s) (itemOf (now (a .sheet)) (now (a .places))) (a .f .last) (a .f .width) (a .f .root) (now (a .table)) (l .j) (l .here)
+          run-more (o .of .s) (itemOf (now (a .sheet)) (now (a .places))) (a .f .last) (a .f .width) (a .f .root)
+          (now (a .table)) (l .j) (l .here)
           (l .before) (l .table)
           (filled .last .0) (l .counts) (c .read .result) low h b (l .inv .3 o)
           (filled .ensures (run-row (now (a .sheet)) (now (a .places)) (a .f) o (l .j) (l .here) (l .before) low h b)) (c .read .ensures),
@@ -96,9 +98,10 @@ loop-again c =
 
 returns : tie.Need-returns Inv-loop μ-loop
 returns c =
-    let start = c .before .before .before .before .before .before .before in
+    let at-loop = c .before .before in
+    let start = at-loop .before .before .before .before .before in
     let a = start .args in
-    let l = c .before .before .loop in
+    let l = at-loop .loop in
     let e : l .j ≡ a .f .last + 1 = omega arith in
     subst (λ (m : ℕ). RunFilledTo (now (a .sheet)) (now (a .places)) (a .f) m (now (a .table)) (l .table) (l .counts)) e (l .inv .3)
 

@@ -26,22 +26,29 @@ loop-holds c =
 
 add-read : tie.Need-add-read Inv-loop μ-loop
 add-read c =
-    let l = c .before .before .loop in
-    omega (arith, c .choose .ensures, binomial-small (l .z) (c .before .before .before .before .before .args .col) (omega arith))
+    let at-loop = c .before .before in
+    let start = at-loop .before .before .before in
+    let l = at-loop .loop in
+    omega (arith, c .choose .ensures, binomial-small (l .z) (start .args .col) (omega arith))
 
 loop-again : tie.Need-loop-again Inv-loop μ-loop
 loop-again c =
-    let a = c .before .before .before .before .before .before .before .args in
-    let l = c .before .before .before .before .loop in (
+    let at-read = c .before in
+    let at-choose = at-read .before in
+    let at-loop = at-choose .before .before in
+    let start = at-loop .before .before .before in
+    let a = start .args in
+    let l = at-loop .loop in (
       l .inv .0,
       part-more LARGEST (now (a .table)) (a .at) (a .col) (a .first) (a .n) (a .first + a .n) (l .sum) (l .z) (l .inv .1)
-          (c .before .read .result) (c .capped-sum .result) (omega arith)
-          (c .before .read .ensures ∙ ap (λ i. getD (now (a .table)) (a .at + i) 0) (c .before .before .choose .ensures)) (c .capped-sum .ensures),
+          (at-read .read .result) (c .capped-sum .result) (omega arith)
+          (at-read .read .ensures ∙ ap (λ i. getD (now (a .table)) (a .at + i) 0) (at-choose .choose .ensures)) (c .capped-sum .ensures),
     )
 
 returns : tie.Need-returns Inv-loop μ-loop
 returns c =
-    let a = c .before .before .before .before .args in
+    let start = c .before .before .before .before in
+    let a = start .args in
     let l = c .before .loop in
     part-end LARGEST (now (a .table)) (a .at) (a .col) (a .first) (a .n) (a .first + a .n) (l .sum) (l .z) (l .inv .1) (omega arith)
 

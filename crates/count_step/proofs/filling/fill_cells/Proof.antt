@@ -22,32 +22,46 @@ abbrev μ-loop : tie.MeasureT-loop
 
 loop-holds : tie.Need-loop-holds Inv-loop μ-loop
 loop-holds c =
-    let a = c .before .before .before .before .before .args in
+    let start = c .before .before .before .before .before in
+    let a = start .args in
     let t = a .task in
-    filling-start (taskStep t (now (a .gaps))) (t .length) (t .total) (a .at) (a .size) (c .before .before .before .before .before .pre .2) (now (a .table)) (spacingIn (t .length) (c .first-spacing .result))
+    filling-start (taskStep t (now (a .gaps))) (t .length) (t .total) (a .at) (a .size) (start .pre .2)
+    (now (a .table)) (spacingIn (t .length) (c .first-spacing .result))
     (c .first-spacing .ensures ∙ ap (firstVector (t .length)) (c .before .narrow .ensures))
 
 add-fill-one : tie.Need-add-fill-one Inv-loop μ-loop
 add-fill-one c =
-    let a = c .before .before .before .before .before .before .before .before .args in
+    let at-loop = c .before .before in
+    let start = at-loop .before .before .before .before .before .before in
+    let a = start .args in
     let t = a .task in
-    omega (arith, c .before .before .before .before .before .before .before .before .pre .2, c .before .before .before .before .before .before .before .before .pre .3, binomial-small (t .length + t .total) (t .length) (c .before .before .before .before .before .before .before .before .pre .0 .sum), c .before .before .loop .inv .reach)
+    omega (
+      arith,
+      start .pre .2,
+      start .pre .3,
+      binomial-small (t .length + t .total) (t .length) (start .pre .0 .sum),
+      at-loop .loop .inv .reach,
+    )
 
 loop-again : tie.Need-loop-again Inv-loop μ-loop
 loop-again c =
-    let a = c .before .before .before .before .before .before .before .before .before .before .before .before .args in
+    let at-fill-one = c .before .before .before in
+    let at-loop = at-fill-one .before .before .before in
+    let start = at-loop .before .before .before .before .before .before in
+    let a = start .args in
     let t = a .task in
-    let l = c .before .before .before .before .before .before .loop in
-    filling-more (taskStep t (now (a .gaps))) (t .length) (t .total) (a .at) (a .size) (c .before .before .before .before .before .before .before .before .before .before .before .before .pre .2) (now (a .table)) (l .p) (l .table)
-    (spacingIn (t .length) (l .g)) (l .inv) (omega arith) (c .before .before .before .fill-one .last .0) (spacingIn (t .length) (c .next-cell .result))
-    (c .before .before .before .fill-one .ensures) (c .next-cell .ensures)
+    let l = at-loop .loop in
+    filling-more (taskStep t (now (a .gaps))) (t .length) (t .total) (a .at) (a .size) (start .pre .2) (now (a .table)) (l .p) (l .table)
+    (spacingIn (t .length) (l .g)) (l .inv) (omega arith) (at-fill-one .fill-one .last .0) (spacingIn (t .length) (c .next-cell .result))
+    (at-fill-one .fill-one .ensures) (c .next-cell .ensures)
 
 returns : tie.Need-returns Inv-loop μ-loop
 returns c =
-    let a = c .before .before .before .before .before .before .before .args in
+    let start = c .before .before .before .before .before .before .before in
+    let a = start .args in
     let t = a .task in
     let l = c .before .loop in
-    filling-end (taskStep t (now (a .gaps))) (t .length) (t .total) (a .at) (a .size) (c .before .before .before .before .before .before .before .pre .2) (now (a .table)) (l .p) (l .table)
+    filling-end (taskStep t (now (a .gaps))) (t .length) (t .total) (a .at) (a .size) (start .pre .2) (now (a .table)) (l .p) (l .table)
     (spacingIn (t .length) (l .g)) (l .inv) (omega arith)
 
 pub fill-cells-spec : {M : Type 1} → statement M

@@ -9,8 +9,11 @@ use Rattle.count_step.proofs.filling.fill_one.Tie as tie
 
 returns : tie.Need-returns
 returns c =
-    let a = c .before .before .before .before .before .before .before .before .before .args in
-    c .before .before .store .ensures ∙ ap (set (now (a .table)) (a .at)) (c .before .before .before .before .value-at .ensures)
+    let at-store = c .before .before in
+    let at-value-at = at-store .before .before in
+    let start = at-value-at .before .before .before .before .before in
+    let a = start .args in
+    at-store .store .ensures ∙ ap (set (now (a .table)) (a .at)) (at-value-at .value-at .ensures)
 
 pub fill-one-spec : {M : Type 1} → statement M
 fill-one-spec = tie.close (tie.spec (λ c κs. search needs) (λ c κs. search needs) (λ c. search needs) returns)

@@ -14,7 +14,9 @@ returns : tie.Need-returns
 returns c = let a = c .before .before .args in sym (ap (λ (f : Fault). countedOr f (a .count)) (c .enum-told .given .1))
 
 returns-2 : tie.Need-returns-2
-returns-2 c = let a = c .before .before .before .args in sym (ap (λ (f : Fault). countedOr f (a .count)) (c .before .fault .given .1))
+returns-2 c =
+    let start = c .before .before .before in
+    let a = start .args in sym (ap (λ (f : Fault). countedOr f (a .count)) (c .before .fault .given .1))
 
 pub count-or-spec : {M : Type 1} → statement M
 count-or-spec = tie.close (tie.spec enum-told (λ c. search needs) returns returns-2)

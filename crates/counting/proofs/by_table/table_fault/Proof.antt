@@ -15,12 +15,14 @@ returns c =
 
 returns-2 : tie.Need-returns-2
 returns-2 c =
-    let a = c .before .before .before .args in
+    let start = c .before .before .before in
+    let a = start .args in
     sym (table-refused (schemeIn (a .scheme)) (a .n) (a .cells) (omega arith) (omega (arith, c .before .need .ensures)))
 
 returns-3 : tie.Need-returns-3
 returns-3 c =
-    let a = c .before .before .before .args in
+    let start = c .before .before .before in
+    let a = start .args in
     sym (table-serves (schemeIn (a .scheme)) (a .n) (a .cells) (omega arith) (omega (arith, c .before .need .ensures)))
 
 pub table-fault-spec : {M : Type 1} → statement M

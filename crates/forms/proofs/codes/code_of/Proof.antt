@@ -26,7 +26,11 @@ loop-holds c =
 mul-code : tie.Need-mul-code Inv-loop μ-loop
 mul-code c =
     let at = c .before in
-    omega (arith, coding-fits (at .before .args .length) (at .before .args .t1) (at .loop .j) (at .loop .code) (at .loop .inv .1) (at .loop .inv .0) (search needs))
+    omega (
+      arith,
+      coding-fits (at .before .args .length) (at .before .args .t1) (at .loop .j) (at .loop .code)
+          (at .loop .inv .1) (at .loop .inv .0) (search needs),
+    )
 
 array-read-long : tie.Need-array-read-long Inv-loop μ-loop
 array-read-long c = omega (arith, c .before .loop .inv .0, c .before .loop .inv .1 .inside)
@@ -34,13 +38,21 @@ array-read-long c = omega (arith, c .before .loop .inv .0, c .before .loop .inv 
 add-code : tie.Need-add-code Inv-loop μ-loop
 add-code c =
     let at = c .before .before in
-    omega (arith, c .long .ensures, coding-fits (at .before .args .length) (at .before .args .t1) (at .loop .j) (at .loop .code) (at .loop .inv .1) (at .loop .inv .0) (search needs))
+    omega (
+      arith,
+      c .long .ensures,
+      coding-fits (at .before .args .length) (at .before .args .t1) (at .loop .j)
+          (at .loop .code) (at .loop .inv .1) (at .loop .inv .0) (search needs),
+    )
 
 loop-again : tie.Need-loop-again Inv-loop μ-loop
 loop-again c =
     let at = c .before .before in
-    let a = at .before .args in
-    (at .loop .inv .0, coding-more (a .length) (a .t1) (at .loop .j) (at .loop .code) (at .loop .inv .1) (c .long .result) (search needs) (c .long .ensures .0) (c .long .ensures .1))
+    let a = at .before .args in (
+      at .loop .inv .0,
+      coding-more (a .length) (a .t1) (at .loop .j) (at .loop .code) (at .loop .inv .1)
+          (c .long .result) (search needs) (c .long .ensures .0) (c .long .ensures .1),
+    )
 
 returns : tie.Need-returns Inv-loop μ-loop
 returns c =

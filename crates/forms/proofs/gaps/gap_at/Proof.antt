@@ -24,22 +24,26 @@ loop-holds c = (omega arith, refl, refl)
 
 loop-again : tie.Need-loop-again Inv-loop μ-loop
 loop-again c =
+    let start = c .before .before .before in
     let l = c .before .loop in
-    let a = c .before .before .before .args in
+    let a = start .args in
     let at = COMPONENTS * a .j in
     let all : length (a .t1) ≡ PARTS = search needs in
-    let few : a .j < GAPS = c .before .before .before .pre in
+    let few : a .j < GAPS = start .pre in
     let here : l .i < length (l .parts) = omega (arith, l .inv .1) in
     let inside : at + l .i < length (a .t1) = omega arith in
     (omega arith, length-set (l .parts) (l .i) _ ∙ l .inv .1, copied-more (a .t1) at (l .i) (l .parts) here inside (l .inv .2))
 
 returns : tie.Need-returns Inv-loop μ-loop
 returns c =
+    let at-wide = c .before .before in
+    let start = at-wide .before in
     let l = c .before .loop in
-    let a = c .before .before .before .args in
+    let a = start .args in
     let done : l .i ≡ COMPONENTS = omega arith in
-    ap₂ (λ (b : List ℕ) (w : ℕ). record { parts = b; width = w }) (copied-all COMPONENTS (l .i) (l .parts) (drop (COMPONENTS * a .j) (a .t1)) (l .inv .1) done (l .inv .2))
-    (c .before .before .wide .ensures .0)
+    ap₂ (λ (b : List ℕ) (w : ℕ). record { parts = b; width = w })
+    (copied-all COMPONENTS (l .i) (l .parts) (drop (COMPONENTS * a .j) (a .t1)) (l .inv .1) done (l .inv .2))
+    (at-wide .wide .ensures .0)
 
 pub gap-at-spec : {M : Type 1} → statement M
 gap-at-spec =

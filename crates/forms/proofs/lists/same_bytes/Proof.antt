@@ -23,19 +23,24 @@ returns c = sym (same-lengths (c .before .args .a .now) (c .before .args .b .now
 
 returns-2 : tie.Need-returns-2 Inv-loop μ-loop
 returns-2 c =
-    let a = c .before .before .before .before .before .before .args in
-    let l = c .before .before .before .before .loop in
+    let at-loop = c .before .before .before .before in
+    let start = at-loop .before .before in
+    let a = start .args in
+    let l = at-loop .loop in
     sym (l .inv .2 ∙ same-other (a .a .now) (a .b .now) (l .inv .1) (l .i) (omega arith) (c .if2 .taken))
 
 loop-again : tie.Need-loop-again Inv-loop μ-loop
 loop-again c =
-    let a = c .before .before .before .before .before .before .args in
-    let l = c .before .before .before .before .loop in
+    let at-loop = c .before .before .before .before in
+    let start = at-loop .before .before in
+    let a = start .args in
+    let l = at-loop .loop in
     (omega arith, l .inv .1, l .inv .2 ∙ same-next (a .a .now) (a .b .now) (l .inv .1) (l .i) (omega arith) (c .if2 .left))
 
 returns-3 : tie.Need-returns-3 Inv-loop μ-loop
 returns-3 c =
-    let a = c .before .before .before .args in
+    let start = c .before .before .before in
+    let a = start .args in
     let l = c .before .loop in
     sym (l .inv .2 ∙ same-end (a .a .now) (a .b .now) (l .inv .1) (l .i) (omega arith))
 

@@ -13,7 +13,8 @@ use Rattle.forms.proofs.sets.lengths_of.Statement.{statement}
 use Rattle.forms.proofs.sets.lengths_of.Tie as tie
 
 abbrev Inv-loop : tie.InvT-loop
-Inv-loop s lengths₀ i₀ lengths i = (length lengths ≡ PATTERNS) × (i ≤ PATTERNS) × ((j : ℕ) → j < i → getD lengths j 0 ≡ (getD (s .items) j noPattern) .length % 256)
+Inv-loop s lengths₀ i₀ lengths i = (length lengths ≡ PATTERNS) × (i ≤ PATTERNS) ×
+    ((j : ℕ) → j < i → getD lengths j 0 ≡ (getD (s .items) j noPattern) .length % 256)
 
 abbrev μ-loop : tie.MeasureT-loop
 μ-loop s lengths₀ i₀ lengths i = PATTERNS - i
@@ -23,8 +24,10 @@ loop-holds c = (refl, omega arith, λ i h. absurd (omega arith))
 
 loop-again : tie.Need-loop-again Inv-loop μ-loop
 loop-again c =
-    let l = c .before .before .before .loop in
-    let items = c .before .before .before .before .args .t1 .items in (
+    let at-loop = c .before .before .before in
+    let start = at-loop .before in
+    let l = at-loop .loop in
+    let items = start .args .t1 .items in (
       length-set (l .lengths) (l .i) (c .length-of .result) ∙ l .inv .0,
       omega arith,
       rows-more (λ (j : ℕ) (x : ℕ). x ≡ (getD items j noPattern) .length % 256) (l .lengths) 0 (l .i) (c .length-of .result)

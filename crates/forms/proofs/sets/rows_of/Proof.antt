@@ -14,7 +14,9 @@ use Rattle.forms.proofs.sets.rows_of.Statement.{statement}
 use Rattle.forms.proofs.sets.rows_of.Tie as tie
 
 abbrev Inv-loop : tie.InvT-loop
-Inv-loop s rows₀ i₀ rows i = (length rows ≡ PATTERNS) × (i ≤ PATTERNS) × ((j : ℕ) → j < i → (getD rows j [] ≡ (getD (s .items) j noPattern) .digits) × (length (getD rows j []) ≡ DIGITS))
+Inv-loop s rows₀ i₀ rows i = (length rows ≡ PATTERNS) × (i ≤ PATTERNS) ×
+    ((j : ℕ) → j < i → (getD rows j [] ≡ (getD (s .items) j noPattern) .digits) ×
+    (length (getD rows j []) ≡ DIGITS))
 
 abbrev μ-loop : tie.MeasureT-loop
 μ-loop s rows₀ i₀ rows i = PATTERNS - i
@@ -24,11 +26,14 @@ loop-holds c = (refl, omega arith, λ i h. absurd (omega arith))
 
 loop-again : tie.Need-loop-again Inv-loop μ-loop
 loop-again c =
-    let l = c .before .before .before .loop in
-    let items = c .before .before .before .before .args .t1 .items in (
+    let at-loop = c .before .before .before in
+    let start = at-loop .before in
+    let l = at-loop .loop in
+    let items = start .args .t1 .items in (
       length-set (l .rows) (l .i) (c .digits-of .result) ∙ l .inv .0,
       omega arith,
-      rows-more (λ (j : ℕ) (x : List ℕ). (x ≡ (getD items j noPattern) .digits) × (length x ≡ DIGITS)) (l .rows) [] (l .i) (c .digits-of .result)
+      rows-more (λ (j : ℕ) (x : List ℕ). (x ≡ (getD items j noPattern) .digits) × (length x ≡ DIGITS)) (l .rows) []
+          (l .i) (c .digits-of .result)
           (omega (arith, l .inv .0)) (c .digits-of .ensures) (l .inv .2),
     )
 

@@ -17,7 +17,8 @@ use Rattle.judge.proofs.compared.compared_cells.Statement.{statement}
 use Rattle.judge.proofs.compared.compared_cells.Tie as tie
 
 abbrev Inv-loop : tie.InvT-loop
-Inv-loop m s n sum₀ i₀ sum i = (n ≤ ENTRIES) × (i ≤ n) × (sum ≤ COMPARED * i) × ((P : List (List ℕ)) → mOf P ≡ m → comparedCells P (schemeIn s) ≡ sum + cellsFrom P s n i)
+Inv-loop m s n sum₀ i₀ sum i = (n ≤ ENTRIES) × (i ≤ n) × (sum ≤ COMPARED * i) ×
+    ((P : List (List ℕ)) → mOf P ≡ m → comparedCells P (schemeIn s) ≡ sum + cellsFrom P s n i)
 
 abbrev μ-loop : tie.MeasureT-loop
 μ-loop m s n sum₀ i₀ sum i = n - i
@@ -29,13 +30,16 @@ loop-holds c =
 
 compared-with-requires : tie.Need-compared-with-requires Inv-loop μ-loop
 compared-with-requires c κs =
-    let l = c .before .before .loop in
-    let q = c .before .before .before .pre in
-    (q .0, proper-at (c .before .before .before .args .t2) (q .1) (l .i) (omega arith))
+    let at-loop = c .before .before in
+    let start = at-loop .before in
+    let l = at-loop .loop in
+    let q = start .pre in
+    (q .0, proper-at (start .args .t2) (q .1) (l .i) (omega arith))
 
 add-sum : tie.Need-add-sum Inv-loop μ-loop
 add-sum c =
-    let l = c .before .before .before .loop in
+    let at-loop = c .before .before .before in
+    let l = at-loop .loop in
     let small = c .compared-with .ensures .small in
     let low = l .inv .2 in
     let few = l .inv .0 in
@@ -43,8 +47,10 @@ add-sum c =
 
 loop-again : tie.Need-loop-again Inv-loop μ-loop
 loop-again c =
-    let a = c .before .before .before .before .args in
-    let l = c .before .before .before .loop in
+    let at-loop = c .before .before .before in
+    let start = at-loop .before in
+    let a = start .args in
+    let l = at-loop .loop in
     let w = c .compared-with .ensures in (
       l .inv .0,
       omega arith,

@@ -18,7 +18,9 @@ use Rattle.judge.proofs.deletions.irreversible_fault.Statement.{stateme
 use Rattle.judge.proofs.deletions.irreversible_fault.Tie as tie
 
 abbrev Inv-loop : tie.InvT-loop
-Inv-loop set lengths count s m bytes n i₀ i = (n ≤ ENTRIES) × (i ≤ n) × (firstAt Irreversible (differingEntry (patternsOf set lengths count)) 0 (schemeIn s) ≡ firstAt Irreversible (differingEntry (patternsOf set lengths count)) i (from (entryAt s) n i))
+Inv-loop set lengths count s m bytes n i₀ i = (n ≤ ENTRIES) × (i ≤ n) ×
+    (firstAt Irreversible (differingEntry (patternsOf set lengths count)) 0 (schemeIn s) ≡
+    firstAt Irreversible (differingEntry (patternsOf set lengths count)) i (from (entryAt s) n i))
 
 abbrev μ-loop : tie.MeasureT-loop
 μ-loop set lengths count s m bytes n i₀ i = n - i
@@ -29,8 +31,11 @@ all-needs-requires c κs = c .before .pre .0 .few
 loop-holds : tie.Need-loop-holds Inv-loop μ-loop
 loop-holds c =
     let a = c .before .before .args in
-    let P = patternsOf (a .set) (a .lengths) (a .count) in
-    (proper-count (a .t4) (c .before .before .pre .1), omega arith, first-start Irreversible (differingEntry P) (entryAt (a .t4)) (a .t4 .count))
+    let P = patternsOf (a .set) (a .lengths) (a .count) in (
+      proper-count (a .t4) (c .before .before .pre .1),
+      omega arith,
+      first-start Irreversible (differingEntry P) (entryAt (a .t4)) (a .t4 .count),
+    )
 
 is-irreversible-requires : tie.Need-is-irreversible-requires Inv-loop μ-loop
 is-irreversible-requires c κs =
@@ -49,7 +54,8 @@ returns c =
     let a = start .args in
     let l = at-loop .loop in
     let P = patternsOf (a .set) (a .lengths) (a .count) in
-    sym (ap faultOf (l .inv .2 ∙ first-here Irreversible (differingEntry P) (entryAt (a .t4)) (a .t4 .count) (l .i) (omega arith) (sym (c .before .is-irreversible .ensures) ∙ c .if1 .taken)))
+    sym (ap faultOf (l .inv .2 ∙ first-here Irreversible (differingEntry P) (entryAt (a .t4)) (a .t4 .count) (l .i)
+    (omega arith) (sym (c .before .is-irreversible .ensures) ∙ c .if1 .taken)))
 
 loop-again : tie.Need-loop-again Inv-loop μ-loop
 loop-again c =
@@ -57,12 +63,17 @@ loop-again c =
     let start = at-loop .before .before .before in
     let a = start .args in
     let l = at-loop .loop in
-    let P = patternsOf (a .set) (a .lengths) (a .count) in
-    (l .inv .0, omega arith, l .inv .2 ∙ first-later Irreversible (differingEntry P) (entryAt (a .t4)) (a .t4 .count) (l .i) (omega arith) (sym (c .before .is-irreversible .ensures) ∙ c .if1 .left))
+    let P = patternsOf (a .set) (a .lengths) (a .count) in (
+      l .inv .0,
+      omega arith,
+      l .inv .2 ∙ first-later Irreversible (differingEntry P) (entryAt (a .t4))
+          (a .t4 .count) (l .i) (omega arith) (sym (c .before .is-irreversible .ensures) ∙ c .if1 .left),
+    )
 
 returns-2 : tie.Need-returns-2 Inv-loop μ-loop
 returns-2 c =
-    let a = c .before .before .before .before .args in
+    let start = c .before .before .before .before in
+    let a = start .args in
     let l = c .before .loop in
     let P = patternsOf (a .set) (a .lengths) (a .count) in
     sym (ap faultOf (l .inv .2 ∙ first-end Irreversible (differingEntry P) (entryAt (a .t4)) (a .t4 .count) (l .i) (omega arith)))

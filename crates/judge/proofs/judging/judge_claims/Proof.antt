@@ -26,97 +26,154 @@ use Rattle.judge.proofs.judging.judge_claims.Statement.{statement}
 use Rattle.judge.proofs.judging.judge_claims.Tie as tie
 
 -- the set in memory, and its basis
-holds : (c : tie.After-lengths-of2) → patternsOf (c .before .before .before .before .rows-of .result) (c .before .before .before .lengths-of .result) (c .before .before .before .before .before .args .patterns .count) ≡ patternsIn (c .before .before .before .before .before .args .patterns)
+holds : (c : tie.After-lengths-of2) → patternsOf (c .before .before .before .before .rows-of .result)
+    (c .before .before .before .lengths-of .result)
+    (c .before .before .before .before .before .args .patterns .count) ≡
+    patternsIn (c .before .before .before .before .before .args .patterns)
 holds c =
-    let r = c .before .before .before .before .rows-of in
-    let k = c .before .before .before .lengths-of in
+    let at-lengths-of = c .before .before .before in
+    let at-rows-of = at-lengths-of .before in
+    let start = at-rows-of .before in
+    let r = at-rows-of .rows-of in
+    let k = at-lengths-of .lengths-of in
     let hr : length (r .result) ≡ PATTERNS = search needs in
     let hk : length (k .result) ≡ PATTERNS = search needs in
-    set-holds (c .before .before .before .before .before .args .patterns) (c .before .before .before .before .before .pre .patterns) (r .result) (k .result) hr hk (r .ensures) (k .ensures)
+    set-holds (start .args .patterns) (start .pre .patterns) (r .result) (k .result) hr hk (r .ensures) (k .ensures)
 
-proper : (c : tie.After-lengths-of2) → ProperSet (c .before .before .before .before .rows-of .result) (c .before .before .before .lengths-of .result) (c .before .before .before .before .before .args .patterns .count)
+proper : (c : tie.After-lengths-of2) → ProperSet (c .before .before .before .before .rows-of .result)
+    (c .before .before .before .lengths-of .result)
+    (c .before .before .before .before .before .args .patterns .count)
 proper c =
-    let r = c .before .before .before .before .rows-of in
-    let k = c .before .before .before .lengths-of in
+    let at-lengths-of = c .before .before .before in
+    let at-rows-of = at-lengths-of .before in
+    let start = at-rows-of .before in
+    let r = at-rows-of .rows-of in
+    let k = at-lengths-of .lengths-of in
     let hr : length (r .result) ≡ PATTERNS = search needs in
     let hk : length (k .result) ≡ PATTERNS = search needs in
-    proper-set (c .before .before .before .before .before .args .patterns) (c .before .before .before .before .before .pre .patterns) (r .result) (k .result) hr hk (r .ensures) (k .ensures)
+    proper-set (start .args .patterns) (start .pre .patterns) (r .result) (k .result) hr hk (r .ensures) (k .ensures)
 
-small-proper : (c : tie.After-lengths-of2) → ProperSet (c .before .rows-of2 .result) (c .lengths-of2 .result) (c .before .before .basis-of .result .count)
+small-proper : (c : tie.After-lengths-of2) →
+    ProperSet (c .before .rows-of2 .result) (c .lengths-of2 .result) (c .before .before .basis-of .result .count)
 small-proper c =
+    let at-basis-of = c .before .before in
+    let at-lengths-of = at-basis-of .before in
+    let at-rows-of = at-lengths-of .before in
+    let start = at-rows-of .before in
     let r = c .before .rows-of2 in
     let k = c .lengths-of2 in
-    let b = c .before .before .basis-of in
+    let b = at-basis-of .basis-of in
     let hr : length (r .result) ≡ PATTERNS = (let o = r .ok in search needs) in
     let hk : length (k .result) ≡ PATTERNS = (let o = k .ok in search needs) in
-    basis-proper (c .before .before .before .before .rows-of .result) (c .before .before .before .lengths-of .result) (c .before .before .before .before .before .args .patterns .count) (proper c) (b .result) (b .ensures) (r .result) (k .result) hr hk (r .ensures) (k .ensures)
+    basis-proper (at-rows-of .rows-of .result) (at-lengths-of .lengths-of .result) (start .args .patterns .count)
+    (proper c) (b .result) (b .ensures) (r .result) (k .result) hr hk (r .ensures) (k .ensures)
 
 -- what the tests on the basis find is what those on the set find
 live-first : (c : tie.After-live-fault) → faulty (c .live-fault .result) ≡ true →
     c .live-fault .result ≡
-    faultOf (firstFault (claimTests (patternsOf (c .before .before .before .before .before .rows-of .result) (c .before .before .before .before .lengths-of .result) (c .before .before .before .before .before .before .args .patterns .count)) (schemeIn (c .before .before .before .before .before .before .args .scheme))))
+    faultOf (firstFault
+    (claimTests (patternsOf (c .before .before .before .before .before .rows-of .result)
+    (c .before .before .before .before .lengths-of .result)
+    (c .before .before .before .before .before .before .args .patterns .count))
+    (schemeIn (c .before .before .before .before .before .before .args .scheme))))
 live-first c h =
     let at-sets = c .before in
+    let at-lengths-of = at-sets .before .before .before in
+    let at-rows-of = at-lengths-of .before in
+    let start = at-rows-of .before in
     let r = at-sets .before .rows-of2 in
     let k = at-sets .lengths-of2 in
     let b = at-sets .before .before .basis-of in
     let hr : length (r .result) ≡ PATTERNS = (let o = r .ok in search needs) in
     let hk : length (k .result) ≡ PATTERNS = (let o = k .ok in search needs) in
-    let start = c .before .before .before .before .before .before in
-    claims-live (c .before .before .before .before .before .rows-of .result) (c .before .before .before .before .lengths-of .result) (start .args .patterns .count) (proper at-sets) (b .result) (b .ensures) (r .result) (k .result) hr hk (r .ensures) (k .ensures)
-    (start .args .scheme) (proper-scheme (schemeIn (start .args .scheme)) (start .pre .scheme)) (c .live-fault .result) (c .live-fault .ensures) h
+    claims-live (at-rows-of .rows-of .result) (at-lengths-of .lengths-of .result) (start .args .patterns .count)
+    (proper at-sets) (b .result) (b .ensures) (r .result) (k .result) hr hk (r .ensures) (k .ensures)
+    (start .args .scheme) (proper-scheme (schemeIn (start .args .scheme)) (start .pre .scheme))
+    (c .live-fault .result) (c .live-fault .ensures) h
 
 lost-first : (c : tie.After-live-fault) (lost : Fault) →
-    lost ≡ faultOf (firstAt Irreversible (differingEntry (patternsOf (c .before .before .rows-of2 .result) (c .before .lengths-of2 .result) (c .before .before .before .basis-of .result .count))) 0 (schemeIn (c .before .before .before .before .before .before .args .scheme))) →
+    lost ≡ faultOf
+    (firstAt Irreversible
+    (differingEntry (patternsOf (c .before .before .rows-of2 .result) (c .before .lengths-of2 .result)
+    (c .before .before .before .basis-of .result .count))) 0
+    (schemeIn (c .before .before .before .before .before .before .args .scheme))) →
     faulty (c .live-fault .result) ≡ false →
-    lost ≡ faultOf (firstFault (claimTests (patternsOf (c .before .before .before .before .before .rows-of .result) (c .before .before .before .before .lengths-of .result) (c .before .before .before .before .before .before .args .patterns .count)) (schemeIn (c .before .before .before .before .before .before .args .scheme))))
+    lost ≡ faultOf
+    (firstFault (claimTests (patternsOf (c .before .before .before .before .before .rows-of .result)
+    (c .before .before .before .before .lengths-of .result)
+    (c .before .before .before .before .before .before .args .patterns .count))
+    (schemeIn (c .before .before .before .before .before .before .args .scheme))))
 lost-first c lost e h =
     let at-sets = c .before in
+    let at-lengths-of = at-sets .before .before .before in
+    let at-rows-of = at-lengths-of .before in
+    let start = at-rows-of .before in
     let r = at-sets .before .rows-of2 in
     let k = at-sets .lengths-of2 in
     let b = at-sets .before .before .basis-of in
     let hr : length (r .result) ≡ PATTERNS = (let o = r .ok in search needs) in
     let hk : length (k .result) ≡ PATTERNS = (let o = k .ok in search needs) in
-    let start = c .before .before .before .before .before .before in
-    claims-lost (c .before .before .before .before .before .rows-of .result) (c .before .before .before .before .lengths-of .result) (start .args .patterns .count) (proper at-sets) (b .result) (b .ensures) (r .result) (k .result) hr hk (r .ensures) (k .ensures)
-    (start .args .scheme) (proper-scheme (schemeIn (start .args .scheme)) (start .pre .scheme)) (c .live-fault .result) (c .live-fault .ensures) lost e h
+    claims-lost (at-rows-of .rows-of .result) (at-lengths-of .lengths-of .result) (start .args .patterns .count)
+    (proper at-sets) (b .result) (b .ensures) (r .result) (k .result) hr hk (r .ensures) (k .ensures)
+    (start .args .scheme) (proper-scheme (schemeIn (start .args .scheme)) (start .pre .scheme))
+    (c .live-fault .result) (c .live-fault .ensures) lost e h
 
 -- a fault that the tests find is the answer
 refused : (c : tie.After-lengths-of2) (f : Fault) (r : Verdict) → faulty f ≡ true →
-    f ≡ faultOf (firstFault (claimTests (patternsOf (c .before .before .before .before .rows-of .result) (c .before .before .before .lengths-of .result) (c .before .before .before .before .before .args .patterns .count)) (schemeIn (c .before .before .before .before .before .args .scheme)))) →
+    f ≡ faultOf (firstFault
+    (claimTests (patternsOf (c .before .before .before .before .rows-of .result)
+    (c .before .before .before .lengths-of .result)
+    (c .before .before .before .before .before .args .patterns .count))
+    (schemeIn (c .before .before .before .before .before .args .scheme)))) →
     r ≡ answered f 0 →
-    r ≡ answered (faultOf (firstFault (claimTests (patternsIn (c .before .before .before .before .before .args .patterns)) (schemeIn (c .before .before .before .before .before .args .scheme))))) (comparedCells (patternsIn (c .before .before .before .before .before .args .patterns)) (schemeIn (c .before .before .before .before .before .args .scheme)))
+    r ≡ answered
+    (faultOf (firstFault (claimTests (patternsIn (c .before .before .before .before .before .args .patterns))
+    (schemeIn (c .before .before .before .before .before .args .scheme)))))
+    (comparedCells (patternsIn (c .before .before .before .before .before .args .patterns))
+    (schemeIn (c .before .before .before .before .before .args .scheme)))
 refused c f r h first e =
-    let P = patternsIn (c .before .before .before .before .before .args .patterns) in
-    let E = schemeIn (c .before .before .before .before .before .args .scheme) in
+    let start = c .before .before .before .before .before in
+    let P = patternsIn (start .args .patterns) in
+    let E = schemeIn (start .args .scheme) in
     e ∙ refused-answer f 0 (comparedCells P E) h ∙
     ap (λ (x : Fault). answered x (comparedCells P E)) (first ∙ ap (λ (Q : List (List ℕ)). faultOf (firstFault (claimTests Q E))) (holds c))
 
 basis-of-requires : tie.Need-basis-of-requires
-basis-of-requires c κs = (proper-set (c .before .before .args .patterns) (c .before .before .pre .patterns) (c .before .rows-of .result) (c .lengths-of .result) (search needs) (search needs) (c .before .rows-of .ensures) (c .lengths-of .ensures)) .few
+basis-of-requires c κs = (proper-set (c .before .before .args .patterns) (c .before .before .pre .patterns)
+    (c .before .rows-of .result) (c .lengths-of .result) (search needs) (search needs) (c .before .rows-of .ensures)
+    (c .lengths-of .ensures)) .few
 
 live-fault-requires : tie.Need-live-fault-requires
-live-fault-requires c κs = proper-scheme (schemeIn (c .before .before .before .before .before .args .scheme)) (c .before .before .before .before .before .pre .scheme)
+live-fault-requires c κs =
+    let start = c .before .before .before .before .before in
+    proper-scheme (schemeIn (start .args .scheme)) (start .pre .scheme)
 
 returns : tie.Need-returns
 returns c =
-    let l = c .before .before .before .live-fault in
-    let at-sets = c .before .before .before .before in
-    refused (at-sets) (l .result) (c .answer .result) (sym (c .before .before .is-fault .ensures) ∙ c .before .if1 .taken)
-    (live-first (c .before .before .before) (sym (c .before .before .is-fault .ensures) ∙ c .before .if1 .taken)) (c .answer .ensures)
+    let at-if1 = c .before in
+    let at-is-fault = at-if1 .before in
+    let at-live-fault = at-is-fault .before in
+    let at-sets = at-live-fault .before in
+    let l = at-live-fault .live-fault in
+    refused at-sets (l .result) (c .answer .result) (sym (at-is-fault .is-fault .ensures) ∙ at-if1 .if1 .taken)
+    (live-first at-live-fault (sym (at-is-fault .is-fault .ensures) ∙ at-if1 .if1 .taken)) (c .answer .ensures)
 
 irreversible-fault-requires : tie.Need-irreversible-fault-requires
 irreversible-fault-requires c κs =
-    let at-sets = c .before .before .before in
-    (small-proper at-sets, proper-scheme (schemeIn (at-sets .before .before .before .before .before .args .scheme)) (at-sets .before .before .before .before .before .pre .scheme))
+    let at-sets = c .before .before .before in (
+      small-proper at-sets,
+      proper-scheme (schemeIn (at-sets .before .before .before .before .before .args .scheme))
+          (at-sets .before .before .before .before .before .pre .scheme),
+    )
 
 returns-2 : tie.Need-returns-2
 returns-2 c =
-    let at-lost = c .before .before .before in
+    let at-is-fault2 = c .before .before in
+    let at-lost = at-is-fault2 .before in
     let clean = sym (at-lost .before .before .is-fault .ensures) ∙ at-lost .before .if1 .left in
     let at-live = at-lost .before .before .before in
     let f = at-lost .irreversible-fault in
-    let h = sym (c .before .before .is-fault2 .ensures) ∙ c .before .if2 .taken in
+    let h = sym (at-is-fault2 .is-fault2 .ensures) ∙ c .before .if2 .taken in
     refused (at-live .before) (f .result) (c .answer2 .result) h (lost-first at-live (f .result) (f .ensures) clean) (c .answer2 .ensures)
 
 compared-cells-requires : tie.Need-compared-cells-requires
@@ -126,16 +183,20 @@ compared-cells-requires c κs =
 
 returns-3 : tie.Need-returns-3
 returns-3 c =
-    let at-lost = c .before .before .before .before .before in
+    let at-compared-cells = c .before in
+    let at-longest-length = at-compared-cells .before in
+    let at-lost = at-longest-length .before .before .before in
     let at-live = at-lost .before .before .before in
     let clean = sym (at-lost .before .before .is-fault .ensures) ∙ at-lost .before .if1 .left in
     let f = at-lost .irreversible-fault in
-    let m = c .before .before .longest-length in
+    let m = at-longest-length .longest-length in
     let at-sets = at-live .before in
     let a = at-sets .before .before .before .before .before .args in
     c .answer3 .ensures ∙
-    claims-answer (a .patterns) (a .scheme) (patternsOf (at-sets .before .before .before .before .rows-of .result) (at-sets .before .before .before .lengths-of .result) (a .patterns .count)) (f .result) (m .result) (c .before .compared-cells .result)
-    (holds at-sets) (lost-first at-live (f .result) (f .ensures) clean) (m .ensures .0) (c .before .compared-cells .ensures)
+    claims-answer (a .patterns) (a .scheme) (patternsOf (at-sets .before .before .before .before .rows-of .result)
+    (at-sets .before .before .before .lengths-of .result) (a .patterns .count)) (f .result) (m .result)
+    (at-compared-cells .compared-cells .result)
+    (holds at-sets) (lost-first at-live (f .result) (f .ensures) clean) (m .ensures .0) (at-compared-cells .compared-cells .ensures)
 
 pub judge-claims-spec : {M : Type 1} → statement M
 judge-claims-spec =

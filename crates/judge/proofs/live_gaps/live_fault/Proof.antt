@@ -18,7 +18,9 @@ use Rattle.judge.proofs.live_gaps.live_fault.Statement.{statement}
 use Rattle.judge.proofs.live_gaps.live_fault.Tie as tie
 
 abbrev Inv-loop : tie.InvT-loop
-Inv-loop set lengths count s n i₀ i = (n ≤ ENTRIES) × (i ≤ n) × (firstAt LiveGap (liveEntry (patternsOf set lengths count)) 0 (schemeIn s) ≡ firstAt LiveGap (liveEntry (patternsOf set lengths count)) i (from (entryAt s) n i))
+Inv-loop set lengths count s n i₀ i = (n ≤ ENTRIES) × (i ≤ n) ×
+    (firstAt LiveGap (liveEntry (patternsOf set lengths count)) 0 (schemeIn s) ≡
+    firstAt LiveGap (liveEntry (patternsOf set lengths count)) i (from (entryAt s) n i))
 
 abbrev μ-loop : tie.MeasureT-loop
 μ-loop set lengths count s n i₀ i = n - i
@@ -31,23 +33,34 @@ loop-holds c =
 
 has-live-gap-requires : tie.Need-has-live-gap-requires Inv-loop μ-loop
 has-live-gap-requires c κs =
-    let l = c .before .before .loop in
-    let q = c .before .before .before .pre in
-    proper-at (c .before .before .before .args .t4) q (l .i) (omega arith)
+    let at-loop = c .before .before in
+    let start = at-loop .before in
+    let l = at-loop .loop in
+    let q = start .pre in
+    proper-at (start .args .t4) q (l .i) (omega arith)
 
 returns : tie.Need-returns Inv-loop μ-loop
 returns c =
-    let a = c .before .before .before .before .before .args in
-    let l = c .before .before .before .before .loop in
+    let at-loop = c .before .before .before .before in
+    let start = at-loop .before in
+    let a = start .args in
+    let l = at-loop .loop in
     let P = patternsOf (a .set) (a .lengths) (a .count) in
-    sym (ap faultOf (l .inv .2 ∙ first-here LiveGap (liveEntry P) (entryAt (a .t4)) (a .t4 .count) (l .i) (omega arith) (sym (c .before .has-live-gap .ensures) ∙ c .if1 .taken)))
+    sym (ap faultOf (l .inv .2 ∙ first-here LiveGap (liveEntry P) (entryAt (a .t4)) (a .t4 .count) (l .i)
+    (omega arith) (sym (c .before .has-live-gap .ensures) ∙ c .if1 .taken)))
 
 loop-again : tie.Need-loop-again Inv-loop μ-loop
 loop-again c =
-    let a = c .before .before .before .before .before .args in
-    let l = c .before .before .before .before .loop in
-    let P = patternsOf (a .set) (a .lengths) (a .count) in
-    (l .inv .0, omega arith, l .inv .2 ∙ first-later LiveGap (liveEntry P) (entryAt (a .t4)) (a .t4 .count) (l .i) (omega arith) (sym (c .before .has-live-gap .ensures) ∙ c .if1 .left))
+    let at-loop = c .before .before .before .before in
+    let start = at-loop .before in
+    let a = start .args in
+    let l = at-loop .loop in
+    let P = patternsOf (a .set) (a .lengths) (a .count) in (
+      l .inv .0,
+      omega arith,
+      l .inv .2 ∙ first-later LiveGap (liveEntry P) (entryAt (a .t4)) (a .t4 .count) (l .i)
+          (omega arith) (sym (c .before .has-live-gap .ensures) ∙ c .if1 .left),
+    )
 
 returns-2 : tie.Need-returns-2 Inv-loop μ-loop
 returns-2 c =

@@ -59,7 +59,8 @@ returns-2 c =
     λ ps w.
     let found : has .has-entry .result ≡ listed ps (childAt (take (a .k) (a .prefix)) (l .a)) =
     has .has-entry .ensures ps w ∙ ap (listed ps) (has .before .child .ensures) in
-    sym (l .inv .0 ps w ∙ place-here (missing ps (take (a .k) (a .prefix))) (a .k + 2) (l .a) (omega arith) (sym (ap not found) ∙ c .if2 .taken))
+    sym (l .inv .0 ps w ∙ place-here (missing ps (take (a .k) (a .prefix))) (a .k + 2) (l .a) (omega arith)
+    (sym (ap not found) ∙ c .if2 .taken))
 
 loop-again : tie.Need-loop-again Inv-loop μ-loop
 loop-again c =
@@ -70,12 +71,14 @@ loop-again c =
     let next : Left (a .codes .now) (a .prefix) (a .k) (l .a + 1) = λ ps w.
     let found : has .has-entry .result ≡ listed ps (childAt (take (a .k) (a .prefix)) (l .a)) =
     has .has-entry .ensures ps w ∙ ap (listed ps) (has .before .child .ensures) in
-    l .inv .0 ps w ∙ place-later (missing ps (take (a .k) (a .prefix))) (a .k + 2) (l .a) (omega arith) (sym (ap not found) ∙ c .if2 .left) in
+    l .inv .0 ps w ∙ place-later (missing ps (take (a .k) (a .prefix))) (a .k + 2) (l .a) (omega arith)
+    (sym (ap not found) ∙ c .if2 .left) in
     (next, l .inv .1, l .inv .2)
 
 returns-3 : tie.Need-returns-3 Inv-loop μ-loop
 returns-3 c =
-    let a = c .before .before .before .before .args in
+    let start = c .before .before .before .before in
+    let a = start .args in
     let l = c .before .loop in
     λ ps w. sym (l .inv .0 ps w ∙ place-end (missing ps (take (a .k) (a .prefix))) (a .k + 2) (l .a) (omega arith))
 

@@ -37,7 +37,8 @@ loop-again c =
     let x = c .entry-code .result in (
       length-set (l .codes) (l .i) x ∙ l .inv .0,
       omega arith,
-      rows-more (λ (j y : ℕ). IsCode (prefixAt s j) y) (l .codes) 0 (l .i) x (omega (arith, l .inv .0)) (c .entry-code .ensures) (l .inv .2),
+      rows-more (λ (j y : ℕ). IsCode (prefixAt s j) y) (l .codes) 0 (l .i) x (omega (arith, l .inv .0))
+          (c .entry-code .ensures) (l .inv .2),
     )
 
 returns : tie.Need-returns Inv-loop μ-loop
@@ -45,7 +46,8 @@ returns c =
     let s = c .before .before .args .t1 in
     let l = c .before .loop in
     let few : s .count ≤ ENTRIES = c .before .before .pre .few in
-    let made = codes-made (prefixAt s) (s .count) (l .codes) (omega (arith, l .inv .0)) (λ (j : ℕ) (h : j < s .count). l .inv .2 j (omega arith)) in
+    let made = codes-made (prefixAt s) (s .count) (l .codes) (omega (arith, l .inv .0))
+    (λ (j : ℕ) (h : j < s .count). l .inv .2 j (omega arith)) in
     (l .inv .0, rw (prefixes-at s) made)
 
 pub codes-of-spec : {M : Type 1} → statement M

@@ -10,7 +10,8 @@ returns : tie.Need-returns
 returns c =
     let at = c .before in
     let a = at .before .before .args in
-    find-coded (a .codes .now) (take (a .length) (a .prefix)) (at .code-of .result) (at .code-of .ensures) (c .find .result) (c .find .ensures)
+    find-coded (a .codes .now) (take (a .length) (a .prefix)) (at .code-of .result) (at .code-of .ensures)
+    (c .find .result) (c .find .ensures)
 
 pub find-prefix-spec : {M : Type 1} → statement M
 find-prefix-spec = tie.close (tie.spec (λ c κs. search needs) (λ c κs. search needs) returns)

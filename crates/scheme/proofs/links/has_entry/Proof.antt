@@ -12,14 +12,18 @@ enum-told c = search needs
 
 returns : tie.Need-returns
 returns c =
-    let f = c .before .before .find-prefix in
-    let a = c .before .before .before .before .args in
+    let at-find-prefix = c .before .before in
+    let start = at-find-prefix .before .before in
+    let f = at-find-prefix .find-prefix in
+    let a = start .args in
     λ ps w. sym (at-listed ps (take (a .length) (a .prefix)) (f .result) (f .ensures ps w) _ (c .enum-told .given .1))
 
 returns-2 : tie.Need-returns-2
 returns-2 c =
-    let f = c .before .before .find-prefix in
-    let a = c .before .before .before .before .args in
+    let at-find-prefix = c .before .before in
+    let start = at-find-prefix .before .before in
+    let f = at-find-prefix .find-prefix in
+    let a = start .args in
     λ ps w. sym (nothing-listed ps (take (a .length) (a .prefix)) (f .result) (f .ensures ps w) (c .enum-told2 .given .1))
 
 pub has-entry-spec : {M : Type 1} → statement M

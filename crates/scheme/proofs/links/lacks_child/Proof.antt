@@ -22,7 +22,8 @@ childless-requires c κs =
     let e = start .args .e in
     let six : length (e .prefix) ≡ PREFIX = search needs in
     let short : e .length ≤ PREFIX = start .pre .short in
-    let perm : isPerm (take (e .length) (e .prefix)) ≡ true = ap isPerm (sym (padded-within (e .length) (e .prefix) (omega arith))) ∙ start .pre .perm in
+    let perm : isPerm (take (e .length) (e .prefix)) ≡ true =
+    ap isPerm (sym (padded-within (e .length) (e .prefix) (omega arith))) ∙ start .pre .perm in
     (short, perm)
 
 returns : tie.Need-returns
@@ -31,7 +32,8 @@ returns c =
     let e = start .args .e in
     let six : length (e .prefix) ≡ PREFIX = search needs in
     let short : e .length ≤ PREFIX = start .pre .short in
-    λ ps w. c .childless .ensures ps w ∙ sym (expand-child ps (e .prefix) (e .length) (e .rule) (omega arith) (c .before .enum-told .given .1))
+    λ ps w. c .childless .ensures ps w ∙ sym (expand-child ps (e .prefix) (e .length) (e .rule) (omega arith)
+    (c .before .enum-told .given .1))
 
 returns-2 : tie.Need-returns-2
 returns-2 c = λ ps w. search needs

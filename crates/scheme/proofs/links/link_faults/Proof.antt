@@ -34,7 +34,8 @@ targetRest s n i = faultOf (first-from NoTarget (noTarget s) (entryAt s) n i)
 
 abbrev Inv-loop : tie.InvT-loop
 Inv-loop codes s n child₀ target₀ i₀ child target i =
-    (faultOf (childTest (schemeIn s)) ≡ orElse child (childRest s n i)) × (faultOf (targetTest (schemeIn s)) ≡ orElse target (targetRest s n i))
+    (faultOf (childTest (schemeIn s)) ≡ orElse child (childRest s n i)) ×
+    (faultOf (targetTest (schemeIn s)) ≡ orElse target (targetRest s n i))
 
 abbrev μ-loop : tie.MeasureT-loop
 μ-loop codes s n child₀ target₀ i₀ child target i = n - i
@@ -68,13 +69,15 @@ loop-again c =
           (first-step (entryAt s) (s .count) Childless (noChild s)) (faultOf (childTest (schemeIn s))) (l .i) (l .child) (n .noted .result)
           (d .lacks-child .result) h (l .inv .0) (d .lacks-child .ensures (prefixesIn s) w) (n .noted .ensures),
       noted-more NoTarget (λ i. noTarget s (entryAt s i)) (s .count) (first-from NoTarget (noTarget s) (entryAt s) (s .count))
-          (first-step (entryAt s) (s .count) NoTarget (noTarget s)) (faultOf (targetTest (schemeIn s))) (l .i) (l .target) (c .noted2 .result)
+          (first-step (entryAt s) (s .count) NoTarget (noTarget s)) (faultOf (targetTest (schemeIn s))) (l .i)
+          (l .target) (c .noted2 .result)
           (t .lacks-target .result) h (l .inv .1) (t .lacks-target .ensures (prefixesIn s) w) (c .noted2 .ensures),
     )
 
 returns : tie.Need-returns Inv-loop μ-loop
 returns c =
-    let s = c .before .before .before .args .t1 in
+    let start = c .before .before .before in
+    let s = start .args .t1 in
     let l = c .before .loop in (
       noted-end (l .child) (faultOf (childTest (schemeIn s))) (first-from Childless (noChild s) (entryAt s) (s .count) (l .i))
           (first-end Childless (noChild s) (entryAt s) (s .count) (l .i) (omega arith)) (l .inv .0),

@@ -17,28 +17,34 @@ use Rattle.scheme.proofs.links.shorter.Statement.{statement}
 use Rattle.scheme.proofs.links.shorter.Tie as tie
 
 abbrev Inv-loop : tie.InvT-loop
-Inv-loop k r prefix at v digits₀ j₀ digits j = (take j digits ≡ take j (deleted (r ∷ []) (take k prefix))) × (length digits ≡ PREFIX) × (j ≤ k - 1)
+Inv-loop k r prefix at v digits₀ j₀ digits j = (take j digits ≡ take j (deleted (r ∷ []) (take k prefix))) ×
+    (length digits ≡ PREFIX) × (j ≤ k - 1)
 
 abbrev μ-loop : tie.MeasureT-loop
 μ-loop k r prefix at v digits₀ j₀ digits j = k - 1 - j
 
 lowered-requires : tie.Need-lowered-requires Inv-loop μ-loop
 lowered-requires c κs =
-    let a = c .before .before .before .args in
-    let j = c .before .before .loop .j in
+    let at-loop = c .before .before in
+    let start = at-loop .before in
+    let a = start .args in
+    let j = at-loop .loop .j in
     let six : length (a .t1) ≡ PREFIX = search needs in
     let inside : bump (a .r - 1) j < a .k = bump-inside (a .r - 1) j (a .k) (omega arith) in
-    omega (arith, c .kept .ensures, digit-bounds (a .t1) (a .k) (bump (a .r - 1) j) (c .before .before .before .pre .3) (omega arith) inside)
+    omega (arith, c .kept .ensures, digit-bounds (a .t1) (a .k) (bump (a .r - 1) j) (start .pre .3) (omega arith) inside)
 
 loop-again : tie.Need-loop-again Inv-loop μ-loop
 loop-again c =
-    let a = c .before .before .before .before .args in
-    let l = c .before .before .before .loop in
-    let h = c .before .before .before .before .pre in
+    let at-loop = c .before .before .before in
+    let start = at-loop .before in
+    let a = start .args in
+    let l = at-loop .loop in
+    let h = start .pre in
     let six : length (a .t1) ≡ PREFIX = search needs in
     let value : c .lowered .result ≡ unbump (getD (a .t1) (a .r - 1) 0) (getD (a .t1) (bump (a .r - 1) (l .j)) 0) =
     c .lowered .ensures ∙ ap (unbump (getD (a .t1) (a .r - 1) 0)) (c .before .kept .ensures) in (
-      shorter-more (a .t1) (a .k) (a .r) (h .3) (h .0) (h .1) (omega arith) (l .digits) (l .j) (c .lowered .result) (omega arith) (omega arith) value (l .inv .0),
+      shorter-more (a .t1) (a .k) (a .r) (h .3) (h .0) (h .1) (omega arith) (l .digits) (l .j) (c .lowered .result)
+          (omega arith) (omega arith) value (l .inv .0),
       length-set (l .digits) (l .j) (c .lowered .result) ∙ l .inv .1,
       omega arith,
     )

@@ -17,16 +17,17 @@ abbrev μ-loop : tie.MeasureT-loop
 
 loop-again : tie.Need-loop-again Inv-loop μ-loop
 loop-again c =
-    let sum = c .pascal-sum in
     let at = c .before .before .before in
+    let sum = c .pascal-sum in
     let l = at .loop in
     let a = at .before .before .args in
     (omega arith, pascal-more (a .n) (l .k) (sum .result) (l .b) (omega arith) (omega arith) (sum .ensures) (l .inv .1))
 
 returns : tie.Need-returns Inv-loop μ-loop
 returns c =
+    let start = c .before .before .before in
     let l = c .before .loop in
-    pascal-next (c .before .before .before .args .n) (l .k) (l .b) (omega arith) (l .inv .1)
+    pascal-next (start .args .n) (l .k) (l .b) (omega arith) (l .inv .1)
 
 pub fill-row-spec : {M : Type 1} → statement M
 fill-row-spec =

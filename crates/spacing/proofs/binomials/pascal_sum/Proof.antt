@@ -27,8 +27,9 @@ returns-2 c =
 
 add-result : tie.Need-add-result
 add-result c =
-    let a = c .before .before .before .before .args in
-    let p = c .before .before .before .before .pre .2 in
+    let start = c .before .before .before .before in
+    let a = start .args in
+    let p = start .pre .2 in
     let m = a .n - 1 in
     let o : COLUMNS * (a .n - 1) + (a .k) - 1 ≡ COLUMNS * (a .n - 1) + (a .k - 1) = omega arith in
     let l = ap (λ i. getD (a .b .now) i 0) o ∙ p .rows (a .n - 1) (a .k - 1) (omega arith) (omega arith) in
@@ -37,8 +38,9 @@ add-result c =
 
 returns-3 : tie.Need-returns-3
 returns-3 c =
-    let a = c .before .before .before .before .args in
-    let p = c .before .before .before .before .pre .2 in
+    let start = c .before .before .before .before in
+    let a = start .args in
+    let p = start .pre .2 in
     let o : COLUMNS * (a .n - 1) + (a .k) - 1 ≡ COLUMNS * (a .n - 1) + (a .k - 1) = omega arith in
     let l = ap (λ i. getD (a .b .now) i 0) o ∙ p .rows (a .n - 1) (a .k - 1) (omega arith) (omega arith) in
     let r = p .rows (a .n - 1) (a .k) (omega arith) (omega arith) in

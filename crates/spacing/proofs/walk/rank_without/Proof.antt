@@ -23,66 +23,95 @@ loop-holds c =
     let a = c .before .before .args in
     let seven : length (a .t1) ≡ COMPONENTS = (let o = c .before .before in search needs) in
     let s = length-take-le (a .k + 1) (a .t1) (omega arith) in
-    let z : c .wide .result ≡ getD (take (a .k + 1) (a .t1)) 0 0 = c .wide .ensures .0 ∙ sym (getD-take (a .k + 1) (a .t1) 0 0 (omega arith)) in
+    let z : c .wide .result ≡ getD (take (a .k + 1) (a .t1)) 0 0 = c .wide .ensures .0 ∙
+    sym (getD-take (a .k + 1) (a .t1) 0 0 (omega arith)) in
     rw z (walk-start (take (a .k + 1) (a .t1)) (a .k) (a .v) (a .start) s (c .before .before .pre .2))
 
 add-z : tie.Need-add-z Inv-loop μ-loop
 add-z c =
-    let a = c .before .before .before .before .before .before .args in
-    let l = c .before .before .before .loop in
-    let seven : length (a .t1) ≡ COMPONENTS = (let o = c .before .before .before .before .before .before in search needs) in
+    let at-wide2 = c .before in
+    let at-loop = at-wide2 .before .before in
+    let start = at-loop .before .before .before in
+    let a = start .args in
+    let l = at-loop .loop in
+    let seven : length (a .t1) ≡ COMPONENTS = (let o = start in search needs) in
     let s = length-take-le (a .k + 1) (a .t1) (omega arith) in
     omega (
       arith,
-      next-small (take (a .k + 1) (a .t1)) (a .k) (a .v) (a .start) s (l .z) (l .count) (l .rank) (l .t) (l .inv) (omega arith) (c .before .wide2 .result)
-          (c .before .wide2 .ensures .0 ∙ sym (getD-take (a .k + 1) (a .t1) (l .t) 0 (omega arith))),
+      next-small (take (a .k + 1) (a .t1)) (a .k) (a .v) (a .start) s (l .z) (l .count) (l .rank) (l .t) (l .inv)
+          (omega arith) (at-wide2 .wide2 .result)
+          (at-wide2 .wide2 .ensures .0 ∙ sym (getD-take (a .k + 1) (a .t1) (l .t) 0 (omega arith))),
     )
 
 loop-again : tie.Need-loop-again Inv-loop μ-loop
 loop-again c =
-    let a = c .before .before .before .before .before .before .args in
-    let l = c .before .before .before .loop in
-    let seven : length (a .t1) ≡ COMPONENTS = (let o = c .before .before .before .before .before .before in search needs) in
+    let at-wide2 = c .before in
+    let at-loop = at-wide2 .before .before in
+    let start = at-loop .before .before .before in
+    let a = start .args in
+    let l = at-loop .loop in
+    let seven : length (a .t1) ≡ COMPONENTS = (let o = start in search needs) in
     let s = length-take-le (a .k + 1) (a .t1) (omega arith) in
-    walk-leave (take (a .k + 1) (a .t1)) (a .k) (a .v) (a .start) s (l .z) (l .count) (l .rank) (l .t) (l .inv) (omega arith) (c .before .wide2 .result)
-    (c .before .wide2 .ensures .0 ∙ sym (getD-take (a .k + 1) (a .t1) (l .t) 0 (omega arith))) (c .if1 .taken)
+    walk-leave (take (a .k + 1) (a .t1)) (a .k) (a .v) (a .start) s (l .z) (l .count) (l .rank) (l .t) (l .inv)
+    (omega arith) (at-wide2 .wide2 .result)
+    (at-wide2 .wide2 .ensures .0 ∙ sym (getD-take (a .k + 1) (a .t1) (l .t) 0 (omega arith))) (c .if1 .taken)
 
 choose-requires : tie.Need-choose-requires Inv-loop μ-loop
 choose-requires c κs =
-    let l = c .before .before .before .loop in
-    (omega (arith, l .inv .fits), omega (arith, l .inv .counted, l .inv .high, c .before .before .before .before .before .before .pre .1, c .before .before .before .before .before .before .pre .0), c .before .before .before .before .before .before .pre .3)
+    let at-loop = c .before .before .before in
+    let start = at-loop .before .before .before in
+    let l = at-loop .loop in
+    (omega (arith, l .inv .fits), omega (arith, l .inv .counted, l .inv .high, start .pre .1, start .pre .0), start .pre .3)
 
 add-rank : tie.Need-add-rank Inv-loop μ-loop
 add-rank c =
-    let l = c .before .before .before .before .loop in
-    omega (arith, c .choose .ensures, binomial-small (l .z) (l .count + 1) (omega (arith, l .inv .fits)), l .inv .small, l .inv .high, c .before .before .before .before .before .before .before .pre .0)
+    let at-loop = c .before .before .before .before in
+    let start = at-loop .before .before .before in
+    let l = at-loop .loop in
+    omega (
+      arith,
+      c .choose .ensures,
+      binomial-small (l .z) (l .count + 1) (omega (arith, l .inv .fits)),
+      l .inv .small,
+      l .inv .high,
+      start .pre .0,
+    )
 
 add-z-3 : tie.Need-add-z-3 Inv-loop μ-loop
 add-z-3 c =
-    let a = c .before .before .before .before .before .before .before .args in
-    let l = c .before .before .before .before .loop in
-    let seven : length (a .t1) ≡ COMPONENTS = (let o = c .before .before .before .before .before .before .before in search needs) in
+    let at-wide2 = c .before .before in
+    let at-loop = at-wide2 .before .before in
+    let start = at-loop .before .before .before in
+    let a = start .args in
+    let l = at-loop .loop in
+    let seven : length (a .t1) ≡ COMPONENTS = (let o = start in search needs) in
     let s = length-take-le (a .k + 1) (a .t1) (omega arith) in
     omega (
       arith,
-      next-small (take (a .k + 1) (a .t1)) (a .k) (a .v) (a .start) s (l .z) (l .count) (l .rank) (l .t) (l .inv) (omega arith) (c .before .before .wide2 .result)
-          (c .before .before .wide2 .ensures .0 ∙ sym (getD-take (a .k + 1) (a .t1) (l .t) 0 (omega arith))),
+      next-small (take (a .k + 1) (a .t1)) (a .k) (a .v) (a .start) s (l .z) (l .count) (l .rank) (l .t) (l .inv)
+          (omega arith) (at-wide2 .wide2 .result)
+          (at-wide2 .wide2 .ensures .0 ∙ sym (getD-take (a .k + 1) (a .t1) (l .t) 0 (omega arith))),
     )
 
 loop-again-2 : tie.Need-loop-again-2 Inv-loop μ-loop
 loop-again-2 c =
-    let a = c .before .before .before .before .before .before .before .args in
-    let l = c .before .before .before .before .loop in
-    let seven : length (a .t1) ≡ COMPONENTS = (let o = c .before .before .before .before .before .before .before in search needs) in
+    let at-wide2 = c .before .before in
+    let at-loop = at-wide2 .before .before in
+    let start = at-loop .before .before .before in
+    let a = start .args in
+    let l = at-loop .loop in
+    let seven : length (a .t1) ≡ COMPONENTS = (let o = start in search needs) in
     let s = length-take-le (a .k + 1) (a .t1) (omega arith) in
-    walk-keep (take (a .k + 1) (a .t1)) (a .k) (a .v) (a .start) s (l .z) (l .count) (l .rank) (l .t) (l .inv) (omega arith) (c .before .before .wide2 .result) (c .choose .result)
-    (c .before .before .wide2 .ensures .0 ∙ sym (getD-take (a .k + 1) (a .t1) (l .t) 0 (omega arith))) (c .choose .ensures) (c .before .if1 .left)
+    walk-keep (take (a .k + 1) (a .t1)) (a .k) (a .v) (a .start) s (l .z) (l .count) (l .rank) (l .t) (l .inv)
+    (omega arith) (at-wide2 .wide2 .result) (c .choose .result)
+    (at-wide2 .wide2 .ensures .0 ∙ sym (getD-take (a .k + 1) (a .t1) (l .t) 0 (omega arith))) (c .choose .ensures) (c .before .if1 .left)
 
 returns : tie.Need-returns Inv-loop μ-loop
 returns c =
-    let a = c .before .before .before .before .args in
+    let start = c .before .before .before .before in
+    let a = start .args in
     let l = c .before .loop in
-    let seven : length (a .t1) ≡ COMPONENTS = (let o = c .before .before .before .before in search needs) in
+    let seven : length (a .t1) ≡ COMPONENTS = (let o = start in search needs) in
     let s = length-take-le (a .k + 1) (a .t1) (omega arith) in (
       walk-end (take (a .k + 1) (a .t1)) (a .k) (a .v) (a .start) s (l .z) (l .count) (l .rank) (l .t) (l .inv) (omega arith),
       omega (arith, l .inv .small, l .inv .high),

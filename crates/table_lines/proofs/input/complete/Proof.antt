@@ -10,7 +10,9 @@ returns : tie.Need-returns
 returns c = rw (eq-eqb (c .before .before .args .lines .«last_length») 0 (c .if1 .taken)) refl
 
 returns-2 : tie.Need-returns-2
-returns-2 c = rw (ne-eqb (c .before .before .before .args .lines .«last_length») 0 (c .before .if1 .left)) refl
+returns-2 c =
+    let start = c .before .before .before in
+    rw (ne-eqb (start .args .lines .«last_length») 0 (c .before .if1 .left)) refl
 
 pub complete-spec : {M : Type 1} → statement M
 complete-spec = tie.close (tie.spec returns returns-2)

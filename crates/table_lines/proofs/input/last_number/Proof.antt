@@ -12,20 +12,26 @@ use Rattle.table_lines.proofs.input.last_number.Statement.{statement}
 use Rattle.table_lines.proofs.input.last_number.Tie as tie
 
 returns : tie.Need-returns
-returns c = let a = c .before .before .before .args in
-    let three : length (a .lines .last) ≡ 3 = (let g = c .before .before .before .good in search needs) in
+returns c =
+    let start = c .before .before .before in
+    let a = start .args in
+    let three : length (a .lines .last) ≡ 3 = (let g = start .good in search needs) in
     c .one-digit .ensures ∙ ap asNumber (memory-one (a .lines .last) three)
     ∙ ap (λ (n : ℕ). asNumber (numberIn (take n (a .lines .last)))) (sym (c .before .if1 .taken))
 
 returns-2 : tie.Need-returns-2
-returns-2 c = let a = c .before .before .before .before .args in
-    let three : length (a .lines .last) ≡ 3 = (let g = c .before .before .before .before .good in search needs) in
+returns-2 c =
+    let start = c .before .before .before .before in
+    let a = start .args in
+    let three : length (a .lines .last) ≡ 3 = (let g = start .good in search needs) in
     c .two-digits .ensures ∙ ap asNumber (memory-two (a .lines .last) three)
     ∙ ap (λ (n : ℕ). asNumber (numberIn (take n (a .lines .last)))) (sym (c .before .if2 .taken))
 
 returns-3 : tie.Need-returns-3
-returns-3 c = let a = c .before .before .before .args in
-    let three : length (a .lines .last) ≡ 3 = (let g = c .before .before .before .good in search needs) in
+returns-3 c =
+    let start = c .before .before .before in
+    let a = start .args in
+    let three : length (a .lines .last) ≡ 3 = (let g = start .good in search needs) in
     ap asNumber (memory-other (a .lines .«last_length») (a .lines .last) three (c .before .if1 .left) (c .if2 .left))
 
 pub last-number-spec : {M : Type 1} → statement M

@@ -16,7 +16,9 @@ returns-2 : tie.Need-returns-2
 returns-2 c = sym (ap asNumber (one-misspelt (c .before .before .args .a) (above-digits (c .before .before .args .a) (omega arith))))
 
 returns-3 : tie.Need-returns-3
-returns-3 c = ap Is (c .wide .ensures .0) ∙ sym (ap asNumber (one-spelt (c .before .before .before .args .a) (omega arith) (omega arith)))
+returns-3 c =
+    let start = c .before .before .before in
+    ap Is (c .wide .ensures .0) ∙ sym (ap asNumber (one-spelt (start .args .a) (omega arith) (omega arith)))
 
 pub one-digit-spec : {M : Type 1} → statement M
 one-digit-spec = tie.close (tie.spec returns returns-2 (λ c κs. search needs) returns-3)

@@ -15,18 +15,26 @@ returns : tie.Need-returns
 returns c = sym (ap asNumber (leading-zero (c .before .args .a) (c .before .args .b) (omega arith)))
 
 returns-2 : tie.Need-returns-2
-returns-2 c = sym (ap asNumber (first-misspelt (c .before .before .args .a) (c .before .before .args .b) (above-digits (c .before .before .args .a) (omega arith))))
+returns-2 c = sym
+    (ap asNumber (first-misspelt (c .before .before .args .a) (c .before .before .args .b)
+    (above-digits (c .before .before .args .a) (omega arith))))
 
 returns-3 : tie.Need-returns-3
-returns-3 c = let a = c .before .before .before .args in
+returns-3 c =
+    let start = c .before .before .before in
+    let a = start .args in
     sym (ap asNumber (second-misspelt (a .a) (a .b) (omega arith) (omega arith) (below-digits (a .b) (omega arith))))
 
 returns-4 : tie.Need-returns-4
-returns-4 c = let a = c .before .before .before .before .args in
+returns-4 c =
+    let start = c .before .before .before .before in
+    let a = start .args in
     sym (ap asNumber (second-misspelt (a .a) (a .b) (omega arith) (omega arith) (above-digits (a .b) (omega arith))))
 
 returns-5 : tie.Need-returns-5
-returns-5 c = let a = c .before .before .before .before .before .before .args in
+returns-5 c =
+    let start = c .before .before .before .before .before .before in
+    let a = start .args in
     ap Is (ap₂ (λ (x y : ℕ). x * 10 + y) (c .before .wide .ensures .0) (c .wide2 .ensures .0))
     ∙ sym (ap asNumber (two-spelt (a .a) (a .b) (omega arith) (omega arith) (omega arith) (omega arith)))
 

@@ -20,14 +20,17 @@ after s m = record { state = s; memory = m }
 returns : tie.Need-returns
 unfolding takenOf
 returns c =
-    let a = c .before .before .before .before .before .before .before .before .before .before .before .before .before .args in
-    let count = c .before .before .before .before .before .before .before .before .before .count in
+    let at-keep = c .before .before .before .before .before in
+    let at-count = at-keep .before .before .before .before in
+    let start = at-count .before .before .before .before in
+    let a = start .args in
+    let count = at-count .count in
     let before = memoryOf (a .lines) (a .set .now) (a .scheme .now) in
     let same : toZ w64 (ofZ w64 (a .got)) ≡ a .got = search needs in
     let error : toZ w32 (ofZ w32 (a .error)) ≡ a .error = search needs in
     ap₂ after
     (c .state-after .ensures ∙ ap₂ stateAfter same error)
-    (c .before .before .before .before .before .keep .ensures
+    (at-keep .keep .ensures
     ∙ ap (λ (n : ℕ). keptOn before (take n (a .chunk .now))) (count .ensures .1)
     ∙ ap (λ (z : ℤ). keptOn before (bytesGot (a .chunk .now) z)) same)
 

@@ -12,45 +12,70 @@ use Rattle.table_print.proofs.printing.print.Tie as tie
 
 returns : tie.Need-returns
 returns c =
-    let a = c .before .before .before .before .before .before .before .before .before .args in
+    let at-put-refusal = c .before .before in
+    let at-if1 = at-put-refusal .before .before in
+    let at-complete = at-if1 .before in
+    let start = at-complete .before .before .before .before in
+    let a = start .args in
     let memory = memoryOf (a .lines) (a .set .now) (a .scheme .now) in
-    let put = c .before .before .put-refusal .ensures in
-    let t = c .before .before .before .before .before .complete in
-    let gone = sym (t .ensures) ∙ not-true (t .result) (c .before .before .before .before .if1 .taken) in
+    let put = at-put-refusal .put-refusal .ensures in
+    let t = at-complete .complete in
+    let gone = sym (t .ensures) ∙ not-true (t .result) (at-if1 .if1 .taken) in
     prints memory _ _ _ (writes-as (put .0) (missing-text memory gone)) (put .1)
 
 returns-2 : tie.Need-returns-2
 returns-2 c =
-    let a = c .before .before .before .before .before .before .before .before .before .before .before .before .before .args in
+    let at-put-fault = c .before .before in
+    let at-if2 = at-put-fault .before .before in
+    let at-is-fault = at-if2 .before in
+    let at-fault-of = at-is-fault .before in
+    let at-judge-lines = at-fault-of .before in
+    let at-if1 = at-judge-lines .before in
+    let at-complete = at-if1 .before in
+    let start = at-complete .before .before .before .before in
+    let a = start .args in
     let memory = memoryOf (a .lines) (a .set .now) (a .scheme .now) in
-    let f = c .before .before .before .before .before .before .fault-of in
-    let j = c .before .before .before .before .before .before .before .judge-lines in
-    let put = c .before .before .put-fault .ensures in
-    let t = c .before .before .before .before .before .before .before .before .before .complete in
-    let there = sym (t .ensures) ∙ not-false (t .result) (c .before .before .before .before .before .before .before .before .if1 .left) in
-    let h = sym (c .before .before .before .before .before .is-fault .ensures) ∙ c .before .before .before .before .if2 .taken in
+    let f = at-fault-of .fault-of in
+    let j = at-judge-lines .judge-lines in
+    let put = at-put-fault .put-fault .ensures in
+    let t = at-complete .complete in
+    let there = sym (t .ensures) ∙ not-false (t .result) (at-if1 .if1 .left) in
+    let h = sym (at-is-fault .is-fault .ensures) ∙ at-if2 .if2 .taken in
     prints memory _ _ _ (writes-as (put .0) (refused-text memory there (j .result) (j .ensures) (f .result) (f .ensures) h)) (put .1)
 
 put-number-requires : tie.Need-put-number-requires
 put-number-requires c κs =
-    let f = c .before .before .before .before .fault-of in
-    let j = c .before .before .before .before .before .judge-lines in
+    let at-if2 = c .before .before in
+    let at-is-fault = at-if2 .before in
+    let at-fault-of = at-is-fault .before in
+    let at-judge-lines = at-fault-of .before in
+    let f = at-fault-of .fault-of in
+    let j = at-judge-lines .judge-lines in
     accepted-lists _ _ (j .result) (j .ensures) (f .result) (f .ensures)
-    (not-faulty (f .result) (sym (c .before .before .before .is-fault .ensures) ∙ c .before .before .if2 .left))
+    (not-faulty (f .result) (sym (at-is-fault .is-fault .ensures) ∙ at-if2 .if2 .left))
 
 returns-3 : tie.Need-returns-3
 returns-3 c =
-    let a = c .before .before .before .before .before .before .before .before .before .before .before .before .before .before .args in
+    let at-put-number = c .before .before in
+    let at-last-number = at-put-number .before .before in
+    let at-if2 = at-last-number .before in
+    let at-is-fault = at-if2 .before in
+    let at-fault-of = at-is-fault .before in
+    let at-judge-lines = at-fault-of .before in
+    let at-if1 = at-judge-lines .before in
+    let at-complete = at-if1 .before in
+    let start = at-complete .before .before .before .before in
+    let a = start .args in
     let memory = memoryOf (a .lines) (a .set .now) (a .scheme .now) in
-    let f = c .before .before .before .before .before .before .before .fault-of in
-    let j = c .before .before .before .before .before .before .before .before .judge-lines in
-    let m = c .before .before .before .before .last-number in
-    let put = c .before .before .put-number .ensures in
-    let t = c .before .before .before .before .before .before .before .before .before .before .complete in
-    let complete = c .before .before .before .before .before .before .before .before .before .if1 .left in
+    let f = at-fault-of .fault-of in
+    let j = at-judge-lines .judge-lines in
+    let m = at-last-number .last-number in
+    let put = at-put-number .put-number .ensures in
+    let t = at-complete .complete in
+    let complete = at-if1 .if1 .left in
     let there = sym (t .ensures) ∙ not-false (t .result) complete in
-    let test = c .before .before .before .before .before .before .is-fault in
-    let found = not-faulty (f .result) (sym (test .ensures) ∙ c .before .before .before .before .before .if2 .left) in
+    let test = at-is-fault .is-fault in
+    let found = not-faulty (f .result) (sym (test .ensures) ∙ at-if2 .if2 .left) in
     prints memory _ _ _
     (writes-as (put .0)
     (accepted-text memory there (j .result) (j .ensures) (f .result) (f .ensures) found (m .result) (m .ensures))) (put .1)

@@ -8,17 +8,23 @@ enum-told : tie.Need-enum-told
 enum-told c = search needs
 
 put-table-requires : tie.Need-put-table-requires
-put-table-requires c κs = c .before .before .before .before .before .before .before .pre
+put-table-requires c κs =
+    let start = c .before .before .before .before .before .before .before in
+    start .pre
 
 returns : tie.Need-returns
 returns c =
-    let put = c .before .before .put-refusal .ensures in
-    (rw (c .before .before .before .before .enum-told .given .1) (put .0), put .1)
+    let at-put-refusal = c .before .before in
+    let at-enum-told = at-put-refusal .before .before in
+    let put = at-put-refusal .put-refusal .ensures in
+    (rw (at-enum-told .enum-told .given .1) (put .0), put .1)
 
 returns-2 : tie.Need-returns-2
 returns-2 c =
-    let put = c .before .before .put-table .ensures in
-    (rw (c .before .before .before .before .before .number .given .1) (put .0), put .1)
+    let at-put-table = c .before .before in
+    let at-number = at-put-table .before .before .before in
+    let put = at-put-table .put-table .ensures in
+    (rw (at-number .number .given .1) (put .0), put .1)
 
 pub put-number-spec : {M : Type 1} → statement M
 put-number-spec =

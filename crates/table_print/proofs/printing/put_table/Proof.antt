@@ -27,41 +27,62 @@ table-fault-requires c κs =
 
 returns : tie.Need-returns
 returns c =
-    let a = c .before .before .before .before .before .before .before .before .args in
+    let at-put-fault = c .before .before in
+    let at-if1 = at-put-fault .before .before in
+    let at-is-fault = at-if1 .before in
+    let at-table-fault = at-is-fault .before in
+    let start = at-table-fault .before .before in
+    let a = start .args in
     let P = patternsIn (a .patterns) in
     let E = schemeIn (a .scheme) in
-    let f = c .before .before .before .before .before .before .table-fault in
-    let put = c .before .before .put-fault .ensures in
-    let h = sym (c .before .before .before .before .before .is-fault .ensures) ∙ c .before .before .before .before .if1 .taken in
+    let f = at-table-fault .table-fault in
+    let put = at-put-fault .put-fault .ensures in
+    let h = sym (at-is-fault .is-fault .ensures) ∙ at-if1 .if1 .taken in
     let text = bfileText (map (countOf P E) (row 0 (suc (a .n)))) in
     (writes-as (put .0) (only-line (f .result) text h ∙ ap (λ (x : Fault). printedOr x text) (f .ensures)), put .1)
 
 all-counts-requires : tie.Need-all-counts-requires
 all-counts-requires c κs =
-    let a = c .before .before .before .before .before .args in
-    let q = c .before .before .before .before .before .pre in
-    let f = c .before .before .before .table-fault in
-    let good = table-good (schemeIn (a .scheme)) (a .n) CELLS (sym (f .ensures) ∙ not-faulty (f .result) (sym (c .before .before .is-fault .ensures) ∙ c .before .if1 .left)) in
+    let at-is-fault = c .before .before in
+    let at-table-fault = at-is-fault .before in
+    let start = at-table-fault .before .before in
+    let a = start .args in
+    let q = start .pre in
+    let f = at-table-fault .table-fault in
+    let good = table-good (schemeIn (a .scheme)) (a .n) CELLS
+    (sym (f .ensures) ∙ not-faulty (f .result) (sym (at-is-fault .is-fault .ensures) ∙ c .before .if1 .left)) in
     (good .0, q .formed, q .claims, good .1)
 
 put-counts-requires : tie.Need-put-counts-requires
 put-counts-requires c κs =
-    let a = c .before .before .before .before .before .before .before .before .args in
-    let f = c .before .before .before .before .before .before .table-fault in
-    table-good (schemeIn (a .scheme)) (a .n) CELLS (sym (f .ensures) ∙ not-faulty (f .result) (sym (c .before .before .before .before .before .is-fault .ensures) ∙ c .before .before .before .before .if1 .left)) .0
+    let at-if1 = c .before .before .before .before in
+    let at-is-fault = at-if1 .before in
+    let at-table-fault = at-is-fault .before in
+    let start = at-table-fault .before .before in
+    let a = start .args in
+    let f = at-table-fault .table-fault in
+    table-good (schemeIn (a .scheme)) (a .n) CELLS (sym (f .ensures) ∙ not-faulty (f .result)
+    (sym (at-is-fault .is-fault .ensures) ∙ at-if1 .if1 .left)) .0
 
 returns-2 : tie.Need-returns-2
 returns-2 c =
-    let a = c .before .before .before .before .before .before .before .before .before .before .before .args in
+    let at-put-counts = c .before .before in
+    let at-all-counts = at-put-counts .before .before .before in
+    let at-if1 = at-all-counts .before .before in
+    let at-is-fault = at-if1 .before in
+    let at-table-fault = at-is-fault .before in
+    let start = at-table-fault .before .before in
+    let a = start .args in
     let P = patternsIn (a .patterns) in
     let E = schemeIn (a .scheme) in
-    let f = c .before .before .before .before .before .before .before .before .before .table-fault in
-    let none = sym (f .ensures) ∙ not-faulty (f .result) (sym (c .before .before .before .before .before .before .before .before .is-fault .ensures) ∙ c .before .before .before .before .before .before .before .if1 .left) in
+    let f = at-table-fault .table-fault in
+    let none = sym (f .ensures) ∙ not-faulty (f .result) (sym (at-is-fault .is-fault .ensures) ∙ at-if1 .if1 .left) in
     let good = table-good E (a .n) CELLS none in
-    let all = c .before .before .before .before .before .all-counts in
-    let put = c .before .before .put-counts .ensures in
+    let all = at-all-counts .all-counts in
+    let put = at-put-counts .put-counts .ensures in
     let text : lengthText P E (a .n) ≡ bfileText (take (a .n + 1) (all .result)) =
-    ap (λ (x : Fault). printedOr x (bfileText (map (countOf P E) (row 0 (suc (a .n)))))) none ∙ ap bfileText (sym (counts-taken P E (a .n) (all .result) (good .0) (all .ensures .0))) in
+    ap (λ (x : Fault). printedOr x (bfileText (map (countOf P E) (row 0 (suc (a .n)))))) none ∙
+    ap bfileText (sym (counts-taken P E (a .n) (all .result) (good .0) (all .ensures .0))) in
     (rw text (put .0), put .1)
 
 pub put-table-spec : {M : Type 1} → statement M

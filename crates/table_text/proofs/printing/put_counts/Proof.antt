@@ -13,7 +13,8 @@ use Rattle.table_text.proofs.printing.put_counts.Tie as tie
 
 abbrev Inv-loop : tie.InvT-loop
 Inv-loop page₀ n counts next₀ i₀ page next i =
-    (i ≤ n + 1) × (next ≤ LINE * i) × ToCome (bfileText (take (n + 1) counts)) 0 page₀ (countLines i (drop i (take (n + 1) counts))) next page
+    (i ≤ n + 1) × (next ≤ LINE * i) × ToCome (bfileText (take (n + 1) counts)) 0 page₀
+    (countLines i (drop i (take (n + 1) counts))) next page
 
 abbrev μ-loop : tie.MeasureT-loop
 μ-loop page₀ n counts next₀ i₀ page next i = n + 1 - i
@@ -23,10 +24,13 @@ loop-holds c = (omega arith, omega arith, start _ _ _)
 
 loop-again : tie.Need-loop-again Inv-loop μ-loop
 loop-again c =
-    let a = c .before .before .before .before .before .before .before .args in
-    let l = c .before .before .before .before .before .loop in
+    let at-put-line = c .before .before in
+    let at-loop = at-put-line .before .before .before in
+    let start = at-loop .before .before in
+    let a = start .args in
+    let l = at-loop .loop in
     let inside : a .n < length (a .t2) = search needs in
-    let w = c .before .before .put-line .ensures in
+    let w = at-put-line .put-line .ensures in
     (omega arith, omega (arith, w .1), step (again (l .inv .2) (lines-step (a .t2) (a .n) inside (l .i) (omega arith))) (w .0))
 
 same-length : tie.Need-same-length Inv-loop μ-loop
@@ -34,7 +38,8 @@ same-length c = same-size (c .before .loop .inv .2)
 
 returns : tie.Need-returns Inv-loop μ-loop
 returns c =
-    let a = c .before .before .before .args in
+    let start = c .before .before .before in
+    let a = start .args in
     let l = c .before .loop in
     let inside : a .n < length (a .t2) = search needs in
     (finish (again (l .inv .2) (lines-end (a .t2) (a .n) inside (l .i) (omega arith))), omega arith)

@@ -8,13 +8,28 @@ use Rattle.text_gaps.proofs.gap_reader.gap_at.Statement.{statement}
 use Rattle.text_gaps.proofs.gap_reader.gap_at.Tie as tie
 
 returns : tie.Need-returns
-returns c = vector-none (c .before .before .before .before .before .before .args .s .now) (c .before .before .before .before .before .before .args .c .at) (c .before .before .before .before .step .result) (c .before .before .before .before .step .ensures) (sym (c .before .before .is-left .ensures) ∙ not-true _ (c .before .if1 .taken)) (c .no-gap .result)
+returns c =
+    let at-is-left = c .before .before in
+    let at-step = at-is-left .before .before in
+    let start = at-step .before .before in
+    vector-none (start .args .s .now) (start .args .c .at) (at-step .step .result) (at-step .step .ensures)
+    (sym (at-is-left .is-left .ensures) ∙ not-true _ (c .before .if1 .taken)) (c .no-gap .result)
 
 parts-at-requires : tie.Need-parts-at-requires
-parts-at-requires c κs = left-within (c .before .before .before .before .before .args .s .now) (c .before .before .before .before .before .args .c .at) (c .before .before .before .step .result) (c .before .before .before .step .ensures) (sym (c .before .is-left .ensures) ∙ not-false _ (c .if1 .left))
+parts-at-requires c κs =
+    let at-step = c .before .before .before in
+    let start = at-step .before .before in
+    left-within (start .args .s .now) (start .args .c .at) (at-step .step .result) (at-step .step .ensures)
+    (sym (c .before .is-left .ensures) ∙ not-false _ (c .if1 .left))
 
 returns-2 : tie.Need-returns-2
-returns-2 c = vector-parts (c .before .before .before .before .before .before .args .s .now) (c .before .before .before .before .before .before .args .c .at) (c .before .before .before .before .step .result) (c .before .before .before .before .step .ensures) (sym (c .before .before .is-left .ensures) ∙ not-false _ (c .before .if1 .left)) (c .parts-at .result) (c .parts-at .ensures)
+returns-2 c =
+    let at-is-left = c .before .before in
+    let at-step = at-is-left .before .before in
+    let start = at-step .before .before in
+    vector-parts (start .args .s .now) (start .args .c .at) (at-step .step .result) (at-step .step .ensures)
+    (sym (at-is-left .is-left .ensures) ∙ not-false _ (c .before .if1 .left)) (c .parts-at .result)
+    (c .parts-at .ensures)
 
 pub gap-at-spec : {M : Type 1} → statement M
 gap-at-spec =

@@ -10,24 +10,59 @@ use Rattle.text_gaps.proofs.gap_reader.number_of.Statement.{statement}
 use Rattle.text_gaps.proofs.gap_reader.number_of.Tie as tie
 
 returns : tie.Need-returns
-returns c = number-empty (run (drop (c .before .before .before .args .from) (c .before .before .before .args .s .now))) (c .no-number .result) (c .no-number .ensures) (sym (c .before .before .before .pre) ∙ c .before .if1 .taken)
+returns c =
+    let start = c .before .before .before in
+    number-empty (run (drop (start .args .from) (start .args .s .now))) (c .no-number .result)
+    (c .no-number .ensures) (sym (start .pre) ∙ c .before .if1 .taken)
 
 returns-2 : tie.Need-returns-2
-returns-2 c = number-long (run (drop (c .before .before .before .before .args .from) (c .before .before .before .before .args .s .now))) (c .no-number2 .result) (c .no-number2 .ensures) (omega (arith, c .before .before .before .before .pre))
+returns-2 c =
+    let start = c .before .before .before .before in
+    number-long (run (drop (start .args .from) (start .args .s .now))) (c .no-number2 .result)
+    (c .no-number2 .ensures) (omega (arith, start .pre))
 
 returns-3 : tie.Need-returns-3
-returns-3 c = number-one (run (drop (c .before .before .before .before .before .args .from) (c .before .before .before .before .before .args .s .now))) (c .before .digit-of .result) (sym (c .before .before .before .before .before .pre) ∙ c .if3 .taken) (c .before .digit-of .ensures)
+returns-3 c =
+    let at-digit-of = c .before in
+    let start = at-digit-of .before .before .before .before in
+    number-one (run (drop (start .args .from) (start .args .s .now))) (at-digit-of .digit-of .result)
+    (sym (start .pre) ∙ c .if3 .taken) (at-digit-of .digit-of .ensures)
 
 returns-4 : tie.Need-returns-4
-returns-4 c = number-zero (run (drop (c .before .before .before .before .before .before .before .args .from) (c .before .before .before .before .before .before .before .args .s .now))) (c .no-number3 .result) (c .before .before .before .digit-of .result) (c .no-number3 .ensures) (omega (arith, c .before .before .before .before .before .before .before .pre, c .before .before .if3 .left, c .before .before .before .before .before .if1 .left)) (c .before .before .before .digit-of .ensures)
+returns-4 c =
+    let at-if3 = c .before .before in
+    let at-digit-of = at-if3 .before in
+    let at-if1 = at-digit-of .before .before in
+    let start = at-if1 .before .before in
+    number-zero (run (drop (start .args .from) (start .args .s .now))) (c .no-number3 .result)
+    (at-digit-of .digit-of .result) (c .no-number3 .ensures)
+    (omega (arith, start .pre, at-if3 .if3 .left, at-if1 .if1 .left)) (at-digit-of .digit-of .ensures)
     (c .before .if4 .taken)
 
 returns-5 : tie.Need-returns-5
-returns-5 c = number-two (run (drop (c .before .before .before .before .before .before .before .before .args .from) (c .before .before .before .before .before .before .before .before .args .s .now))) (c .before .before .before .before .digit-of .result) (c .before .digit-of2 .result) (sym (c .before .before .before .before .before .before .before .before .pre) ∙ c .if5 .taken) (c .before .before .before .before .digit-of .ensures) (omega (arith, c .before .before .if4 .left)) (c .before .digit-of2 .ensures)
+returns-5 c =
+    let at-digit-of2 = c .before in
+    let at-if4 = at-digit-of2 .before in
+    let at-digit-of = at-if4 .before .before in
+    let start = at-digit-of .before .before .before .before in
+    number-two (run (drop (start .args .from) (start .args .s .now))) (at-digit-of .digit-of .result)
+    (at-digit-of2 .digit-of2 .result) (sym (start .pre) ∙ c .if5 .taken) (at-digit-of .digit-of .ensures)
+    (omega (arith, at-if4 .if4 .left)) (at-digit-of2 .digit-of2 .ensures)
 
 returns-6 : tie.Need-returns-6
-returns-6 c = number-three (run (drop (c .before .before .before .before .before .before .before .before .before .args .from) (c .before .before .before .before .before .before .before .before .before .args .s .now))) (c .before .before .before .before .before .digit-of .result) (c .before .before .digit-of2 .result) (c .digit-of3 .result)
-    (omega (arith, c .before .before .before .before .before .before .before .before .before .pre, c .before .if5 .left, c .before .before .before .before .if3 .left, c .before .before .before .before .before .before .before .if1 .left, c .before .before .before .before .before .before .if2 .left)) (c .before .before .before .before .before .digit-of .ensures) (omega (arith, c .before .before .before .if4 .left)) (c .before .before .digit-of2 .ensures) (c .digit-of3 .ensures)
+returns-6 c =
+    let at-digit-of2 = c .before .before in
+    let at-if4 = at-digit-of2 .before in
+    let at-if3 = at-if4 .before in
+    let at-digit-of = at-if3 .before in
+    let at-if2 = at-digit-of .before in
+    let at-if1 = at-if2 .before in
+    let start = at-if1 .before .before in
+    number-three (run (drop (start .args .from) (start .args .s .now))) (at-digit-of .digit-of .result)
+    (at-digit-of2 .digit-of2 .result) (c .digit-of3 .result)
+    (omega (arith, start .pre, c .before .if5 .left, at-if3 .if3 .left, at-if1 .if1 .left, at-if2 .if2 .left))
+    (at-digit-of .digit-of .ensures) (omega (arith, at-if4 .if4 .left)) (at-digit-of2 .digit-of2 .ensures)
+    (c .digit-of3 .ensures)
 
 pub number-of-spec : {M : Type 1} → statement M
 number-of-spec =

@@ -19,7 +19,9 @@ use Rattle.text_gaps.proofs.gap_reader.parts_at.Tie as tie
 
 abbrev Inv-loop : tie.InvT-loop
 Inv-loop s m₀ m =
-    (goingGap (m .turn) (m .gap) (tokens (drop (m .next .at) s)) ≡ kept gapOf (items readNumber right (tokens (drop (m₀ .next .at) s)))) × Within s (m .gap .width) (m .next .at)
+    (goingGap (m .turn) (m .gap) (tokens (drop (m .next .at) s)) ≡
+    kept gapOf (items readNumber right (tokens (drop (m₀ .next .at) s)))) ×
+    Within s (m .gap .width) (m .next .at)
     × (m₀ .next .at ≤ m .next .at)
 
 abbrev μ-loop : tie.MeasureT-loop
@@ -27,22 +29,38 @@ abbrev μ-loop : tie.MeasureT-loop
 
 loop-holds : tie.Need-loop-holds Inv-loop μ-loop
 loop-holds c = let a = c .before .before .args in
-    let z = no-parts (c .no-gap .result) (c .no-gap .ensures) in
-    (parts-start (c .no-gap .result) (tokens (drop (a .c .at) (a .s .now))) (c .no-gap .ensures), record { inside = c .before .before .pre; counted = omega arith }, omega arith)
+    let z = no-parts (c .no-gap .result) (c .no-gap .ensures) in (
+      parts-start (c .no-gap .result) (tokens (drop (a .c .at) (a .s .now))) (c .no-gap .ensures),
+      record { inside = c .before .before .pre; counted = omega arith },
+      omega arith,
+    )
 
 returns : tie.Need-returns Inv-loop μ-loop
-returns c = let a = c .before .before .before .before .before .before .before .before .args in
-    let l = c .before .before .before .before .before .loop in
-    parts-end (a .s .now) (a .c .at) (l .m .turn) (l .m .next) (sym (c .before .before .before .before .goes-on .ensures) ∙ not-true _ (c .before .before .before .if1 .taken)) (l .m .gap .width) (l .inv .1) (l .inv .2) (c .is-done .result) (c .is-done .ensures) (l .m .gap) (l .inv .0)
+returns c =
+    let at-if1 = c .before .before .before in
+    let at-goes-on = at-if1 .before in
+    let at-loop = at-goes-on .before in
+    let start = at-loop .before .before .before in
+    let a = start .args in
+    let l = at-loop .loop in
+    parts-end (a .s .now) (a .c .at) (l .m .turn) (l .m .next)
+    (sym (at-goes-on .goes-on .ensures) ∙ not-true _ (at-if1 .if1 .taken)) (l .m .gap .width) (l .inv .1)
+    (l .inv .2) (c .is-done .result) (c .is-done .ensures) (l .m .gap) (l .inv .0)
 
 with-part-requires : tie.Need-with-part-requires Inv-loop μ-loop
-with-part-requires c κs = record { within = c .before .before .loop .inv .1; goes = sym (c .before .goes-on .ensures) ∙ not-false _ (c .if1 .left) }
+with-part-requires c κs = record {
+  within = c .before .before .loop .inv .1;
+  goes = sym
+      (c .before .goes-on .ensures) ∙ not-false _ (c .if1 .left);
+}
 
 loop-less : tie.Need-loop-less Inv-loop μ-loop
 loop-less c = c .with-part .ensures .falls
 
 loop-again : tie.Need-loop-again Inv-loop μ-loop
-loop-again c = let i = c .before .before .before .loop .inv in
+loop-again c =
+    let at-loop = c .before .before .before in
+    let i = at-loop .loop .inv in
     let e = c .with-part .ensures in
     (sym (e .same) ∙ i .0, e .within, omega (arith, i .2, e .onward))
 

@@ -13,12 +13,15 @@ use Rattle.text_gaps.proofs.gap_reader.stored_gap.Tie as tie
 
 returns : tie.Need-returns
 returns c =
-    let a = c .before .before .before .before .before .before .args in
-    gap-kept (a .gaps) (a .g) (c .before .with-gap .result) (c .part .result) (c .before .with-gap .ensures) (c .part .ensures)
+    let at-with-gap = c .before in
+    let start = at-with-gap .before .before .before .before .before in
+    let a = start .args in
+    gap-kept (a .gaps) (a .g) (at-with-gap .with-gap .result) (c .part .result) (at-with-gap .with-gap .ensures) (c .part .ensures)
 
 returns-2 : tie.Need-returns-2
 returns-2 c =
-    let a = c .before .before .before .args in
+    let start = c .before .before .before in
+    let a = start .args in
     let parts : length (a .gaps .parts) ≡ PARTS = search needs in
     let widths : length (a .gaps .widths) ≡ GAPS = search needs in
     let beyond : length (a .gaps .parts) ≤ COMPONENTS * a .gaps .count = omega arith in

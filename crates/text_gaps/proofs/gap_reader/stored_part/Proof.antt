@@ -10,7 +10,9 @@ use Rattle.text_gaps.proofs.gap_reader.stored_part.Statement.{statement
 use Rattle.text_gaps.proofs.gap_reader.stored_part.Tie as tie
 
 returns : tie.Need-returns
-returns c = part-kept (c .before .before .before .args .gap) (c .before .before .before .args .n) (c .part .result) (c .part .ensures)
+returns c =
+    let start = c .before .before .before in
+    part-kept (start .args .gap) (start .args .n) (c .part .result) (c .part .ensures)
 
 returns-2 : tie.Need-returns-2
 returns-2 c = let e : length (c .before .before .args .gap .parts) ≡ 7 = search needs in

@@ -19,7 +19,8 @@ use Rattle.text_gaps.proofs.gap_reader.vectors_at.Tie as tie
 
 abbrev Inv-loop : tie.InvT-loop
 Inv-loop s m₀ m =
-    (goingGaps (m .turn) (m .gaps) (tokens (drop (m .next .at) s)) ≡ kept loadedGaps (items readVector (byte 0x7D) (tokens (drop (m₀ .next .at) s))))
+    (goingGaps (m .turn) (m .gaps) (tokens (drop (m .next .at) s)) ≡
+    kept loadedGaps (items readVector (byte 0x7D) (tokens (drop (m₀ .next .at) s))))
     × Within s (m .gaps .count) (m .next .at) × (m₀ .next .at ≤ m .next .at)
 
 abbrev μ-loop : tie.MeasureT-loop
@@ -27,22 +28,38 @@ abbrev μ-loop : tie.MeasureT-loop
 
 loop-holds : tie.Need-loop-holds Inv-loop μ-loop
 loop-holds c = let a = c .before .before .args in
-    let z = no-vectors (c .no-gaps .result) (c .no-gaps .ensures) in
-    (vectors-start (c .no-gaps .result) (tokens (drop (a .c .at) (a .s .now))) (c .no-gaps .ensures), record { inside = c .before .before .pre; counted = omega arith }, omega arith)
+    let z = no-vectors (c .no-gaps .result) (c .no-gaps .ensures) in (
+      vectors-start (c .no-gaps .result) (tokens (drop (a .c .at) (a .s .now))) (c .no-gaps .ensures),
+      record { inside = c .before .before .pre; counted = omega arith },
+      omega arith,
+    )
 
 returns : tie.Need-returns Inv-loop μ-loop
-returns c = let a = c .before .before .before .before .before .before .before .before .args in
-    let l = c .before .before .before .before .before .loop in
-    vectors-end (a .s .now) (a .c .at) (l .m .turn) (l .m .next) (sym (c .before .before .before .before .goes-on .ensures) ∙ not-true _ (c .before .before .before .if1 .taken)) (l .m .gaps .count) (l .inv .1) (l .inv .2) (c .is-done .result) (c .is-done .ensures) (l .m .gaps) (l .inv .0)
+returns c =
+    let at-if1 = c .before .before .before in
+    let at-goes-on = at-if1 .before in
+    let at-loop = at-goes-on .before in
+    let start = at-loop .before .before .before in
+    let a = start .args in
+    let l = at-loop .loop in
+    vectors-end (a .s .now) (a .c .at) (l .m .turn) (l .m .next)
+    (sym (at-goes-on .goes-on .ensures) ∙ not-true _ (at-if1 .if1 .taken)) (l .m .gaps .count) (l .inv .1)
+    (l .inv .2) (c .is-done .result) (c .is-done .ensures) (l .m .gaps) (l .inv .0)
 
 with-vector-requires : tie.Need-with-vector-requires Inv-loop μ-loop
-with-vector-requires c κs = record { within = c .before .before .loop .inv .1; goes = sym (c .before .goes-on .ensures) ∙ not-false _ (c .if1 .left) }
+with-vector-requires c κs = record {
+  within = c .before .before .loop .inv .1;
+  goes = sym
+      (c .before .goes-on .ensures) ∙ not-false _ (c .if1 .left);
+}
 
 loop-less : tie.Need-loop-less Inv-loop μ-loop
 loop-less c = c .with-vector .ensures .falls
 
 loop-again : tie.Need-loop-again Inv-loop μ-loop
-loop-again c = let i = c .before .before .before .loop .inv in
+loop-again c =
+    let at-loop = c .before .before .before in
+    let i = at-loop .loop .inv in
     let e = c .with-vector .ensures in
     (sym (e .same) ∙ i .0, e .within, omega (arith, i .2, e .onward))
 

@@ -9,13 +9,28 @@ use Rattle.text_gaps.proofs.gap_reader.with_vector.Statement.{statement
 use Rattle.text_gaps.proofs.gap_reader.with_vector.Tie as tie
 
 returns : tie.Need-returns
-returns c = let a = c .before .before .before .before .before .before .args in
-    gap-wrong (a .s .now) (a .m .turn) (a .m .gaps) (a .m .next .at) (c .before .before .before .before .before .before .pre) (c .before .before .gap-at .result) (c .before .before .gap-at .ensures) (not-true _ (c .if1 .taken))
+returns c =
+    let at-gap-at = c .before .before in
+    let start = at-gap-at .before .before .before .before in
+    let a = start .args in
+    gap-wrong (a .s .now) (a .m .turn) (a .m .gaps) (a .m .next .at) (start .pre) (at-gap-at .gap-at .result)
+    (at-gap-at .gap-at .ensures) (not-true _ (c .if1 .taken))
 
 returns-2 : tie.Need-returns-2
-returns-2 c = let a = c .before .before .before .before .before .before .before .before .before .before .before .before .before .before .args in
-    gap-stored (a .s .now) (a .m .turn) (a .m .gaps) (a .m .next .at) (c .before .before .before .before .before .before .before .before .before .before .before .before .before .before .pre) (c .before .before .before .before .before .before .before .before .before .before .gap-at .result) (c .before .before .before .before .before .before .before .before .before .before .gap-at .ensures) (not-false _ (c .before .before .before .before .before .before .before .before .if1 .left)) (c .before .before .before .before .step .result) (c .before .before .before .before .step .ensures)
-    (c .turn-of .result) (c .before .before .before .before .before .before .stored-gap .result) (c .turn-of .ensures ∙ ap₂ turnOf (c .before .before .is-byte .ensures) (c .before .is-byte2 .ensures)) (c .before .before .before .before .before .before .stored-gap .ensures)
+returns-2 c =
+    let at-is-byte = c .before .before in
+    let at-step = at-is-byte .before .before in
+    let at-stored-gap = at-step .before .before in
+    let at-if1 = at-stored-gap .before .before in
+    let at-gap-at = at-if1 .before .before in
+    let start = at-gap-at .before .before .before .before in
+    let a = start .args in
+    gap-stored (a .s .now) (a .m .turn) (a .m .gaps) (a .m .next .at) (start .pre) (at-gap-at .gap-at .result)
+    (at-gap-at .gap-at .ensures) (not-false _ (at-if1 .if1 .left)) (at-step .step .result)
+    (at-step .step .ensures)
+    (c .turn-of .result) (at-stored-gap .stored-gap .result)
+    (c .turn-of .ensures ∙ ap₂ turnOf (at-is-byte .is-byte .ensures) (c .before .is-byte2 .ensures))
+    (at-stored-gap .stored-gap .ensures)
 
 pub with-vector-spec : {M : Type 1} → statement M
 with-vector-spec =

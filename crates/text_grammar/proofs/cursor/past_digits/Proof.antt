@@ -22,17 +22,26 @@ loop-holds : tie.Need-loop-holds Inv-loop μ-loop
 loop-holds c = refl
 
 returns : tie.Need-returns Inv-loop μ-loop
-returns c = let s = c .before .before .before .before .before .before .args .s .now in
-    let l = c .before .before .before .before .loop in
+returns c =
+    let at-loop = c .before .before .before .before in
+    let start = at-loop .before .before in
+    let s = start .args .s .now in
+    let l = at-loop .loop in
     sym (l .inv ∙ run-stop s (l .at) (omega arith) (sym (c .before .is-digit .ensures) ∙ not-true _ (c .if1 .taken)))
 
 loop-again : tie.Need-loop-again Inv-loop μ-loop
-loop-again c = let s = c .before .before .before .before .before .before .args .s .now in
-    let l = c .before .before .before .before .loop in
+loop-again c =
+    let at-loop = c .before .before .before .before in
+    let start = at-loop .before .before in
+    let s = start .args .s .now in
+    let l = at-loop .loop in
     l .inv ∙ run-past s (l .at) (omega arith) (sym (c .before .is-digit .ensures) ∙ not-false _ (c .if1 .left))
 
 returns-2 : tie.Need-returns-2 Inv-loop μ-loop
-returns-2 c = sym (c .before .loop .inv ∙ run-end (c .before .before .before .args .s .now) (c .before .loop .at) (omega arith))
+returns-2 c =
+    let at-loop = c .before in
+    let start = at-loop .before .before in
+    sym (at-loop .loop .inv ∙ run-end (start .args .s .now) (at-loop .loop .at) (omega arith))
 
 pub past-digits-spec : {M : Type 1} → statement M
 past-digits-spec =

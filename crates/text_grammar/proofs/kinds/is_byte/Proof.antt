@@ -8,7 +8,9 @@ use Rattle.text_grammar.proofs.kinds.is_byte.Statement.{statement}
 use Rattle.text_grammar.proofs.kinds.is_byte.Tie as tie
 
 returns-7 : tie.Need-returns-7
-returns-7 c = sym (ap (λ (k : Kind). isByte (c .before .before .before .args .b) k) (c .before .kind .given .1))
+returns-7 c =
+    let start = c .before .before .before in
+    sym (ap (λ (k : Kind). isByte (start .args .b) k) (c .before .kind .given .1))
 
 pub is-byte-spec : {M : Type 1} → statement M
 is-byte-spec =

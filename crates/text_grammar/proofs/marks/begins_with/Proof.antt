@@ -18,17 +18,26 @@ abbrev μ-loop : tie.MeasureT-loop
 μ-loop s mark i₀ i = length mark - i
 
 returns : tie.Need-returns Inv-loop μ-loop
-returns c = let a = c .before .before .before .args in
-    sym (c .before .before .loop .inv ∙ begins-short (a .mark .now) (a .s .now) (c .before .before .loop .i) (omega arith) (omega arith))
+returns c =
+    let at-loop = c .before .before in
+    let start = at-loop .before in
+    let a = start .args in
+    sym (at-loop .loop .inv ∙ begins-short (a .mark .now) (a .s .now) (at-loop .loop .i) (omega arith) (omega arith))
 
 returns-2 : tie.Need-returns-2 Inv-loop μ-loop
-returns-2 c = let a = c .before .before .before .before .before .before .args in
-    let l = c .before .before .before .before .before .loop in
+returns-2 c =
+    let at-loop = c .before .before .before .before .before in
+    let start = at-loop .before in
+    let a = start .args in
+    let l = at-loop .loop in
     sym (l .inv ∙ begins-other (a .mark .now) (a .s .now) (l .i) (omega arith) (omega arith) (c .if2 .taken))
 
 loop-again : tie.Need-loop-again Inv-loop μ-loop
-loop-again c = let a = c .before .before .before .before .before .before .args in
-    let l = c .before .before .before .before .before .loop in
+loop-again c =
+    let at-loop = c .before .before .before .before .before in
+    let start = at-loop .before in
+    let a = start .args in
+    let l = at-loop .loop in
     l .inv ∙ begins-next (a .mark .now) (a .s .now) (l .i) (omega arith) (omega arith) (c .if2 .left)
 
 returns-3 : tie.Need-returns-3 Inv-loop μ-loop

@@ -4,7 +4,8 @@
 use native.Mathlib.Omega.{arith}
 use Prim.Native.Nat.{_-_}
 use lib.ListN.{length}
-use Rattle.text_schemes.proofs.EntryItemLaws.{ReadTo, leftBy, start-read, countable, next-inside, left-less, read-kept, read-counted, at-last}
+use Rattle.text_schemes.proofs.EntryItemLaws.{ReadTo, leftBy, start-read, countable, next-inside, left-less}
+use Rattle.text_schemes.proofs.EntryItemLaws.{read-kept, read-counted, at-last}
 use Rattle.text_schemes.proofs.EntryItemLaws.{text-spelt, text-misspelt, whole-text}
 use borrow.Author.Needs.{needs}
 use Rattle.text_schemes.proofs.scheme_reader.all_entries.Statement.{statement}
@@ -80,7 +81,8 @@ loop-again-2 c =
     let turn = item .before .before in
     let l = turn .before .loop in
     let s = turn .before .before .before .before .before .args .s .now in
-    read-counted s (l .scheme) (l .at) (l .more) (l .spelt) (turn .loop-test .taken) (l .inv) (item .item-at .result) (item .item-at .ensures)
+    read-counted s (l .scheme) (l .at) (l .more) (l .spelt) (turn .loop-test .taken) (l .inv)
+    (item .item-at .result) (item .item-at .ensures)
     (c .if1 .left)
 
 returns : tie.Need-returns Inv-loop μ-loop

@@ -7,7 +7,11 @@ use Rattle.text_schemes.proofs.scheme_reader.byte_at.Statement.{stateme
 use Rattle.text_schemes.proofs.scheme_reader.byte_at.Tie as tie
 
 returns : tie.Need-returns
-returns c = marked (c .before .before .before .before .args .s .now) (c .before .before .before .before .args .c .at) (c .before .before .step .result) (c .before .before .step .ensures) (c .before .before .before .before .args .b) (c .is-byte .result) (c .is-byte .ensures)
+returns c =
+    let at-step = c .before .before in
+    let start = at-step .before .before in
+    marked (start .args .s .now) (start .args .c .at) (at-step .step .result) (at-step .step .ensures)
+    (start .args .b) (c .is-byte .result) (c .is-byte .ensures)
 
 pub byte-at-spec : {M : Type 1} → statement M
 byte-at-spec = tie.close (tie.spec (λ c κs. search needs) (λ c κs. search needs) returns)

@@ -12,7 +12,8 @@ use Rattle.text_schemes.proofs.scheme_reader.digits_at.Tie as tie
 
 returns : tie.Need-returns
 returns c =
-    let a = c .before .before .before .before .args in
+    let start = c .before .before .before .before in
+    let a = start .args in
     c .before .put-digits .ensures ∙ sets-filled PREFIX 0 [] (run (drop (a .from) (a .s .now)))
 
 pub digits-at-spec : {M : Type 1} → statement M

@@ -14,16 +14,47 @@ part-middle-at-start : tie.Need-part-middle-at-start
 part-middle-at-start c = search (needs, head-inside (c .before .before .args .s .now) (c .head-at .result) (c .head-at .ensures))
 
 add-b : tie.Need-add-b
-add-b c = omega (arith, middle-inside (c .before .before .before .before .before .args .s .now) (c .before .before .before .head-at .result) (c .before .middle-at .result) (c .before .before .before .head-at .ensures) (c .before .middle-at .ensures))
+add-b c =
+    let at-middle-at = c .before in
+    let at-head-at = at-middle-at .before .before in
+    let start = at-head-at .before .before in
+    omega (
+      arith,
+      middle-inside (start .args .s .now) (at-head-at .head-at .result)
+          (at-middle-at .middle-at .result) (at-head-at .head-at .ensures) (at-middle-at .middle-at .ensures),
+    )
 
 sub-tail-at : tie.Need-sub-tail-at
-sub-tail-at c = middle-inside (c .before .before .before .before .before .args .s .now) (c .before .before .before .head-at .result) (c .before .middle-at .result) (c .before .before .before .head-at .ensures) (c .before .middle-at .ensures)
+sub-tail-at c =
+    let at-middle-at = c .before in
+    let at-head-at = at-middle-at .before .before in
+    let start = at-head-at .before .before in
+    middle-inside (start .args .s .now) (at-head-at .head-at .result) (at-middle-at .middle-at .result)
+    (at-head-at .head-at .ensures) (at-middle-at .middle-at .ensures)
 
 part-tail-at-start : tie.Need-part-tail-at-start
-part-tail-at-start c = search (needs, middle-inside (c .before .before .before .before .before .args .s .now) (c .before .before .before .head-at .result) (c .before .middle-at .result) (c .before .before .before .head-at .ensures) (c .before .middle-at .ensures))
+part-tail-at-start c =
+    let at-middle-at = c .before in
+    let at-head-at = at-middle-at .before .before in
+    let start = at-head-at .before .before in
+    search (
+      needs,
+      middle-inside (start .args .s .now) (at-head-at .head-at .result)
+          (at-middle-at .middle-at .result) (at-head-at .head-at .ensures) (at-middle-at .middle-at .ensures),
+    )
 
 add-at : tie.Need-add-at
-add-at c = omega (arith, tail-inside (c .before .before .before .before .before .before .before .before .args .s .now) (c .before .before .before .before .before .before .head-at .result) (c .before .before .before .before .middle-at .result) (c .before .before .before .before .before .before .head-at .ensures) (c .before .before .before .before .middle-at .ensures) (c .before .tail-at .result) (c .before .tail-at .ensures))
+add-at c =
+    let at-tail-at = c .before in
+    let at-middle-at = at-tail-at .before .before .before in
+    let at-head-at = at-middle-at .before .before in
+    let start = at-head-at .before .before in
+    omega (
+      arith,
+      tail-inside (start .args .s .now) (at-head-at .head-at .result) (at-middle-at .middle-at .result)
+          (at-head-at .head-at .ensures) (at-middle-at .middle-at .ensures) (at-tail-at .tail-at .result)
+          (at-tail-at .tail-at .ensures),
+    )
 
 returns : tie.Need-returns
 returns c =
@@ -31,8 +62,10 @@ returns c =
     let tail = joined .before .before .before in
     let middle = tail .before .before .before in
     let head = middle .before .before in
-    entered-on (head .before .before .args .s .now) (head .head-at .result) (middle .middle-at .result) (head .head-at .ensures) (middle .middle-at .ensures)
-    (tail .tail-at .result) (tail .tail-at .ensures) (joined .before .both .result) (joined .both2 .result) (joined .before .both .ensures) (joined .both2 .ensures)
+    entered-on (head .before .before .args .s .now) (head .head-at .result) (middle .middle-at .result)
+    (head .head-at .ensures) (middle .middle-at .ensures)
+    (tail .tail-at .result) (tail .tail-at .ensures) (joined .before .both .result) (joined .both2 .result)
+    (joined .before .both .ensures) (joined .both2 .ensures)
 
 pub entry-at-spec : {M : Type 1} → statement M
 entry-at-spec =

@@ -7,8 +7,17 @@ use Rattle.text_schemes.proofs.scheme_reader.head_at.Statement.{stateme
 use Rattle.text_schemes.proofs.scheme_reader.head_at.Tie as tie
 
 returns : tie.Need-returns
-returns c = headed (c .before .before .before .before .before .before .before .before .args .s .now) 0 (c .before .before .before .before .before .before .byte-at .result) (c .before .before .before .before .before .prefix-at .result) (c .before .before .before .before .byte-at2 .result) (c .before .before .before .both .result) (c .before .before .both2 .result)
-    (c .before .before .before .before .before .before .byte-at .ensures) (c .before .before .before .before .before .prefix-at .ensures) (c .before .before .before .before .byte-at2 .ensures) (c .before .before .before .both .ensures) (c .before .before .both2 .ensures)
+returns c =
+    let at-both2 = c .before .before in
+    let at-both = at-both2 .before in
+    let at-byte-at2 = at-both .before in
+    let at-prefix-at = at-byte-at2 .before in
+    let at-byte-at = at-prefix-at .before in
+    let start = at-byte-at .before .before in
+    headed (start .args .s .now) 0 (at-byte-at .byte-at .result) (at-prefix-at .prefix-at .result)
+    (at-byte-at2 .byte-at2 .result) (at-both .both .result) (at-both2 .both2 .result)
+    (at-byte-at .byte-at .ensures) (at-prefix-at .prefix-at .ensures) (at-byte-at2 .byte-at2 .ensures)
+    (at-both .both .ensures) (at-both2 .both2 .ensures)
 
 pub head-at-spec : {M : Type 1} → statement M
 head-at-spec =

@@ -7,8 +7,13 @@ use Rattle.text_schemes.proofs.scheme_reader.middle_at.Statement.{state
 use Rattle.text_schemes.proofs.scheme_reader.middle_at.Tie as tie
 
 returns : tie.Need-returns
-returns c = middled (c .before .before .before .before .before .before .args .s .now) 0 (c .before .before .before .before .gaps-at .result) (c .before .before .before .byte-at .result) (c .before .before .both .result)
-    (c .before .before .before .before .gaps-at .ensures) (c .before .before .before .byte-at .ensures) (c .before .before .both .ensures)
+returns c =
+    let at-both = c .before .before in
+    let at-byte-at = at-both .before in
+    let at-gaps-at = at-byte-at .before in
+    let start = at-gaps-at .before .before in
+    middled (start .args .s .now) 0 (at-gaps-at .gaps-at .result) (at-byte-at .byte-at .result) (at-both .both .result)
+    (at-gaps-at .gaps-at .ensures) (at-byte-at .byte-at .ensures) (at-both .both .ensures)
 
 pub middle-at-spec : {M : Type 1} → statement M
 middle-at-spec = tie.close (tie.spec (λ c κs. search needs) (λ c κs. search needs) (λ c κs. search needs) returns)

@@ -7,10 +7,21 @@ use Rattle.text_schemes.proofs.scheme_reader.opening_at.Statement.{stat
 use Rattle.text_schemes.proofs.scheme_reader.opening_at.Tie as tie
 
 returns : tie.Need-returns
-returns c = opened (c .before .before .before .before .before .args .s .now) (c .before .before .before .before .before .args .c .at) (c .before .before .before .step .result) (c .before .before .before .step .ensures) (c .before .is-empty .result) (c .before .is-empty .ensures) (c .if1 .taken)
+returns c =
+    let at-is-empty = c .before in
+    let at-step = at-is-empty .before .before in
+    let start = at-step .before .before in
+    opened (start .args .s .now) (start .args .c .at) (at-step .step .result) (at-step .step .ensures)
+    (at-is-empty .is-empty .result) (at-is-empty .is-empty .ensures) (c .if1 .taken)
 
 returns-2 : tie.Need-returns-2
-returns-2 c = opened-other (c .before .before .before .before .before .before .args .s .now) (c .before .before .before .before .before .before .args .c .at) (c .before .before .before .before .step .result) (c .before .before .before .before .step .ensures) (c .before .before .is-empty .result) (c .is-byte .result) (c .before .before .is-empty .ensures) (c .before .if1 .left) (c .is-byte .ensures)
+returns-2 c =
+    let at-is-empty = c .before .before in
+    let at-step = at-is-empty .before .before in
+    let start = at-step .before .before in
+    opened-other (start .args .s .now) (start .args .c .at) (at-step .step .result) (at-step .step .ensures)
+    (at-is-empty .is-empty .result) (c .is-byte .result) (at-is-empty .is-empty .ensures) (c .before .if1 .left)
+    (c .is-byte .ensures)
 
 pub opening-at-spec : {M : Type 1} → statement M
 opening-at-spec =

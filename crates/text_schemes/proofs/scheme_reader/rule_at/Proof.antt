@@ -6,11 +6,26 @@ use Rattle.text_schemes.proofs.scheme_reader.rule_at.Statement.{stateme
 use Rattle.text_schemes.proofs.scheme_reader.rule_at.Tie as tie
 
 returns : tie.Need-returns
-returns c = rule-first (c .before .before .before .before .args .s .now) (c .before .before .before .before .args .c .at) (c .before .before .opening-at .result) (c .before .before .opening-at .ensures) (c .if1 .taken)
+returns c =
+    let at-opening-at = c .before .before in
+    let start = at-opening-at .before .before in
+    rule-first (start .args .s .now) (start .args .c .at) (at-opening-at .opening-at .result)
+    (at-opening-at .opening-at .ensures) (c .if1 .taken)
 
 returns-2 : tie.Need-returns-2
-returns-2 c = rule-other (c .before .before .before .before .before .before .before .before .before .args .s .now) (c .before .before .before .before .before .before .before .before .before .args .c .at) (c .before .before .before .before .before .before .before .opening-at .result) (c .before .before .before .before .number-at .result) (c .before .before .before .byte-at .result) (c .before .before .both .result) (c .before .both2 .result)
-    (c .before .before .before .before .before .before .before .opening-at .ensures) (c .before .before .before .before .before .if1 .left) (c .before .before .before .before .number-at .ensures) (c .before .before .before .byte-at .ensures) (c .before .before .both .ensures) (c .before .both2 .ensures)
+returns-2 c =
+    let at-both2 = c .before in
+    let at-both = at-both2 .before in
+    let at-byte-at = at-both .before in
+    let at-number-at = at-byte-at .before in
+    let at-if1 = at-number-at .before in
+    let at-opening-at = at-if1 .before .before in
+    let start = at-opening-at .before .before in
+    rule-other (start .args .s .now) (start .args .c .at) (at-opening-at .opening-at .result)
+    (at-number-at .number-at .result) (at-byte-at .byte-at .result) (at-both .both .result)
+    (at-both2 .both2 .result)
+    (at-opening-at .opening-at .ensures) (at-if1 .if1 .left) (at-number-at .number-at .ensures)
+    (at-byte-at .byte-at .ensures) (at-both .both .ensures) (at-both2 .both2 .ensures)
 
 pub rule-at-spec : {M : Type 1} → statement M
 rule-at-spec =

@@ -7,10 +7,21 @@ use Rattle.text_schemes.proofs.scheme_reader.separator_at.Statement.{st
 use Rattle.text_schemes.proofs.scheme_reader.separator_at.Tie as tie
 
 returns : tie.Need-returns
-returns c = closed (c .before .before .before .before .before .args .s .now) (c .before .before .before .before .before .args .c .at) (c .before .before .before .step .result) (c .before .before .before .step .ensures) (c .before .is-byte .result) (c .before .is-byte .ensures) (c .if1 .taken)
+returns c =
+    let at-is-byte = c .before in
+    let at-step = at-is-byte .before .before in
+    let start = at-step .before .before in
+    closed (start .args .s .now) (start .args .c .at) (at-step .step .result) (at-step .step .ensures)
+    (at-is-byte .is-byte .result) (at-is-byte .is-byte .ensures) (c .if1 .taken)
 
 returns-2 : tie.Need-returns-2
-returns-2 c = closed-other (c .before .before .before .before .before .before .args .s .now) (c .before .before .before .before .before .before .args .c .at) (c .before .before .before .before .step .result) (c .before .before .before .before .step .ensures) (c .before .before .is-byte .result) (c .is-byte2 .result) (c .before .before .is-byte .ensures) (c .before .if1 .left) (c .is-byte2 .ensures)
+returns-2 c =
+    let at-is-byte = c .before .before in
+    let at-step = at-is-byte .before .before in
+    let start = at-step .before .before in
+    closed-other (start .args .s .now) (start .args .c .at) (at-step .step .result) (at-step .step .ensures)
+    (at-is-byte .is-byte .result) (c .is-byte2 .result) (at-is-byte .is-byte .ensures) (c .before .if1 .left)
+    (c .is-byte2 .ensures)
 
 pub separator-at-spec : {M : Type 1} → statement M
 separator-at-spec =

@@ -10,7 +10,8 @@ use Rattle.text_writer.proofs.writing.put_further_parts.Statement.{stat
 use Rattle.text_writer.proofs.writing.put_further_parts.Tie as tie
 
 abbrev Inv-loop : tie.InvT-loop
-Inv-loop page₀ at parts n next₀ i₀ page next i = ToCome (further (number parts) 1 (n - 1)) at page₀ (further (number parts) i (n - i)) next page
+Inv-loop page₀ at parts n next₀ i₀ page next i =
+    ToCome (further (number parts) 1 (n - 1)) at page₀ (further (number parts) i (n - i)) next page
 
 abbrev μ-loop : tie.MeasureT-loop
 μ-loop page₀ at parts n next₀ i₀ page next i = n - i
@@ -20,30 +21,40 @@ loop-holds c = start _ _ _
 
 put-requires : tie.Need-put-requires Inv-loop μ-loop
 put-requires c κs =
-    let s = c .before .before .before .before .before .args .g in
-    let h = c .before .before .before .before .before .pre in
-    let l = c .before .before .loop in
+    let at-loop = c .before .before in
+    let start = at-loop .before .before .before in
+    let s = start .args .g in
+    let h = start .pre in
+    let l = at-loop .loop in
     room-first (further-room (number (s .parts)) (l .i) (s .width) (l .inv) (search needs) (h .1))
 
 put-part-requires : tie.Need-put-part-requires Inv-loop μ-loop
 put-part-requires c κs =
-    let s = c .before .before .before .before .before .before .before .before .before .args .g in
-    let h = c .before .before .before .before .before .before .before .before .before .pre in
-    let l = c .before .before .before .before .before .before .loop in
-    room-rest (further-room (number (s .parts)) (l .i) (s .width) (l .inv) (search needs) (h .1)) (c .before .before .before .put .ensures)
+    let at-put = c .before .before .before in
+    let at-loop = at-put .before .before .before in
+    let start = at-loop .before .before .before in
+    let s = start .args .g in
+    let h = start .pre in
+    let l = at-loop .loop in
+    room-rest (further-room (number (s .parts)) (l .i) (s .width) (l .inv) (search needs) (h .1)) (at-put .put .ensures)
 
 loop-again : tie.Need-loop-again Inv-loop μ-loop
 loop-again c =
-    let s = c .before .before .before .before .before .before .before .before .before .before .before .before .args .g in
-    let l = c .before .before .before .before .before .before .before .before .before .loop in
-    further-on (number (s .parts)) (l .i) (s .width) (l .inv) (search needs) (c .before .before .before .before .before .before .put .ensures) (c .before .before .put-part .ensures)
+    let at-put-part = c .before .before in
+    let at-put = at-put-part .before .before .before .before in
+    let at-loop = at-put .before .before .before in
+    let start = at-loop .before .before .before in
+    let s = start .args .g in
+    let l = at-loop .loop in
+    further-on (number (s .parts)) (l .i) (s .width) (l .inv) (search needs) (at-put .put .ensures) (at-put-part .put-part .ensures)
 
 same-length : tie.Need-same-length Inv-loop μ-loop
 same-length c = same-size (c .before .loop .inv)
 
 returns : tie.Need-returns Inv-loop μ-loop
 returns c =
-    let s = c .before .before .before .before .args .g in
+    let start = c .before .before .before .before in
+    let s = start .args .g in
     let l = c .before .loop in
     further-done (number (s .parts)) (l .i) (s .width) (l .inv) (search needs)
 

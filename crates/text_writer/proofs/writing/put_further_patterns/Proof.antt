@@ -10,42 +10,59 @@ use Rattle.text_writer.proofs.writing.put_further_patterns.Statement.{s
 use Rattle.text_writer.proofs.writing.put_further_patterns.Tie as tie
 
 abbrev Inv-loop : tie.InvT-loop
-Inv-loop page₀ at items last-pattern next₀ i₀ page next i = ToCome (further (patternAt items) 1 last-pattern) at page₀ (further (patternAt items) i (last-pattern + 1 - i)) next page
+Inv-loop page₀ at items last-pattern next₀ i₀ page next i =
+    ToCome (further (patternAt items) 1 last-pattern) at page₀ (further (patternAt items) i (last-pattern + 1 - i))
+    next page
 
 abbrev μ-loop : tie.MeasureT-loop
 μ-loop page₀ at items last-pattern next₀ i₀ page next i = last-pattern + 1 - i
 
 loop-holds : tie.Need-loop-holds Inv-loop μ-loop
 loop-holds c =
-    let s = c .before .before .before .args .s in
+    let start = c .before .before .before in
+    let s = start .args .s in
     start-as _ _ _ _ (further-up-to (patternAt (s .items)) (s .count - 1))
 
 put-requires : tie.Need-put-requires Inv-loop μ-loop
 put-requires c κs =
-    let s = c .before .before .before .before .before .before .args .s in
-    let h = c .before .before .before .before .before .before .pre in
-    let l = c .before .before .loop in
+    let at-loop = c .before .before in
+    let start = at-loop .before .before .before .before in
+    let s = start .args .s in
+    let h = start .pre in
+    let l = at-loop .loop in
     room-first (further-room (patternAt (s .items)) (l .i) (s .count - 1 + 1) (l .inv) (search needs) (h .2))
 
 put-pattern-requires : tie.Need-put-pattern-requires Inv-loop μ-loop
 put-pattern-requires c κs =
-    let s = c .before .before .before .before .before .before .before .before .before .before .before .args .s in
-    let h = c .before .before .before .before .before .before .before .before .before .before .before .pre in
-    let l = c .before .before .before .before .before .before .before .loop in
-    (h .0 .fit (l .i) (search needs), room-rest (further-room (patternAt (s .items)) (l .i) (s .count - 1 + 1) (l .inv) (search needs) (h .2)) (c .before .before .before .before .put .ensures))
+    let at-put = c .before .before .before .before in
+    let at-loop = at-put .before .before .before in
+    let start = at-loop .before .before .before .before in
+    let s = start .args .s in
+    let h = start .pre in
+    let l = at-loop .loop in (
+      h .0 .fit (l .i) (search needs),
+      room-rest (further-room (patternAt (s .items)) (l .i) (s .count - 1 + 1)
+          (l .inv) (search needs) (h .2)) (at-put .put .ensures),
+    )
 
 loop-again : tie.Need-loop-again Inv-loop μ-loop
 loop-again c =
-    let s = c .before .before .before .before .before .before .before .before .before .before .before .before .before .before .args .s in
-    let l = c .before .before .before .before .before .before .before .before .before .before .loop in
-    further-on (patternAt (s .items)) (l .i) (s .count - 1 + 1) (l .inv) (search needs) (c .before .before .before .before .before .before .before .put .ensures) (c .before .before .put-pattern .ensures)
+    let at-put-pattern = c .before .before in
+    let at-put = at-put-pattern .before .before .before .before .before in
+    let at-loop = at-put .before .before .before in
+    let start = at-loop .before .before .before .before in
+    let s = start .args .s in
+    let l = at-loop .loop in
+    further-on (patternAt (s .items)) (l .i) (s .count - 1 + 1) (l .inv) (search needs) (at-put .put .ensures)
+    (at-put-pattern .put-pattern .ensures)
 
 same-length : tie.Need-same-length Inv-loop μ-loop
 same-length c = same-size (c .before .loop .inv)
 
 returns : tie.Need-returns Inv-loop μ-loop
 returns c =
-    let s = c .before .before .before .before .before .args .s in
+    let start = c .before .before .before .before .before in
+    let s = start .args .s in
     let l = c .before .loop in
     further-done (patternAt (s .items)) (l .i) (s .count - 1 + 1) (l .inv) (search needs)
 

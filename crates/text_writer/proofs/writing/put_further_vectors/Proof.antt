@@ -22,7 +22,8 @@ put-requires : tie.Need-put-requires Inv-loop μ-loop
 put-requires c κs =
     let at-loop = c .before .before in
     let start-at = at-loop .before .before in
-    room-first (further-room (vectorAt (start-at .args .e)) (at-loop .loop .i) (start-at .args .e .«gap_count») (at-loop .loop .inv) (search needs) (start-at .pre .1))
+    room-first (further-room (vectorAt (start-at .args .e)) (at-loop .loop .i) (start-at .args .e .«gap_count»)
+    (at-loop .loop .inv) (search needs) (start-at .pre .1))
 
 put-vector-at-requires : tie.Need-put-vector-at-requires Inv-loop μ-loop
 put-vector-at-requires c κs =
@@ -30,8 +31,12 @@ put-vector-at-requires c κs =
     let at-loop = after-put .before .before .before in
     let start-at = at-loop .before .before in
     let e = start-at .args .e in
-    let h = start-at .pre in
-    (h .0, search needs, room-rest (further-room (vectorAt e) (at-loop .loop .i) (e .«gap_count») (at-loop .loop .inv) (search needs) (h .1)) (after-put .put .ensures))
+    let h = start-at .pre in (
+      h .0,
+      search needs,
+      room-rest (further-room (vectorAt e) (at-loop .loop .i) (e .«gap_count»)
+          (at-loop .loop .inv) (search needs) (h .1)) (after-put .put .ensures),
+    )
 
 loop-again : tie.Need-loop-again Inv-loop μ-loop
 loop-again c =
@@ -39,14 +44,16 @@ loop-again c =
     let after-put = after-vector .before .before .before .before in
     let at-loop = after-put .before .before .before in
     let e = at-loop .before .before .args .e in
-    further-on (vectorAt e) (at-loop .loop .i) (e .«gap_count») (at-loop .loop .inv) (search needs) (after-put .put .ensures) (after-vector .put-vector-at .ensures)
+    further-on (vectorAt e) (at-loop .loop .i) (e .«gap_count») (at-loop .loop .inv) (search needs)
+    (after-put .put .ensures) (after-vector .put-vector-at .ensures)
 
 same-length : tie.Need-same-length Inv-loop μ-loop
 same-length c = same-size (c .before .loop .inv)
 
 returns : tie.Need-returns Inv-loop μ-loop
 returns c =
-    let e = c .before .before .before .args .e in
+    let start = c .before .before .before in
+    let e = start .args .e in
     let l = c .before .loop in
     further-done (vectorAt e) (l .i) (e .«gap_count») (l .inv) (search needs)
 

@@ -52,7 +52,8 @@ put-requires-2 c κs =
     let some = first .before .before in
     let begin = some .before .before .before in
     let whole = start-as _ _ (begin .args .at) (begin .args .page .now) (text-gaps (begin .args .e) (some .if1 .left)) in
-    room-last (begin .pre .1) (step (step (step whole (first .put .ensures)) (second .put-vector-at .ensures)) (third .put-further-vectors .ensures))
+    room-last (begin .pre .1) (step (step (step whole (first .put .ensures)) (second .put-vector-at .ensures))
+    (third .put-further-vectors .ensures))
 
 returns-2 : tie.Need-returns-2
 returns-2 c =
@@ -63,7 +64,8 @@ returns-2 c =
     let some = first .before .before in
     let begin = some .before .before .before in
     let whole = start-as _ _ (begin .args .at) (begin .args .page .now) (text-gaps (begin .args .e) (some .if1 .left)) in
-    finish-by (step (step (step whole (first .put .ensures)) (second .put-vector-at .ensures)) (third .put-further-vectors .ensures)) (last .put2 .ensures)
+    finish-by (step (step (step whole (first .put .ensures)) (second .put-vector-at .ensures))
+    (third .put-further-vectors .ensures)) (last .put2 .ensures)
 
 pub put-gaps-spec : {M : Type 1} → statement M
 put-gaps-spec =

@@ -11,14 +11,18 @@ use Rattle.text_writer.proofs.writing.put_part.Tie as tie
 
 put-number-requires : tie.Need-put-number-requires
 put-number-requires c κs =
+    let start = c .before .before .before in
     let w = c .wide .ensures in
     let same = ap (λ (n : ℕ). bytesOf (digits (numeral n))) (w .0) in
-    (search needs, room-as (c .before .before .before .pre) (text-one (digits (numeral (c .before .before .before .args .x))) ∙ sym same))
+    (search needs, room-as (start .pre) (text-one (digits (numeral (start .args .x))) ∙ sym same))
 
 returns : tie.Need-returns
 returns c =
-    let same = ap (λ (n : ℕ). bytesOf (digits (numeral n))) (c .before .before .before .wide .ensures .0) in
-    writes-as (c .before .before .put-number .ensures) (same ∙ sym (text-one (digits (numeral (c .before .before .before .before .before .before .args .x)))))
+    let at-put-number = c .before .before in
+    let at-wide = at-put-number .before in
+    let start = at-wide .before .before .before in
+    let same = ap (λ (n : ℕ). bytesOf (digits (numeral n))) (at-wide .wide .ensures .0) in
+    writes-as (at-put-number .put-number .ensures) (same ∙ sym (text-one (digits (numeral (start .args .x)))))
 
 pub put-part-spec : {M : Type 1} → statement M
 put-part-spec = tie.close (tie.spec (λ c κs. search needs) put-number-requires (λ c. search needs) returns)

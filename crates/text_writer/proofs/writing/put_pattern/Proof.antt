@@ -13,15 +13,18 @@ use Rattle.text_writer.proofs.writing.put_pattern.Tie as tie
 
 put-permutation-requires : tie.Need-put-permutation-requires
 put-permutation-requires c κs =
-    let p = c .before .before .before .before .args .p in
-    let h = c .before .before .before .before .pre in
+    let start = c .before .before .before .before in
+    let p = start .args .p in
+    let h = start .pre in
     let eight : length (p .digits) ≡ 8 = search needs in
     (record { inside = omega arith; small = h .0 .small }, room-as (h .1) (text-one (permPiece (patternIn p))))
 
 returns : tie.Need-returns
 returns c =
-    let p = c .before .before .before .before .before .before .before .args .p in
-    writes-as (c .before .before .put-permutation .ensures) (sym (text-one (permPiece (patternIn p))))
+    let at-put-permutation = c .before .before in
+    let start = at-put-permutation .before .before .before .before .before in
+    let p = start .args .p in
+    writes-as (at-put-permutation .put-permutation .ensures) (sym (text-one (permPiece (patternIn p))))
 
 pub put-pattern-spec : {M : Type 1} → statement M
 put-pattern-spec =

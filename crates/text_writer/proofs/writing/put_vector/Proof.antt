@@ -10,37 +10,57 @@ use Rattle.text_writer.specs.WrittenLaws.{text-vector}
 use Rattle.text_writer.proofs.writing.put_vector.Statement.{statement}
 use Rattle.text_writer.proofs.writing.put_vector.Tie as tie
 
+-- the array of the components has all its places
+seven-parts : (start : tie.Start) → length (start .args .g .parts) ≡ 7
+seven-parts start = (let o = start .good in search needs)
+
 put-part-requires : tie.Need-put-part-requires
 put-part-requires c κs =
-    let a = c .before .before .before .before .before .before .before .before .args in
-    let h = c .before .before .before .before .before .before .before .before .pre in
-    let seven : length (a .g .parts) ≡ 7 = search needs in
+    let at-put-bytes = c .before .before .before in
+    let start = at-put-bytes .before .before .before .before .before in
+    let a = start .args in
+    let h = start .pre in
+    let seven = seven-parts start in
     let whole = start-as _ _ (a .at) (a .page .now) (text-vector (a .g .width) (a .g .parts) (h .0 .some) (omega arith)) in
-    room-next _ _ (h .1) (step whole (c .before .before .before .put-bytes .ensures)) refl
+    room-next _ _ (h .1) (step whole (at-put-bytes .put-bytes .ensures)) refl
 
 put-further-parts-requires : tie.Need-put-further-parts-requires
 put-further-parts-requires c κs =
-    let a = c .before .before .before .before .before .before .before .before .before .before .before .before .args in
-    let h = c .before .before .before .before .before .before .before .before .before .before .before .before .pre in
-    let seven : length (a .g .parts) ≡ 7 = search needs in
+    let at-put-part = c .before .before .before in
+    let at-put-bytes = at-put-part .before .before .before .before in
+    let start = at-put-bytes .before .before .before .before .before in
+    let a = start .args in
+    let h = start .pre in
+    let seven = seven-parts start in
     let whole = start-as _ _ (a .at) (a .page .now) (text-vector (a .g .width) (a .g .parts) (h .0 .some) (omega arith)) in
-    (h .0, room-next _ _ (h .1) (step (step whole (c .before .before .before .before .before .before .before .put-bytes .ensures)) (c .before .before .before .put-part .ensures)) refl)
+    (h .0, room-next _ _ (h .1) (step (step whole (at-put-bytes .put-bytes .ensures)) (at-put-part .put-part .ensures)) refl)
 
 put-bytes-requires-2 : tie.Need-put-bytes-requires-2
 put-bytes-requires-2 c κs =
-    let a = c .before .before .before .before .before .before .before .before .before .before .before .before .before .before .before .before .before .args in
-    let h = c .before .before .before .before .before .before .before .before .before .before .before .before .before .before .before .before .before .pre in
-    let seven : length (a .g .parts) ≡ 7 = search needs in
+    let at-put-further-parts = c .before .before .before .before in
+    let at-put-part = at-put-further-parts .before .before .before .before in
+    let at-put-bytes = at-put-part .before .before .before .before in
+    let start = at-put-bytes .before .before .before .before .before in
+    let a = start .args in
+    let h = start .pre in
+    let seven = seven-parts start in
     let whole = start-as _ _ (a .at) (a .page .now) (text-vector (a .g .width) (a .g .parts) (h .0 .some) (omega arith)) in
-    room-last (h .1) (step (step (step whole (c .before .before .before .before .before .before .before .before .before .before .before .before .put-bytes .ensures)) (c .before .before .before .before .before .before .before .before .put-part .ensures)) (c .before .before .before .before .put-further-parts .ensures))
+    room-last (h .1) (step (step (step whole (at-put-bytes .put-bytes .ensures)) (at-put-part .put-part .ensures))
+    (at-put-further-parts .put-further-parts .ensures))
 
 returns : tie.Need-returns
 returns c =
-    let a = c .before .before .before .before .before .before .before .before .before .before .before .before .before .before .before .before .before .before .before .before .args in
-    let h = c .before .before .before .before .before .before .before .before .before .before .before .before .before .before .before .before .before .before .before .before .pre in
-    let seven : length (a .g .parts) ≡ 7 = (let o = c .before .before .before .before .before .before .before .before .before .before .before .before .before .before .before .before .before .before .before .before .good in search needs) in
+    let at-put-bytes2 = c .before .before in
+    let at-put-further-parts = at-put-bytes2 .before .before .before .before .before in
+    let at-put-part = at-put-further-parts .before .before .before .before in
+    let at-put-bytes = at-put-part .before .before .before .before in
+    let start = at-put-bytes .before .before .before .before .before in
+    let a = start .args in
+    let h = start .pre in
+    let seven = seven-parts start in
     let whole = start-as _ _ (a .at) (a .page .now) (text-vector (a .g .width) (a .g .parts) (h .0 .some) (omega arith)) in
-    finish-by (step (step (step whole (c .before .before .before .before .before .before .before .before .before .before .before .before .before .before .before .put-bytes .ensures)) (c .before .before .before .before .before .before .before .before .before .before .before .put-part .ensures)) (c .before .before .before .before .before .before .before .put-further-parts .ensures)) (c .before .before .put-bytes2 .ensures)
+    finish-by (step (step (step whole (at-put-bytes .put-bytes .ensures)) (at-put-part .put-part .ensures))
+    (at-put-further-parts .put-further-parts .ensures)) (at-put-bytes2 .put-bytes2 .ensures)
 
 pub put-vector-spec : {M : Type 1} → statement M
 put-vector-spec =

@@ -13,9 +13,11 @@ use Rattle.text_writer.proofs.writing.put_vector_at.Tie as tie
 
 put-vector-requires : tie.Need-put-vector-requires
 put-vector-requires c κs =
-    let read = c .before .entry-gap .ensures in
     let begin = c .before .before .before in
-    (rw read (begin .pre .0 .fit (begin .args .j) (begin .pre .1)), room-as (begin .pre .2) (sym (ap (λ (g : Gap). text (vectorPieces (gapIn g))) read)))
+    let read = c .before .entry-gap .ensures in (
+      rw read (begin .pre .0 .fit (begin .args .j) (begin .pre .1)),
+      room-as (begin .pre .2) (sym (ap (λ (g : Gap). text (vectorPieces (gapIn g))) read)),
+    )
 
 returns : tie.Need-returns
 returns c =

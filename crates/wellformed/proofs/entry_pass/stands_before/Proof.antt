@@ -30,19 +30,24 @@ returns c =
     let a = at .before .before .args in
     let v = a .codes .now in
     let l = at .loop in
-    sym (l .inv .1 ∙ seen-here (eqb (getD v (a .i) 0)) (λ n. getD v n 0) (l .j) (omega arith) (eq-eqb (getD v (a .i) 0) (getD v (l .j - 1) 0) (c .if1 .taken)))
+    sym (l .inv .1 ∙ seen-here (eqb (getD v (a .i) 0)) (λ n. getD v n 0) (l .j) (omega arith)
+    (eq-eqb (getD v (a .i) 0) (getD v (l .j - 1) 0) (c .if1 .taken)))
 
 loop-again : tie.Need-loop-again Inv-loop μ-loop
 loop-again c =
     let at = c .before .before .before in
     let a = at .before .before .args in
     let v = a .codes .now in
-    let l = at .loop in
-    (omega arith, l .inv .1 ∙ seen-later (eqb (getD v (a .i) 0)) (λ n. getD v n 0) (l .j) (omega arith) (ne-eqb (getD v (a .i) 0) (getD v (l .j - 1) 0) (c .if1 .left)))
+    let l = at .loop in (
+      omega arith,
+      l .inv .1 ∙ seen-later (eqb (getD v (a .i) 0)) (λ n. getD v n 0) (l .j) (omega arith)
+          (ne-eqb (getD v (a .i) 0) (getD v (l .j - 1) 0) (c .if1 .left)),
+    )
 
 returns-2 : tie.Need-returns-2 Inv-loop μ-loop
 returns-2 c =
-    let a = c .before .before .before .args in
+    let start = c .before .before .before in
+    let a = start .args in
     let v = a .codes .now in
     let l = c .before .loop in
     sym (l .inv .1 ∙ seen-none (eqb (getD v (a .i) 0)) (λ n. getD v n 0) (l .j) (omega arith))

@@ -21,7 +21,8 @@ returns c =
     let a = p .before .before .args in
     let e = a .e in
     record {
-      none = a1 .noted .ensures ∙ ap (λ (x : Bool). orElse (a .found .none) (faultIf (not x) NoPermutation (a .i))) (p .is-permuted .ensures);
+      none = a1 .noted .ensures ∙ ap (λ (x : Bool). orElse (a .found .none) (faultIf (not x) NoPermutation (a .i)))
+          (p .is-permuted .ensures);
       twin = b2 .noted2 .ensures ∙ ap (λ (x : Bool). orElse (a .found .twin) (faultIf x Repeated (a .i))) (t .is-twin .ensures);
       width = c3 .noted3 .ensures ∙ ap (λ (x : Bool). orElse (a .found .width) (faultIf x Width (a .i))) (w .wrong-width .ensures);
       position = c .noted4 .ensures ∙ ap (λ (x : Bool). orElse (a .found .position) (faultIf x NoPosition (a .i)))

@@ -24,9 +24,10 @@ slice-aggregate-is-permutation c =
 
 returns : tie.Need-returns
 returns c =
-    let e = c .before .before .before .args .e in
+    let start = c .before .before .before in
+    let e = start .args .e in
     let six : length (e .prefix) ≡ PREFIX = search needs in
-    c .is-permutation .ensures ∙ ap isPerm (sym (padded-within (e .length) (e .prefix) (omega (arith, c .before .before .before .pre .short))))
+    c .is-permutation .ensures ∙ ap isPerm (sym (padded-within (e .length) (e .prefix) (omega (arith, start .pre .short))))
 
 pub is-permuted-spec : {M : Type 1} → statement M
 is-permuted-spec =

@@ -17,7 +17,8 @@ use Rattle.wellformed.proofs.entry_tests.large_gap.Statement.{statement
 use Rattle.wellformed.proofs.entry_tests.large_gap.Tie as tie
 
 abbrev Inv-loop : tie.InvT-loop
-Inv-loop b n sum₀ i₀ sum i = (sum ≤ TOTAL) × (i ≤ n) × (n ≤ COMPONENTS) × (n ≡ b .width) × (largeGap (gapIn b) ≡ ltb TOTAL (sum + total (drop i (padded n (b .parts)))))
+Inv-loop b n sum₀ i₀ sum i = (sum ≤ TOTAL) × (i ≤ n) × (n ≤ COMPONENTS) × (n ≡ b .width) ×
+    (largeGap (gapIn b) ≡ ltb TOTAL (sum + total (drop i (padded n (b .parts)))))
 
 abbrev μ-loop : tie.MeasureT-loop
 μ-loop b n sum₀ i₀ sum i = n - i
@@ -33,24 +34,32 @@ loop-holds c =
 
 returns-2 : tie.Need-returns-2 Inv-loop μ-loop
 returns-2 c =
-    let b = c .before .before .before .before .before .before .args .t1 in
-    let l = c .before .before .before .before .loop in
+    let at-loop = c .before .before .before .before in
+    let start = at-loop .before .before in
+    let b = start .args .t1 in
+    let l = at-loop .loop in
     let seven : length (b .parts) ≡ COMPONENTS = search needs in
     let more = total-more (b .parts) (b .width) (omega arith) (l .i) (omega arith) in
     sym (l .inv .4 ∙ lt-ltb TOTAL (l .sum + total (drop (l .i) (gapIn b))) (omega (arith, more, c .before .wide .ensures .0)))
 
 loop-again : tie.Need-loop-again Inv-loop μ-loop
 loop-again c =
-    let b = c .before .before .before .before .before .before .args .t1 in
-    let l = c .before .before .before .before .loop in
+    let at-wide = c .before in
+    let at-loop = at-wide .before .before .before in
+    let start = at-loop .before .before in
+    let b = start .args .t1 in
+    let l = at-loop .loop in
     let seven : length (b .parts) ≡ COMPONENTS = search needs in
     let more = total-more (b .parts) (b .width) (omega arith) (l .i) (omega arith) in
-    let added : l .sum + total (drop (l .i) (gapIn b)) ≡ l .sum + c .before .wide .result + total (drop (l .i + 1) (gapIn b)) = omega (arith, more, c .before .wide .ensures .0) in
+    let added : l .sum + total (drop (l .i) (gapIn b)) ≡
+    l .sum + at-wide .wide .result + total (drop (l .i + 1) (gapIn b)) =
+    omega (arith, more, at-wide .wide .ensures .0) in
     (omega arith, omega arith, l .inv .2, refl, l .inv .4 ∙ ap (ltb TOTAL) added)
 
 returns-3 : tie.Need-returns-3 Inv-loop μ-loop
 returns-3 c =
-    let b = c .before .before .before .args .t1 in
+    let start = c .before .before .before in
+    let b = start .args .t1 in
     let l = c .before .loop in
     let seven : length (b .parts) ≡ COMPONENTS = search needs in
     let none = total-none (b .parts) (b .width) (omega arith) (l .i) (omega arith) in

@@ -20,32 +20,36 @@ array-share-prefix-p c =
 
 slice-aggregate-same-bytes : tie.Need-slice-aggregate-same-bytes
 slice-aggregate-same-bytes c =
-    let e = c .before .before .before .args .b in
+    let start = c .before .before .before in
+    let e = start .args .b in
     let full : length (e .parts) ≡ COMPONENTS = search needs in
-    sym (length-take-le (e .width) (e .parts) (omega (arith, c .before .before .before .pre .0)))
+    sym (length-take-le (e .width) (e .parts) (omega (arith, start .pre .0)))
 
 array-share-prefix-q : tie.Need-array-share-prefix-q
 array-share-prefix-q c =
-    let e = c .before .before .before .args .d in
+    let start = c .before .before .before in
+    let e = start .args .d in
     let full : length (e .parts) ≡ COMPONENTS = search needs in
-    omega (arith, c .before .before .before .pre .1)
+    omega (arith, start .pre .1)
 
 slice-aggregate-same-bytes-2 : tie.Need-slice-aggregate-same-bytes-2
 slice-aggregate-same-bytes-2 c =
-    let e = c .before .before .before .before .args .d in
+    let start = c .before .before .before .before in
+    let e = start .args .d in
     let full : length (e .parts) ≡ COMPONENTS = search needs in
-    sym (length-take-le (e .width) (e .parts) (omega (arith, c .before .before .before .before .pre .1)))
+    sym (length-take-le (e .width) (e .parts) (omega (arith, start .pre .1)))
 
 returns : tie.Need-returns
 returns c =
-    let e = c .before .before .before .before .before .args .b in
-    let d = c .before .before .before .before .before .args .d in
+    let start = c .before .before .before .before .before in
+    let e = start .args .b in
+    let d = start .args .d in
     let full : length (e .parts) ≡ COMPONENTS = search needs in
     let full-too : length (d .parts) ≡ COMPONENTS = search needs in
     c .same-bytes .ensures ∙
     ap₂ same
-    (sym (padded-within (e .width) (e .parts) (omega (arith, c .before .before .before .before .before .pre .0))))
-    (sym (padded-within (d .width) (d .parts) (omega (arith, c .before .before .before .before .before .pre .1))))
+    (sym (padded-within (e .width) (e .parts) (omega (arith, start .pre .0))))
+    (sym (padded-within (d .width) (d .parts) (omega (arith, start .pre .1))))
 
 pub same-gap-spec : {M : Type 1} → statement M
 same-gap-spec =

@@ -25,17 +25,25 @@ loop-holds c = (omega arith, width-by-gaps (c .args .t1))
 
 returns : tie.Need-returns Inv-loop μ-loop
 returns c =
+    let at-loop = c .before .before .before .before in
+    let start = at-loop .before in
     let w = c .before .wide in
-    let l = c .before .before .before .before .loop in
-    let e = c .before .before .before .before .before .args .t1 in
-    sym (l .inv .1 ∙ any-here (otherWidth e) (gapAt e) (e .«gap_count») (l .j) (omega arith) (width-other e (l .j) (w .result) (w .ensures .0) (c .if1 .taken)))
+    let l = at-loop .loop in
+    let e = start .args .t1 in
+    sym (l .inv .1 ∙ any-here (otherWidth e) (gapAt e) (e .«gap_count») (l .j) (omega arith)
+    (width-other e (l .j) (w .result) (w .ensures .0) (c .if1 .taken)))
 
 loop-again : tie.Need-loop-again Inv-loop μ-loop
 loop-again c =
+    let at-loop = c .before .before .before .before in
+    let start = at-loop .before in
     let w = c .before .wide in
-    let l = c .before .before .before .before .loop in
-    let e = c .before .before .before .before .before .args .t1 in
-    (omega arith, l .inv .1 ∙ any-later (otherWidth e) (gapAt e) (e .«gap_count») (l .j) (omega arith) (width-right e (l .j) (w .result) (w .ensures .0) (c .if1 .left)))
+    let l = at-loop .loop in
+    let e = start .args .t1 in (
+      omega arith,
+      l .inv .1 ∙ any-later (otherWidth e) (gapAt e) (e .«gap_count») (l .j) (omega arith)
+          (width-right e (l .j) (w .result) (w .ensures .0) (c .if1 .left)),
+    )
 
 returns-2 : tie.Need-returns-2 Inv-loop μ-loop
 returns-2 c =

@@ -32,8 +32,10 @@ element-copy-out-q c = omega arith
 
 returns : tie.Need-returns Inv-loop μ-loop
 returns c =
-    let a = c .before .before .before .before .before .before .args in
-    let l = c .before .before .before .before .loop in
+    let at-loop = c .before .before .before .before in
+    let start = at-loop .before .before in
+    let a = start .args in
+    let l = at-loop .loop in
     sym (l .inv .0 ∙ nearest-here (twin (a .t1) (a .i)) (a .i) (l .j) (omega arith) (sym (c .before .same-digits .ensures) ∙ c .if1 .taken))
 
 loop-less : tie.Need-loop-less Inv-loop μ-loop
@@ -41,15 +43,18 @@ loop-less c = omega arith
 
 loop-again : tie.Need-loop-again Inv-loop μ-loop
 loop-again c =
-    let a = c .before .before .before .before .before .before .args in
-    let l = c .before .before .before .before .loop in (
+    let at-loop = c .before .before .before .before in
+    let start = at-loop .before .before in
+    let a = start .args in
+    let l = at-loop .loop in (
       l .inv .0 ∙ nearest-later (twin (a .t1) (a .i)) (a .i) (l .j) (omega arith) (sym (c .before .same-digits .ensures) ∙ c .if1 .left),
       omega arith,
     )
 
 returns-2 : tie.Need-returns-2 Inv-loop μ-loop
 returns-2 c =
-    let a = c .before .before .before .args in
+    let start = c .before .before .before in
+    let a = start .args in
     let l = c .before .loop in
     sym (l .inv .0 ∙ nearest-none (twin (a .t1) (a .i)) (a .i) (l .j) (omega arith))
 

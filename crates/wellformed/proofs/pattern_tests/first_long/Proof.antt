@@ -17,7 +17,8 @@ use Rattle.wellformed.proofs.pattern_tests.first_long.Statement.{statem
 use Rattle.wellformed.proofs.pattern_tests.first_long.Tie as tie
 
 abbrev Inv-loop : tie.InvT-loop
-Inv-loop s n i₀ i = firstAt Oversize (λ β. ltb DIGITS (length β)) 0 (patternsIn s) ≡ first-from Oversize (λ β. ltb DIGITS (length β)) (placeIn s) (s .count) i
+Inv-loop s n i₀ i = firstAt Oversize (λ β. ltb DIGITS (length β)) 0 (patternsIn s) ≡
+    first-from Oversize (λ β. ltb DIGITS (length β)) (placeIn s) (s .count) i
 
 abbrev μ-loop : tie.MeasureT-loop
 μ-loop s n i₀ i = n - i
@@ -27,15 +28,21 @@ loop-holds c = let s = c .args .t1 in first-start Oversize (λ β. ltb DIGITS (l
 
 returns : tie.Need-returns Inv-loop μ-loop
 returns c =
-    let s = c .before .before .before .before .before .args .t1 in
-    let l = c .before .before .before .before .loop in
-    ap faultOf (sym (l .inv ∙ first-here Oversize (λ β. ltb DIGITS (length β)) (placeIn s) (s .count) (l .i) (omega arith) (sym (c .before .too-long .ensures) ∙ c .if1 .taken)))
+    let at-loop = c .before .before .before .before in
+    let start = at-loop .before in
+    let s = start .args .t1 in
+    let l = at-loop .loop in
+    ap faultOf (sym (l .inv ∙ first-here Oversize (λ β. ltb DIGITS (length β)) (placeIn s) (s .count) (l .i)
+    (omega arith) (sym (c .before .too-long .ensures) ∙ c .if1 .taken)))
 
 loop-again : tie.Need-loop-again Inv-loop μ-loop
 loop-again c =
-    let s = c .before .before .before .before .before .args .t1 in
-    let l = c .before .before .before .before .loop in
-    l .inv ∙ first-later Oversize (λ β. ltb DIGITS (length β)) (placeIn s) (s .count) (l .i) (omega arith) (sym (c .before .too-long .ensures) ∙ c .if1 .left)
+    let at-loop = c .before .before .before .before in
+    let start = at-loop .before in
+    let s = start .args .t1 in
+    let l = at-loop .loop in
+    l .inv ∙ first-later Oversize (λ β. ltb DIGITS (length β)) (placeIn s) (s .count) (l .i) (omega arith)
+    (sym (c .before .too-long .ensures) ∙ c .if1 .left)
 
 returns-2 : tie.Need-returns-2 Inv-loop μ-loop
 returns-2 c =

@@ -16,7 +16,8 @@ use Rattle.wellformed.proofs.pattern_tests.first_none.Statement.{statem
 use Rattle.wellformed.proofs.pattern_tests.first_none.Tie as tie
 
 abbrev Inv-loop : tie.InvT-loop
-Inv-loop s n i₀ i = firstAt NoPermutation (λ β. not (isPattern β)) 0 (patternsIn s) ≡ first-from NoPermutation (λ β. not (isPattern β)) (placeIn s) (s .count) i
+Inv-loop s n i₀ i = firstAt NoPermutation (λ β. not (isPattern β)) 0 (patternsIn s) ≡
+    first-from NoPermutation (λ β. not (isPattern β)) (placeIn s) (s .count) i
 
 abbrev μ-loop : tie.MeasureT-loop
 μ-loop s n i₀ i = n - i
@@ -26,15 +27,21 @@ loop-holds c = let s = c .args .t1 in first-start NoPermutation (λ β. not (isP
 
 returns : tie.Need-returns Inv-loop μ-loop
 returns c =
-    let s = c .before .before .before .before .before .args .t1 in
-    let l = c .before .before .before .before .loop in
-    ap faultOf (sym (l .inv ∙ first-here NoPermutation (λ β. not (isPattern β)) (placeIn s) (s .count) (l .i) (omega arith) (sym (c .before .no-pattern .ensures) ∙ c .if1 .taken)))
+    let at-loop = c .before .before .before .before in
+    let start = at-loop .before in
+    let s = start .args .t1 in
+    let l = at-loop .loop in
+    ap faultOf (sym (l .inv ∙ first-here NoPermutation (λ β. not (isPattern β)) (placeIn s) (s .count) (l .i)
+    (omega arith) (sym (c .before .no-pattern .ensures) ∙ c .if1 .taken)))
 
 loop-again : tie.Need-loop-again Inv-loop μ-loop
 loop-again c =
-    let s = c .before .before .before .before .before .args .t1 in
-    let l = c .before .before .before .before .loop in
-    l .inv ∙ first-later NoPermutation (λ β. not (isPattern β)) (placeIn s) (s .count) (l .i) (omega arith) (sym (c .before .no-pattern .ensures) ∙ c .if1 .left)
+    let at-loop = c .before .before .before .before in
+    let start = at-loop .before in
+    let s = start .args .t1 in
+    let l = at-loop .loop in
+    l .inv ∙ first-later NoPermutation (λ β. not (isPattern β)) (placeIn s) (s .count) (l .i) (omega arith)
+    (sym (c .before .no-pattern .ensures) ∙ c .if1 .left)
 
 returns-2 : tie.Need-returns-2 Inv-loop μ-loop
 returns-2 c =

@@ -20,7 +20,8 @@ use Rattle.wellformed.proofs.pattern_tests.first_twin.Statement.{statem
 use Rattle.wellformed.proofs.pattern_tests.first_twin.Tie as tie
 
 -- whether an earlier item is the same, from the place of the nearest one
-nearest : (s : Patterns) (i r : ℕ) → r ≡ nearestTwin (λ j. same (placeIn s i) (placeIn s j)) i → ltb r i ≡ listed (seen (placeIn s) i) (placeIn s i)
+nearest : (s : Patterns) (i r : ℕ) → r ≡ nearestTwin (λ j. same (placeIn s i) (placeIn s j)) i → ltb r i ≡
+    listed (seen (placeIn s) i) (placeIn s i)
 nearest s i r e = ap (λ (n : ℕ). ltb n i) e ∙ nearest-seen (same (placeIn s i)) (placeIn s) i
 
 abbrev Inv-loop : tie.InvT-loop
@@ -34,16 +35,26 @@ loop-holds c = let s = c .args .s in twin-start listed (placeIn s) (s .count)
 
 returns : tie.Need-returns Inv-loop μ-loop
 returns c =
-    let s = c .before .before .before .before .args .s in
-    let l = c .before .before .before .loop in
-    let t = sym (nearest s (l .i) (c .before .earlier-twin .result) (c .before .earlier-twin .ensures)) ∙ lt-ltb (c .before .earlier-twin .result) (l .i) (c .if1 .taken) in
+    let at-earlier-twin = c .before in
+    let at-loop = at-earlier-twin .before .before in
+    let start = at-loop .before in
+    let s = start .args .s in
+    let l = at-loop .loop in
+    let t = sym (nearest s (l .i) (at-earlier-twin .earlier-twin .result)
+    (at-earlier-twin .earlier-twin .ensures)) ∙
+    lt-ltb (at-earlier-twin .earlier-twin .result) (l .i) (c .if1 .taken) in
     ap faultOf (sym (l .inv ∙ twin-here listed (placeIn s) (s .count) (l .i) (omega arith) t))
 
 loop-again : tie.Need-loop-again Inv-loop μ-loop
 loop-again c =
-    let s = c .before .before .before .before .args .s in
-    let l = c .before .before .before .loop in
-    let t = sym (nearest s (l .i) (c .before .earlier-twin .result) (c .before .earlier-twin .ensures)) ∙ le-ltb (c .before .earlier-twin .result) (l .i) (c .if1 .left) in
+    let at-earlier-twin = c .before in
+    let at-loop = at-earlier-twin .before .before in
+    let start = at-loop .before in
+    let s = start .args .s in
+    let l = at-loop .loop in
+    let t = sym (nearest s (l .i) (at-earlier-twin .earlier-twin .result)
+    (at-earlier-twin .earlier-twin .ensures)) ∙
+    le-ltb (at-earlier-twin .earlier-twin .result) (l .i) (c .if1 .left) in
     l .inv ∙ twin-later listed (placeIn s) (s .count) (l .i) (omega arith) t
 
 returns-2 : tie.Need-returns-2 Inv-loop μ-loop

@@ -17,25 +17,30 @@ returns c = let p = c .before .before .args .p in sym (no-empty (p .digits) (p .
 
 returns-2 : tie.Need-returns-2
 returns-2 c =
-    let p = c .before .before .before .args .p in
+    let start = c .before .before .before in
+    let p = start .args .p in
     let eight : length (p .digits) ≡ DIGITS = search needs in
     sym (no-behind (p .digits) (p .length) (omega arith))
 
 array-share-prefix-digits : tie.Need-array-share-prefix-digits
 array-share-prefix-digits c =
-    let p = c .before .before .before .args .p in
+    let start = c .before .before .before in
+    let p = start .args .p in
     let eight : length (p .digits) ≡ DIGITS = search needs in omega arith
 
 slice-aggregate-is-permutation : tie.Need-slice-aggregate-is-permutation
 slice-aggregate-is-permutation c =
-    let p = c .before .before .before .before .args .p in
+    let start = c .before .before .before .before in
+    let p = start .args .p in
     let eight : length (p .digits) ≡ DIGITS = search needs in
     sym (length-take-le (p .length) (p .digits) (omega arith))
 
 returns-3 : tie.Need-returns-3
 returns-3 c =
-    let p = c .before .before .before .before .before .args .p in
-    let eight : length (p .digits) ≡ DIGITS = (let o = c .before .before in search needs) in
+    let place = c .before .before in
+    let start = place .before .before .before in
+    let p = start .args .p in
+    let eight : length (p .digits) ≡ DIGITS = (let o = place in search needs) in
     ap not (c .is-permutation .ensures ∙ sym (pattern-within (p .digits) (p .length) (omega arith) (omega arith)))
 
 pub no-pattern-spec : {M : Type 1} → statement M

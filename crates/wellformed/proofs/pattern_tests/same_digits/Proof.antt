@@ -22,12 +22,14 @@ all-digits : (o : tie.Else1) →
 all-digits o = (search needs, search needs)
 
 -- patterns of one length
-one-length : (p q : Pattern) → p .length ≡ q .length → same (patternIn p) (patternIn q) ≡ same (padded (p .length) (p .digits)) (padded (p .length) (q .digits))
+one-length : (p q : Pattern) → p .length ≡ q .length → same (patternIn p) (patternIn q) ≡
+    same (padded (p .length) (p .digits)) (padded (p .length) (q .digits))
 one-length p q e = ap (λ (n : ℕ). same (patternIn p) (padded n (q .digits))) (sym e)
 
 returns : tie.Need-returns
 returns c =
-    let a = c .before .before .before .before .args in
+    let start = c .before .before .before .before in
+    let a = start .args in
     let p = a .p in
     let q = a .q in
     sym (same-lengths (patternIn p) (patternIn q)
@@ -58,7 +60,8 @@ returns-2 c =
     let a = o .before .before .before .before .args in
     let n = a .p .length in
     c .same-bytes .ensures ∙
-    ap₂ same (sym (padded-within n (a .p .digits) (omega (arith, all-digits o .0)))) (sym (padded-within n (a .q .digits) (omega (arith, all-digits o .1)))) ∙
+    ap₂ same (sym (padded-within n (a .p .digits) (omega (arith, all-digits o .0))))
+    (sym (padded-within n (a .q .digits) (omega (arith, all-digits o .1)))) ∙
     sym (one-length (a .p) (a .q) (o .if1 .left))
 
 returns-3 : tie.Need-returns-3

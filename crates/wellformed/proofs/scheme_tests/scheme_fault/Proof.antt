@@ -17,7 +17,8 @@ use Rattle.scheme.specs.Links.{prefixesIn}
 use Rattle.scheme.specs.TestOrder.{entryTests}
 use Rattle.scheme.specs.WellFormed.{permutationTest, twinTest, rootTest, widthTest, positionTest, childTest, targetTest}
 use Rattle.wellformed.proofs.EntryTestLaws.{largeFinding, scheme-many, sized-entry, sized-of-clean}
-use Rattle.wellformed.proofs.OrderLaws.{scheme-by-size, scheme-by-entry, scheme-by-links, not-faulty, linked-of-clean, five-faults, two-faults}
+use Rattle.wellformed.proofs.OrderLaws.{scheme-by-size, scheme-by-entry, scheme-by-links, not-faulty}
+use Rattle.wellformed.proofs.OrderLaws.{linked-of-clean, five-faults, two-faults}
 use Rattle.wellformed.proofs.PassLaws.{Pass, pass-start, pass-large, pass-more, pass-sized, pass-codes, pass-findings}
 use Rattle.wellformed.proofs.scheme_tests.scheme_fault.Statement.{statement}
 use Rattle.wellformed.proofs.scheme_tests.scheme_fault.Tie as tie
@@ -46,7 +47,8 @@ returns-2 c =
     let turn = test .before .before in
     let l = turn .before .loop in
     let s = turn .before .before .before .before .args .t1 in
-    let large = ap faultOf (pass-large s (l .found) (l .codes) (l .i) (l .inv) (turn .loop-test .taken) (sym (test .large-entry .ensures) ∙ c .if2 .taken)) in
+    let large = ap faultOf (pass-large s (l .found) (l .codes) (l .i) (l .inv) (turn .loop-test .taken)
+    (sym (test .large-entry .ensures) ∙ c .if2 .taken)) in
     large ∙ sym (scheme-by-size (schemeIn s) (At Oversize (l .i)) large refl)
 
 entry-code-requires : tie.Need-entry-code-requires Inv-loop μ-loop
@@ -82,14 +84,16 @@ loop-again c =
     let turn = kept .before .before .before in
     let l = turn .before .loop in
     let s = turn .before .before .before .before .args .t1 in
-    pass-more s (l .found) (l .codes) (l .i) (l .inv) (turn .loop-test .taken) (code .entry-code .result) (code .entry-code .ensures) (c .with-entry .result)
+    pass-more s (l .found) (l .codes) (l .i) (l .inv) (turn .loop-test .taken) (code .entry-code .result)
+    (code .entry-code .ensures) (c .with-entry .result)
     (sym (kept .before .large-entry .ensures) ∙ kept .if2 .left) (c .with-entry .ensures)
 
 -- behind the loop: test 2 found nothing, and the codes are those of all entries
 size-clean : (o : tie.After-loop Inv-loop μ-loop) → Clean ≡ faultOf (largeFinding (schemeIn (o .before .before .before .before .args .t1)))
 size-clean o =
+    let start = o .before .before .before .before in
     let l = o .before .loop in
-    ap faultOf (pass-sized (o .before .before .before .before .args .t1) (l .found) (l .codes) (l .i) (l .inv) (o .loop-test .left))
+    ap faultOf (pass-sized (start .args .t1) (l .found) (l .codes) (l .i) (l .inv) (o .loop-test .left))
 
 room : (o : tie.After-loop Inv-loop μ-loop) → o .before .before .before .before .args .t1 .count ≤ length (o .before .loop .codes)
 room o =
@@ -102,8 +106,9 @@ codes : (o : tie.After-loop Inv-loop μ-loop) →
     let s = o .before .before .before .before .args .t1 in
     Codes (prefixesIn s) (take (s .count) (o .before .loop .codes))
 codes o =
+    let start = o .before .before .before .before in
     let l = o .before .loop in
-    pass-codes (o .before .before .before .before .args .t1) (l .found) (l .codes) (l .i) (l .inv) (o .loop-test .left)
+    pass-codes (start .args .t1) (l .found) (l .codes) (l .i) (l .inv) (o .loop-test .left)
 
 -- what the tests 3 to 7 find
 entries : (f : tie.After-entry-fault Inv-loop μ-loop) →
@@ -135,7 +140,9 @@ returns-3 c =
     entries f ∙ sym (scheme-by-entry E Clean (size-clean o) refl (f .entry-fault .result) (entries f) fault)
 
 array-share-prefix-codes-2 : tie.Need-array-share-prefix-codes-2 Inv-loop μ-loop
-array-share-prefix-codes-2 c = room (c .before .before .before .before)
+array-share-prefix-codes-2 c =
+    let place = c .before .before .before .before in
+    room place
 
 slice-aggregate-link-faults : tie.Need-slice-aggregate-link-faults Inv-loop μ-loop
 slice-aggregate-link-faults c =
@@ -159,7 +166,8 @@ returns-4 c =
     let o = f .before .before in
     let E = schemeIn (o .before .before .before .before .args .t1) in
     let clean = sym (q .before .is-fault .ensures) ∙ q .if3 .left in
-    c .link-fault .ensures ∙ ap₂ orElse (links .link-faults .ensures .0) (links .link-faults .ensures .1) ∙ sym (two-faults (childTest E) (targetTest E)) ∙
+    c .link-fault .ensures ∙ ap₂ orElse (links .link-faults .ensures .0) (links .link-faults .ensures .1) ∙
+    sym (two-faults (childTest E) (targetTest E)) ∙
     sym (scheme-by-links E Clean (size-clean o) refl (f .entry-fault .result) (entries f) clean)
 
 pub scheme-fault-spec : {M : Type 1} → statement M

@@ -18,16 +18,20 @@ abbrev μ-loop : tie.MeasureT-loop
 
 returns : tie.Need-returns Inv-loop μ-loop
 returns c =
-    let l = c .before .before .loop in
-    let s = c .before .before .before .args .s .now in
+    let at-loop = c .before .before in
+    let start = at-loop .before in
+    let l = at-loop .loop in
+    let s = start .args .s .now in
     let whole : l .i ≡ length s = omega arith in
     let eight : length s ≤ 8 = omega arith in
     ap (λ (k : ℕ). take k (l .digits)) (sym whole) ∙ l .inv .0 ∙ take-all (l .i) s (omega arith) ∙ sym (take-all 8 s eight)
 
 loop-again : tie.Need-loop-again Inv-loop μ-loop
 loop-again c =
-    let l = c .before .before .before .loop in
-    let s = c .before .before .before .before .args .s .now in
+    let at-loop = c .before .before .before in
+    let start = at-loop .before in
+    let l = at-loop .loop in
+    let s = start .args .s .now in
     let more : l .i < length s = omega arith in
     let room : l .i < length (l .digits) = omega arith in (
       rw (add-one, take-suc-set (l .digits) (l .i) (getD s (l .i) 0) room, take-suc s (l .i) 0 more, l .inv .0) refl,
@@ -42,7 +46,8 @@ returns-2 c =
     let s = c .before .before .args .s .now in
     let all : l .i ≡ 8 = omega arith in
     let long : length (l .digits) ≤ length s = omega arith in
-    take-all (length s) (l .digits) long ∙ sym (take-all 8 (l .digits) (omega arith)) ∙ ap (λ (k : ℕ). take k (l .digits)) (sym all) ∙ l .inv .0 ∙
+    take-all (length s) (l .digits) long ∙ sym (take-all 8 (l .digits) (omega arith)) ∙
+    ap (λ (k : ℕ). take k (l .digits)) (sym all) ∙ l .inv .0 ∙
     ap (λ (k : ℕ). take k s) all
 
 pub digits-of-spec : {M : Type 1} → statement M

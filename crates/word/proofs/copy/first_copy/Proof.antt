@@ -9,7 +9,9 @@ use native.Mathlib.Omega.{arith}
 use lib.ListN.{length, getD, take, drop}
 use Rattle.word.specs.Copy.{shown}
 use Rattle.word.specs.Vocabulary.{fits}
-use Rattle.word.proofs.Search.{Walk, weight, empty-copy, length-cut, walk-start, walk-skip, walk-on, walk-found, walk-back, walk-none, pairs-none, pair-passed, pair-failed, weight-skip, weight-place, weight-back}
+use Rattle.word.proofs.Search.{Walk, weight, empty-copy, length-cut, walk-start, walk-skip, walk-on}
+use Rattle.word.proofs.Search.{walk-found, walk-back, walk-none, pairs-none, pair-passed, pair-failed}
+use Rattle.word.proofs.Search.{weight-skip, weight-place, weight-back}
 use Rattle.word.proofs.copy.first_copy.Statement.{statement}
 use Rattle.word.proofs.copy.first_copy.Tie as tie
 
@@ -44,15 +46,21 @@ capped-requires c κs = search needs
 
 returns : tie.Need-returns Inv-pairs μ-pairs Inv-positions μ-positions Inv-copy μ-copy
 returns c =
-    let a = c .before .before .before .args in
+    let at-capped = c .before in
+    let start = at-capped .before .before in
+    let a = start .args in
     let eight : length (a .t1) ≡ 8 = search needs in
-    sym (empty-copy (take (a .len) (a .t1)) (a .w .now) (length-cut (a .t1) (a .w .now) (a .len) (c .before .capped .result) eight (c .before .capped .ensures) ∙ c .if1 .taken))
+    sym (empty-copy (take (a .len) (a .t1)) (a .w .now)
+    (length-cut (a .t1) (a .w .now) (a .len) (at-capped .capped .result) eight (at-capped .capped .ensures) ∙
+    c .if1 .taken))
 
 copy-holds : tie.Need-copy-holds Inv-pairs μ-pairs Inv-positions μ-positions Inv-copy μ-copy
 copy-holds c =
-    let a = c .before .before .before .args in
+    let at-capped = c .before in
+    let start = at-capped .before .before in
+    let a = start .args in
     let eight : length (a .t1) ≡ 8 = search needs in
-    walk-start (a .t1) (a .w .now) (a .len) (c .before .capped .result) eight (c .before .capped .ensures) (c .if1 .left)
+    walk-start (a .t1) (a .w .now) (a .len) (at-capped .capped .result) eight (at-capped .capped .ensures) (c .if1 .left)
 
 positions-holds :
     tie.Need-positions-holds Inv-pairs μ-pairs Inv-positions μ-positions Inv-copy μ-copy
@@ -85,16 +93,20 @@ positions-less c = search needs
 positions-again :
     tie.Need-positions-again Inv-pairs μ-pairs Inv-positions μ-positions Inv-copy μ-copy
 positions-again c =
-    let a = c .before .before .before .before .before .before .before .before .before .before .args in
-    let s = c .before .before .before .before .before .positions in
-    let k = c .before .before .before .before .before .before .before .before .capped in
+    let at-pairs = c .before .before in
+    let at-positions = at-pairs .before .before .before in
+    let at-capped = at-positions .before .before .before in
+    let start = at-capped .before .before in
+    let a = start .args in
+    let s = at-positions .positions in
+    let k = at-capped .capped in
     let W = s .inv .0 in
     let eight : length (a .t1) ≡ 8 = search needs in
     let more : s .i < length (a .w .now) = omega arith in
-    let j : c .before .before .pairs .j < s .d = omega arith in
+    let j : at-pairs .pairs .j < s .d = omega arith in
     let failed : fits (take (s .d) (a .t1)) (getD (a .t1) (s .d) 0) (take (s .d) (s .entries)) (getD (a .w .now) (s .i) 0) ≡ false =
-    c .before .before .pairs .inv .1 ∙
-    pair-failed (a .t1) (s .entries) (getD (a .t1) (s .d) 0) (getD (a .w .now) (s .i) 0) (s .d) (c .before .before .pairs .j)
+    at-pairs .pairs .inv .1 ∙
+    pair-failed (a .t1) (s .entries) (getD (a .t1) (s .d) 0) (getD (a .w .now) (s .i) 0) (s .d) (at-pairs .pairs .j)
     (omega (arith, W .inside, k .ensures)) (omega (arith, W .inside, W .values, k .ensures)) j (c .if2 .taken) in (
       walk-skip (a .t1) (a .w .now) (a .len) (k .result) eight (k .ensures) (s .at) (s .entries) (s .d) (s .i) W more failed,
       omega (arith, s .inv .1, weight-skip (k .result) (length (a .w .now)) (s .at) (s .d) (s .i) (W .inside) more),
@@ -102,15 +114,19 @@ positions-again c =
 
 pairs-again : tie.Need-pairs-again Inv-pairs μ-pairs Inv-positions μ-positions Inv-copy μ-copy
 pairs-again c =
-    let a = c .before .before .before .before .before .before .before .before .before .before .args in
-    let s = c .before .before .before .before .before .positions in
-    let k = c .before .before .before .before .before .before .before .before .capped in
+    let at-pairs = c .before .before in
+    let at-positions = at-pairs .before .before .before in
+    let at-capped = at-positions .before .before .before in
+    let start = at-capped .before .before in
+    let a = start .args in
+    let s = at-positions .positions in
+    let k = at-capped .capped in
     let W = s .inv .0 in
     let eight : length (a .t1) ≡ 8 = search needs in
-    let j : c .before .before .pairs .j < s .d = omega arith in (
+    let j : at-pairs .pairs .j < s .d = omega arith in (
       omega arith,
-      c .before .before .pairs .inv .1 ∙
-          pair-passed (a .t1) (s .entries) (getD (a .t1) (s .d) 0) (getD (a .w .now) (s .i) 0) (s .d) (c .before .before .pairs .j)
+      at-pairs .pairs .inv .1 ∙
+          pair-passed (a .t1) (s .entries) (getD (a .t1) (s .d) 0) (getD (a .w .now) (s .i) 0) (s .d) (at-pairs .pairs .j)
           (omega (arith, W .inside, k .ensures)) (omega (arith, W .inside, W .values, k .ensures)) j (c .if2 .left),
     )
 
@@ -129,65 +145,92 @@ passed :
     let s = c .before .before .before .before .positions in
     fits (take (s .d) (a .t1)) (getD (a .t1) (s .d) 0) (take (s .d) (s .entries)) (getD (a .w .now) (s .i) 0) ≡ true
 passed c =
-    let a = c .before .before .before .before .before .before .before .before .before .args in
-    let s = c .before .before .before .before .positions in
-    let k = c .before .before .before .before .before .before .before .capped in
+    let at-pairs = c .before in
+    let at-positions = at-pairs .before .before .before in
+    let at-capped = at-positions .before .before .before in
+    let start = at-capped .before .before in
+    let a = start .args in
+    let s = at-positions .positions in
+    let k = at-capped .capped in
     let W = s .inv .0 in
     let eight : length (a .t1) ≡ 8 = search needs in
-    c .before .pairs .inv .1 ∙
-    pairs-none (a .t1) (s .entries) (getD (a .t1) (s .d) 0) (getD (a .w .now) (s .i) 0) (s .d) (c .before .pairs .j)
+    at-pairs .pairs .inv .1 ∙
+    pairs-none (a .t1) (s .entries) (getD (a .t1) (s .d) 0) (getD (a .w .now) (s .i) 0) (s .d) (at-pairs .pairs .j)
     (omega (arith, W .inside, k .ensures)) (omega (arith, W .inside, W .values, k .ensures)) (omega arith)
 
 copy-less : tie.Need-copy-less Inv-pairs μ-pairs Inv-positions μ-positions Inv-copy μ-copy
 copy-less c =
-    let a = c .before .before .before .before .before .before .before .before .before .before .args in
-    let s = c .before .before .before .before .before .positions in
-    let k = c .before .before .before .before .before .before .before .before .capped in
+    let at-positions = c .before .before .before .before .before in
+    let at-capped = at-positions .before .before .before in
+    let start = at-capped .before .before in
+    let a = start .args in
+    let s = at-positions .positions in
+    let k = at-capped .capped in
     let W = s .inv .0 in
     let more : s .i < length (a .w .now) = omega arith in
-    let less = weight-place (k .result) (length (a .w .now)) (s .at) (s .d) (s .i) (W .inside) more (omega (arith, W .inside, W .positions, k .ensures)) in
+    let less = weight-place (k .result) (length (a .w .now)) (s .at) (s .d) (s .i) (W .inside) more
+    (omega (arith, W .inside, W .positions, k .ensures)) in
     omega (arith, s .inv .1, less)
 
 copy-again : tie.Need-copy-again Inv-pairs μ-pairs Inv-positions μ-positions Inv-copy μ-copy
 copy-again c =
-    let a = c .before .before .before .before .before .before .before .before .before .before .args in
-    let s = c .before .before .before .before .before .positions in
-    let k = c .before .before .before .before .before .before .before .before .capped in
+    let at-positions = c .before .before .before .before .before in
+    let at-capped = at-positions .before .before .before in
+    let start = at-capped .before .before in
+    let a = start .args in
+    let s = at-positions .positions in
+    let k = at-capped .capped in
     let eight : length (a .t1) ≡ 8 = search needs in
     let more : s .i < length (a .w .now) = omega arith in
-    walk-on (a .t1) (a .w .now) (a .len) (k .result) eight (k .ensures) (s .at) (s .entries) (s .d) (s .i) (s .inv .0) more (passed (c .before)) (c .if3 .left)
+    walk-on (a .t1) (a .w .now) (a .len) (k .result) eight (k .ensures) (s .at) (s .entries) (s .d) (s .i)
+    (s .inv .0) more (passed (c .before)) (c .if3 .left)
 
 returns-2 : tie.Need-returns-2 Inv-pairs μ-pairs Inv-positions μ-positions Inv-copy μ-copy
 returns-2 c =
-    let a = c .before .before .before .before .before .before .before .args in
-    let s = c .before .before .positions in
-    let k = c .before .before .before .before .before .capped in
+    let at-positions = c .before .before in
+    let at-capped = at-positions .before .before .before in
+    let start = at-capped .before .before in
+    let a = start .args in
+    let s = at-positions .positions in
+    let k = at-capped .capped in
     let eight : length (a .t1) ≡ 8 = search needs in
-    let none-left = walk-none (a .t1) (a .w .now) (a .len) (k .result) eight (k .ensures) (s .at) (s .entries) (s .d) (s .i) (s .inv .0) (omega arith) (c .if4 .taken) in
+    let none-left = walk-none (a .t1) (a .w .now) (a .len) (k .result) eight (k .ensures) (s .at) (s .entries)
+    (s .d) (s .i) (s .inv .0) (omega arith) (c .if4 .taken) in
     sym (ap shown none-left)
 
 copy-less-2 : tie.Need-copy-less-2 Inv-pairs μ-pairs Inv-positions μ-positions Inv-copy μ-copy
 copy-less-2 c =
-    let s = c .before .before .positions in
-    let back = weight-back (c .before .before .before .before .before .capped .result) (length (c .before .before .before .before .before .before .before .args .w .now)) (s .at) (s .d) (s .i) (c .if4 .left) in
+    let at-positions = c .before .before in
+    let at-capped = at-positions .before .before .before in
+    let start = at-capped .before .before in
+    let s = at-positions .positions in
+    let back = weight-back (at-capped .capped .result) (length (start .args .w .now)) (s .at) (s .d) (s .i) (c .if4 .left) in
     omega (arith, s .inv .1, back)
 
 copy-again-2 : tie.Need-copy-again-2 Inv-pairs μ-pairs Inv-positions μ-positions Inv-copy μ-copy
 copy-again-2 c =
-    let a = c .before .before .before .before .before .before .before .args in
-    let s = c .before .before .positions in
-    let k = c .before .before .before .before .before .capped in
+    let at-positions = c .before .before in
+    let at-capped = at-positions .before .before .before in
+    let start = at-capped .before .before in
+    let a = start .args in
+    let s = at-positions .positions in
+    let k = at-capped .capped in
     let eight : length (a .t1) ≡ 8 = search needs in
-    walk-back (a .t1) (a .w .now) (a .len) (k .result) eight (k .ensures) (s .at) (s .entries) (s .d) (s .i) (s .inv .0) (omega arith) (c .if4 .left)
+    walk-back (a .t1) (a .w .now) (a .len) (k .result) eight (k .ensures) (s .at) (s .entries) (s .d) (s .i)
+    (s .inv .0) (omega arith) (c .if4 .left)
 
 returns-3 : tie.Need-returns-3 Inv-pairs μ-pairs Inv-positions μ-positions Inv-copy μ-copy
 returns-3 c =
-    let a = c .before .before .before .before .before .before .before .before .before .before .args in
-    let s = c .before .before .before .before .before .positions in
-    let k = c .before .before .before .before .before .before .before .before .capped in
+    let at-positions = c .before .before .before .before .before in
+    let at-capped = at-positions .before .before .before in
+    let start = at-capped .before .before in
+    let a = start .args in
+    let s = at-positions .positions in
+    let k = at-capped .capped in
     let eight : length (a .t1) ≡ 8 = search needs in
     let more : s .i < length (a .w .now) = omega arith in
-    walk-found (a .t1) (a .w .now) (a .len) (k .result) eight (k .ensures) (s .at) (s .entries) (s .d) (s .i) (s .inv .0) more (passed (c .before)) (c .if3 .taken)
+    walk-found (a .t1) (a .w .now) (a .len) (k .result) eight (k .ensures) (s .at) (s .entries) (s .d) (s .i)
+    (s .inv .0) more (passed (c .before)) (c .if3 .taken)
 
 pub first-copy-spec : {M : Type 1} → statement M
 first-copy-spec =

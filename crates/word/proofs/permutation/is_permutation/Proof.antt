@@ -22,33 +22,44 @@ loop-holds c = listed-whole (c .before .args .s .now)
 
 returns : tie.Need-returns Inv-loop μ-loop
 returns c =
-    let s = c .before .before .before .before .before .args .s .now in
-    let l = c .before .before .before .loop in
+    let at-loop = c .before .before .before in
+    let start = at-loop .before .before in
+    let s = start .args .s .now in
+    let l = at-loop .loop in
     sym (l .inv ∙ listed-none (length s) s (l .i) (omega arith) (c .if1 .taken))
 
 returns-2 : tie.Need-returns-2 Inv-loop μ-loop
 returns-2 c =
-    let s = c .before .before .before .before .before .before .before .args .s .now in
-    let l = c .before .before .before .before .before .loop in
+    let at-loop = c .before .before .before .before .before in
+    let start = at-loop .before .before in
+    let s = start .args .s .now in
+    let l = at-loop .loop in
     let above : length s < getD s (l .i) 0 = omega (arith, c .before .wide .ensures .0) in
     sym (l .inv ∙ listed-above (length s) s (l .i) (omega arith) above)
 
 returns-3 : tie.Need-returns-3 Inv-loop μ-loop
 returns-3 c =
-    let s = c .before .before .before .before .before .before .before .before .before .args .s .now in
-    let l = c .before .before .before .before .before .before .before .loop in
+    let at-loop = c .before .before .before .before .before .before .before in
+    let start = at-loop .before .before in
+    let s = start .args .s .now in
+    let l = at-loop .loop in
     sym (l .inv ∙ listed-twice (length s) s (l .i) (omega arith) (sym (c .before .stands-from .ensures) ∙ c .if3 .taken))
 
 loop-again : tie.Need-loop-again Inv-loop μ-loop
 loop-again c =
-    let s = c .before .before .before .before .before .before .before .before .before .args .s .now in
-    let l = c .before .before .before .before .before .before .before .loop in
-    let inside : getD s (l .i) 0 ≤ length s = omega (arith, c .before .before .before .wide .ensures .0) in
-    l .inv ∙ listed-next (length s) s (l .i) (omega arith) (c .before .before .before .before .if1 .left) inside (sym (c .before .stands-from .ensures) ∙ c .if3 .left)
+    let at-wide = c .before .before .before in
+    let at-if1 = at-wide .before in
+    let at-loop = at-if1 .before .before .before in
+    let start = at-loop .before .before in
+    let s = start .args .s .now in
+    let l = at-loop .loop in
+    let inside : getD s (l .i) 0 ≤ length s = omega (arith, at-wide .wide .ensures .0) in
+    l .inv ∙ listed-next (length s) s (l .i) (omega arith) (at-if1 .if1 .left) inside (sym (c .before .stands-from .ensures) ∙ c .if3 .left)
 
 returns-4 : tie.Need-returns-4 Inv-loop μ-loop
 returns-4 c =
-    let s = c .before .before .before .args .s .now in
+    let start = c .before .before .before in
+    let s = start .args .s .now in
     let l = c .before .loop in
     sym (l .inv ∙ listed-end (length s) s (l .i) (omega arith))
 

@@ -1,5 +1,5 @@
--- `word::permutation::stands_from` meets its contract: what stands from `from` on is what stands from
--- the index on.
+-- `word::permutation::stands_from` meets its contract: what stands from `from` on is what stands
+-- from the index on.
 -- Assumes nothing.
 use Prim.Native.Nat.{_-_}
 use mathlib.Core.Path.{_≡_, sym, _∙_}
@@ -19,13 +19,17 @@ abbrev μ-loop : tie.MeasureT-loop
 
 returns : tie.Need-returns Inv-loop μ-loop
 returns c =
-    let a = c .before .before .before .before .args in
-    sym (c .before .before .before .loop .inv ∙ has-here (a .x) (a .s .now) (c .before .before .before .loop .i) (omega arith) (c .if1 .taken))
+    let at-loop = c .before .before .before in
+    let start = at-loop .before in
+    let a = start .args in
+    sym (at-loop .loop .inv ∙ has-here (a .x) (a .s .now) (at-loop .loop .i) (omega arith) (c .if1 .taken))
 
 loop-again : tie.Need-loop-again Inv-loop μ-loop
 loop-again c =
-    let a = c .before .before .before .before .args in
-    c .before .before .before .loop .inv ∙ has-later (a .x) (a .s .now) (c .before .before .before .loop .i) (omega arith) (c .if1 .left)
+    let at-loop = c .before .before .before in
+    let start = at-loop .before in
+    let a = start .args in
+    at-loop .loop .inv ∙ has-later (a .x) (a .s .now) (at-loop .loop .i) (omega arith) (c .if1 .left)
 
 returns-2 : tie.Need-returns-2 Inv-loop μ-loop
 returns-2 c =
