@@ -102,10 +102,9 @@ module _ (t : ℕ) where
 
   loop-again : goes-on-lts.Need-loop-again (called t) (goes-on-at t) goes-on.Post Inv-loop μ-loop
   loop-again c =
-      let at-loop = c .before .before .before in
-      let start = at-loop .before .before .before .before in
+      let start = c .before .before .before .before .before .before .before in
       let a = start .args in
-      let l = at-loop .loop in (
+      let l = c .before .before .before .loop in (
         l .inv .0 ∙ goes-stands (patternsOf (a .set) (a .lengths) (a .count)) (take (a .len) (a .word)) (l .v) (a .n) (omega arith)
             (sym (c .before .stands .ensures) ∙ c .if3 .taken),
         omega arith,
@@ -119,43 +118,38 @@ module _ (t : ℕ) where
 
   goes-on-requires : goes-on-lts.Need-goes-on-requires (called t) (goes-on-at t) goes-on.Post Inv-loop μ-loop
   goes-on-requires c κs =
-      let at-stands = c .before .before in
-      let at-loop = at-stands .before .before in
+      let at-loop = c .before .before .before .before in
       let start = at-loop .before .before .before .before in
       let a = start .args in
       let l = at-loop .loop in
       let less : a .n - (a .len + 1) < t = omega (arith, start .pre .0) in
       let more = begun-snoc (a .n) (take (a .len) (a .word)) (l .v) (start .pre .1 .2) (l .inv .1) (omega arith)
-      (sym (at-stands .stands .ensures) ∙ c .before .if3 .left) in
+      (sym (c .before .before .stands .ensures) ∙ c .before .if3 .left) in
       (less, (omega arith, omega arith, ap (begun (a .n)) (c .put .ensures) ∙ more))
 
   returns-3 : goes-on-lts.Need-returns-3 (called t) (goes-on-at t) goes-on.Post Inv-loop μ-loop
   returns-3 c =
-      let at-put = c .before .before in
-      let at-if3 = at-put .before in
-      let at-stands = at-if3 .before in
-      let at-loop = at-stands .before .before in
-      let start = at-loop .before .before .before .before in
+      let at-stands = c .before .before .before .before in
+      let start = at-stands .before .before .before .before .before .before in
       let a = start .args in
-      let l = at-loop .loop in
+      let l = at-stands .before .before .loop in
       let P = patternsOf (a .set) (a .lengths) (a .count) in
       c .if4 .taken ∙ sym (l .inv .0 ∙ goes-there P (take (a .len) (a .word)) (l .v) (a .n) (omega arith)
-      (sym (at-stands .stands .ensures) ∙ at-if3 .if3 .left)
-      (ap (completable P (a .n)) (sym (at-put .put .ensures)) ∙ sym (c .before .goes-on .ensures) ∙ c .if4 .taken))
+      (sym (at-stands .stands .ensures) ∙ c .before .before .before .if3 .left)
+      (ap (completable P (a .n)) (sym (c .before .before .put .ensures)) ∙ sym (c .before .goes-on .ensures) ∙ c .if4 .taken))
 
   loop-less-2 : goes-on-lts.Need-loop-less-2 (called t) (goes-on-at t) goes-on.Post Inv-loop μ-loop
   loop-less-2 c = search needs
 
   loop-again-2 : goes-on-lts.Need-loop-again-2 (called t) (goes-on-at t) goes-on.Post Inv-loop μ-loop
   loop-again-2 c =
-      let at-put = c .before .before in
-      let at-loop = at-put .before .before .before .before in
+      let at-loop = c .before .before .before .before .before .before in
       let start = at-loop .before .before .before .before in
       let a = start .args in
       let l = at-loop .loop in
       let P = patternsOf (a .set) (a .lengths) (a .count) in (
         l .inv .0 ∙ goes-not P (take (a .len) (a .word)) (l .v) (a .n) (omega arith)
-            (ap (completable P (a .n)) (sym (at-put .put .ensures)) ∙ sym (c .before .goes-on .ensures) ∙ c .if4 .left),
+            (ap (completable P (a .n)) (sym (c .before .before .put .ensures)) ∙ sym (c .before .goes-on .ensures) ∙ c .if4 .left),
         omega arith,
       )
 

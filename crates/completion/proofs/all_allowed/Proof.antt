@@ -29,10 +29,9 @@ loop-holds c =
 
 loop-again : tie.Need-loop-again Inv-loop μ-loop
 loop-again c =
-    let at-loop = c .before .before .before in
-    let start = at-loop .before in
+    let start = c .before .before .before .before in
     let a = start .args in
-    let l = at-loop .loop in (
+    let l = c .before .before .before .loop in (
       l .inv .0 ∙ allowed-stands (patternsOf (a .set) (a .lengths) (a .count)) (take (a .len) (a .word)) (l .next) (a .n) (omega arith)
           (sym (c .before .stands .ensures) ∙ c .if1 .taken),
       omega arith,
@@ -40,31 +39,25 @@ loop-again c =
 
 returns : tie.Need-returns Inv-loop μ-loop
 returns c =
-    let at-put = c .before .before in
-    let at-if1 = at-put .before in
-    let at-stands = at-if1 .before in
-    let at-loop = at-stands .before .before in
-    let start = at-loop .before in
+    let at-stands = c .before .before .before .before in
+    let start = at-stands .before .before .before in
     let a = start .args in
-    let l = at-loop .loop in
+    let l = at-stands .before .before .loop in
     let P = patternsOf (a .set) (a .lengths) (a .count) in
     sym (l .inv .0 ∙ allowed-fails P (take (a .len) (a .word)) (l .next) (a .n) (omega arith)
-    (sym (at-stands .stands .ensures) ∙ at-if1 .if1 .left)
-    (ap (avoids P) (sym (at-put .put .ensures)) ∙ not-true _ (sym (c .before .contained .ensures) ∙ c .if2 .taken)))
+    (sym (at-stands .stands .ensures) ∙ c .before .before .before .if1 .left)
+    (ap (avoids P) (sym (c .before .before .put .ensures)) ∙ not-true _ (sym (c .before .contained .ensures) ∙ c .if2 .taken)))
 
 loop-again-2 : tie.Need-loop-again-2 Inv-loop μ-loop
 loop-again-2 c =
-    let at-put = c .before .before in
-    let at-if1 = at-put .before in
-    let at-stands = at-if1 .before in
-    let at-loop = at-stands .before .before in
-    let start = at-loop .before in
+    let at-stands = c .before .before .before .before in
+    let start = at-stands .before .before .before in
     let a = start .args in
-    let l = at-loop .loop in
+    let l = at-stands .before .before .loop in
     let P = patternsOf (a .set) (a .lengths) (a .count) in (
       l .inv .0 ∙ allowed-fits P (take (a .len) (a .word)) (l .next) (a .n) (omega arith)
-          (sym (at-stands .stands .ensures) ∙ at-if1 .if1 .left)
-          (ap (avoids P) (sym (at-put .put .ensures)) ∙ not-false _ (sym (c .before .contained .ensures) ∙ c .if2 .left)),
+          (sym (at-stands .stands .ensures) ∙ c .before .before .before .if1 .left)
+          (ap (avoids P) (sym (c .before .before .put .ensures)) ∙ not-false _ (sym (c .before .contained .ensures) ∙ c .if2 .left)),
       omega arith,
     )
 

@@ -51,14 +51,13 @@ returns-3 c =
 
 loop-again : tie.Need-loop-again Inv-loop μ-loop
 loop-again c =
-    let at-wide = c .before .before .before in
-    let at-if1 = at-wide .before in
+    let at-if1 = c .before .before .before .before in
     let at-loop = at-if1 .before .before in
     let start = at-loop .before in
     let a = start .args in
     let i = at-loop .loop .i in
     let long : length (a .t1) ≡ 20 = search needs in
-    let high : getD (a .t1) i 0 ≤ a .n = omega (arith, at-wide .wide .ensures .0) in (
+    let high : getD (a .t1) i 0 ≤ a .n = omega (arith, c .before .before .before .wide .ensures .0) in (
       begun-more (a .n) (a .t1) i (omega arith) (at-loop .loop .inv .0) (at-if1 .if1 .left) high
           (sym (c .before .stands .ensures) ∙ c .if3 .left),
       omega arith,

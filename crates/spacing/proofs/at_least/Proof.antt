@@ -22,20 +22,18 @@ loop-holds c = (omega arith, refl)
 
 returns : tie.Need-returns Inv-loop μ-loop
 returns c =
-    let at-loop = c .before .before in
-    let start = at-loop .before in
+    let start = c .before .before .before in
     let a = start .args in
-    let l = at-loop .loop in
+    let l = c .before .before .loop in
     let seven : length (a .t1) ≡ COMPONENTS = search needs in
     let other : length (a .t2) ≡ COMPONENTS = search needs in
     sym (l .inv .1 ∙ least-fails (a .t1) (a .t2) (a .k) (l .i) (omega arith) (omega arith) (omega arith) (c .if1 .taken))
 
 loop-again : tie.Need-loop-again Inv-loop μ-loop
 loop-again c =
-    let at-loop = c .before .before in
-    let start = at-loop .before in
+    let start = c .before .before .before in
     let a = start .args in
-    let l = at-loop .loop in
+    let l = c .before .before .loop in
     let seven : length (a .t1) ≡ COMPONENTS = search needs in
     let other : length (a .t2) ≡ COMPONENTS = search needs in
     (omega arith, l .inv .1 ∙ least-passes (a .t1) (a .t2) (a .k) (l .i) (omega arith) (omega arith) (omega arith) (c .if1 .left))

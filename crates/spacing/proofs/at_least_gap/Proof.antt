@@ -25,10 +25,9 @@ loop-holds c = (omega arith, refl)
 
 returns : tie.Need-returns Inv-loop μ-loop
 returns c =
-    let at-loop = c .before .before .before in
-    let start = at-loop .before in
+    let start = c .before .before .before .before in
     let a = start .args in
-    let l = at-loop .loop in
+    let l = c .before .before .before .loop in
     let parts = now (a .gaps) in
     let seven : length (a .t1) ≡ COMPONENTS = search needs in
     sym (l .inv .1 ∙ least-fails (a .t1) (drop (COMPONENTS * a .j) parts) (a .k) (l .p) (omega arith)
@@ -37,10 +36,9 @@ returns c =
 
 loop-again : tie.Need-loop-again Inv-loop μ-loop
 loop-again c =
-    let at-loop = c .before .before .before in
-    let start = at-loop .before in
+    let start = c .before .before .before .before in
     let a = start .args in
-    let l = at-loop .loop in
+    let l = c .before .before .before .loop in
     let parts = now (a .gaps) in
     let seven : length (a .t1) ≡ COMPONENTS = search needs in (
       omega arith,

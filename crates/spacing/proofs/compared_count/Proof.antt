@@ -28,20 +28,18 @@ loop-holds c =
 
 add-count : tie.Need-add-count Inv-loop μ-loop
 add-count c =
-    let at-loop = c .before .before in
-    let start = at-loop .before .before in
+    let start = c .before .before .before .before in
     let a = start .args in
-    let l = at-loop .loop in
+    let l = c .before .before .loop in
     let f = free (gapsOf (now (a .gaps)) (a .k + 1) (a .n)) in
     let most = totals-bound f (a .k) (a .m) (omega arith) (omega arith) in
     omega (arith, most, l .inv .1, totals-step f (a .k) (a .m) (l .t) (omega arith), c .free-count .ensures)
 
 loop-again : tie.Need-loop-again Inv-loop μ-loop
 loop-again c =
-    let at-loop = c .before .before in
-    let start = at-loop .before .before in
+    let start = c .before .before .before .before in
     let a = start .args in
-    let l = at-loop .loop in
+    let l = c .before .before .loop in
     let f = free (gapsOf (now (a .gaps)) (a .k + 1) (a .n)) in
     (omega arith, omega (arith, l .inv .1, totals-step f (a .k) (a .m) (l .t) (omega arith), c .free-count .ensures))
 

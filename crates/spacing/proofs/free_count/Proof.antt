@@ -31,10 +31,9 @@ loop-holds c =
 
 add-count : tie.Need-add-count Inv-loop μ-loop
 add-count c =
-    let at-loop = c .before .before in
-    let start = at-loop .before .before .before in
+    let start = c .before .before .before .before .before in
     let a = start .args in
-    let l = at-loop .loop in
+    let l = c .before .before .loop in
     let f = free (gapsOf (now (a .gaps)) (a .k + 1) (a .n)) in
     let v = take (a .k + 1) (l .g) in
     let whole = walk-passes f (a .k) (a .t) v (l .count) (l .inv) (sym (c .before .is-free .ensures) ∙ c .if1 .taken) in
@@ -47,16 +46,14 @@ passed :
     let f = free (gapsOf (now (a .gaps)) (a .k + 1) (a .n)) in
     c .if1 .count + passing f (later (take (a .k + 1) (c .before .before .loop .g))) ≡ passing f (vectors (suc (a .k)) (a .t))
 passed c =
-    let at-is-free = c .before in
-    let at-loop = at-is-free .before in
-    let start = at-loop .before .before .before in
+    let start = c .before .before .before .before .before in
     let a = start .args in
-    let l = at-loop .loop in
+    let l = c .before .before .loop in
     let f = free (gapsOf (now (a .gaps)) (a .k + 1) (a .n)) in
     let v = take (a .k + 1) (l .g) in
     ⊎-elim
-    (λ w. rw (w .1) (walk-passes f (a .k) (a .t) v (l .count) (l .inv) (sym (at-is-free .is-free .ensures) ∙ w .0 .taken)))
-    (λ w. rw (w .1) (walk-fails f (a .k) (a .t) v (l .count) (l .inv) (sym (at-is-free .is-free .ensures) ∙ w .0 .left)))
+    (λ w. rw (w .1) (walk-passes f (a .k) (a .t) v (l .count) (l .inv) (sym (c .before .is-free .ensures) ∙ w .0 .taken)))
+    (λ w. rw (w .1) (walk-fails f (a .k) (a .t) v (l .count) (l .inv) (sym (c .before .is-free .ensures) ∙ w .0 .left)))
     (c .if1 .came)
 
 next-spacing-requires : tie.Need-next-spacing-requires Inv-loop μ-loop
@@ -66,35 +63,31 @@ next-spacing-requires c κs =
 
 returns : tie.Need-returns Inv-loop μ-loop
 returns c =
-    let at-next-spacing = c .before .before in
-    let at-if1 = at-next-spacing .before in
-    let at-loop = at-if1 .before .before in
-    let start = at-loop .before .before .before in
+    let at-if1 = c .before .before .before in
+    let start = at-if1 .before .before .before .before .before in
     let a = start .args in
     let f = free (gapsOf (now (a .gaps)) (a .k + 1) (a .n)) in
-    let n = at-next-spacing .next-spacing in
-    walk-end f (a .k) (a .t) (take (a .k + 1) (at-loop .loop .g)) (take (a .k + 1) (n .result .g))
+    let n = c .before .before .next-spacing in
+    walk-end f (a .k) (a .t) (take (a .k + 1) (at-if1 .before .before .loop .g)) (take (a .k + 1) (n .result .g))
     (at-if1 .if1 .count) (n .result .found) (passed at-if1) (n .ensures .follows) (not-true _ (c .if2 .taken))
 
 loop-less : tie.Need-loop-less Inv-loop μ-loop
 loop-less c =
-    let at-next-spacing = c .before .before .before in
-    let at-loop = at-next-spacing .before .before .before in
+    let at-loop = c .before .before .before .before .before .before in
     let start = at-loop .before .before .before in
     let a = start .args in
-    let n = at-next-spacing .next-spacing in
+    let n = c .before .before .before .next-spacing in
     less-later (take (a .k + 1) (at-loop .loop .g)) (take (a .k + 1) (n .result .g)) (n .result .found)
     (n .ensures .follows) (not-false _ (c .before .if2 .left))
 
 loop-again : tie.Need-loop-again Inv-loop μ-loop
 loop-again c =
-    let at-next-spacing = c .before .before .before in
-    let at-if1 = at-next-spacing .before in
+    let at-if1 = c .before .before .before .before in
     let at-loop = at-if1 .before .before in
     let start = at-loop .before .before .before in
     let a = start .args in
     let f = free (gapsOf (now (a .gaps)) (a .k + 1) (a .n)) in
-    let n = at-next-spacing .next-spacing in
+    let n = c .before .before .before .next-spacing in
     walk-on f (a .k) (a .t) (take (a .k + 1) (at-loop .loop .g)) (take (a .k + 1) (n .result .g))
     (at-if1 .if1 .count) (n .result .found) (at-loop .loop .inv .held) (passed at-if1) (n .ensures .follows)
     (not-false _ (c .before .if2 .left))

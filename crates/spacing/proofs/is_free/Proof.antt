@@ -26,19 +26,17 @@ loop-holds c =
 
 returns : tie.Need-returns Inv-loop μ-loop
 returns c =
-    let at-loop = c .before .before .before in
-    let start = at-loop .before .before in
+    let start = c .before .before .before .before .before in
     let a = start .args in
-    let l = at-loop .loop in
+    let l = c .before .before .before .loop in
     sym (l .inv ∙ free-fails (now (a .gaps)) (a .k + 1) (a .n) (take (a .k + 1) (a .g)) (l .j) (omega arith)
     (sym (c .before .at-least-gap .ensures) ∙ c .if1 .taken))
 
 loop-again : tie.Need-loop-again Inv-loop μ-loop
 loop-again c =
-    let at-loop = c .before .before .before in
-    let start = at-loop .before .before in
+    let start = c .before .before .before .before .before in
     let a = start .args in
-    let l = at-loop .loop in
+    let l = c .before .before .before .loop in
     l .inv ∙ free-passes (now (a .gaps)) (a .k + 1) (a .n) (take (a .k + 1) (a .g)) (l .j) (omega arith)
     (sym (c .before .at-least-gap .ensures) ∙ c .if1 .left)
 

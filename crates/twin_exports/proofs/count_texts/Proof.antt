@@ -8,32 +8,24 @@ use Rattle.twin_exports.proofs.count_texts.Tie as tie
 
 returns : tie.Need-returns
 returns c =
-    let at-count-or = c .before in
-    let at-if1 = at-count-or .before in
-    let at-is-fault = at-if1 .before in
-    let at-earlier = at-is-fault .before in
-    let at-read-scheme = at-earlier .before in
-    let at-read-patterns = at-read-scheme .before in
-    let p = at-read-patterns .read-patterns in
-    let q = at-read-scheme .read-scheme in
+    let at-earlier = c .before .before .before .before in
+    let p = at-earlier .before .before .read-patterns in
+    let q = at-earlier .before .read-scheme in
     let f = at-earlier .earlier in
-    let h = sym (at-is-fault .is-fault .ensures) ∙ at-if1 .if1 .taken in
+    let h = sym (c .before .before .before .is-fault .ensures) ∙ c .before .before .if1 .taken in
     count-refused _ _ (p .result) (p .ensures) (q .result) (q .ensures) (f .result) (f .ensures) h
-    _ _ (at-count-or .count-or .result) (c .code .result)
-    (at-count-or .count-or .ensures) (c .code .ensures)
+    _ _ (c .before .count-or .result) (c .code .result)
+    (c .before .count-or .ensures) (c .code .ensures)
 
 returns-2 : tie.Need-returns-2
 returns-2 c =
     let at-count = c .before .before .before in
     let at-if1 = at-count .before .before .before .before in
-    let at-is-fault = at-if1 .before in
-    let at-earlier = at-is-fault .before in
-    let at-read-scheme = at-earlier .before in
-    let at-read-patterns = at-read-scheme .before in
+    let at-read-patterns = at-if1 .before .before .before .before in
     let p = at-read-patterns .read-patterns in
-    let q = at-read-scheme .read-scheme in
-    let f = at-earlier .earlier in
-    let h = sym (at-is-fault .is-fault .ensures) ∙ at-if1 .if1 .left in
+    let q = at-if1 .before .before .before .read-scheme in
+    let f = at-if1 .before .before .earlier in
+    let h = sym (at-if1 .before .is-fault .ensures) ∙ at-if1 .if1 .left in
     count-done _ _ (p .result) (p .ensures) (q .result) (q .ensures) (f .result) (f .ensures) h
     _ _ _ (at-count .count .result) (c .code2 .result)
     (at-count .count .ensures) (c .code2 .ensures)

@@ -20,12 +20,11 @@ loop-holds c = let a = c .args in gathered-start (a .t1) (a .t2) (a .count) _ re
 
 loop-again : tie.Need-loop-again Inv-loop μ-loop
 loop-again c =
-    let at-digits = c .before .before in
-    let at-loop = at-digits .before .before .before in
+    let at-loop = c .before .before .before .before .before in
     let start = at-loop .before in
     let a = start .args in
     let l = at-loop .loop in
-    let d = at-digits .digits in
+    let d = c .before .before .digits in
     let b = c .before .is-basic in
     gathered-take (a .t1) (a .t2) (a .count) (l .items) (l .n) (l .i) (l .inv) (search needs) (search needs)
     (omega arith) (start .pre) (d .result)
@@ -33,12 +32,11 @@ loop-again c =
 
 loop-again-2 : tie.Need-loop-again-2 Inv-loop μ-loop
 loop-again-2 c =
-    let at-digits = c .before .before in
-    let at-loop = at-digits .before .before .before in
+    let at-loop = c .before .before .before .before .before in
     let start = at-loop .before in
     let a = start .args in
     let l = at-loop .loop in
-    let d = at-digits .digits in
+    let d = c .before .before .digits in
     let b = c .before .is-basic in
     gathered-skip (a .t1) (a .t2) (a .count) (l .items) (l .n) (l .i) (l .inv) (search needs) (search needs)
     (omega arith) (start .pre) (d .result)

@@ -24,10 +24,9 @@ loop-holds c =
 
 returns : tie.Need-returns Inv-loop μ-loop
 returns c =
-    let at-loop = c .before .before in
-    let start = at-loop .before in
+    let start = c .before .before .before in
     let a = start .args in
-    let l = at-loop .loop in
+    let l = c .before .before .loop in
     sym (l .inv ∙ basic-none (from (a .t1) (a .t2) (a .count) (l .j)) (take (a .b) (a .q))
     (from-counted (a .t1) (a .t2) (a .count) (l .j) (omega arith)))
 

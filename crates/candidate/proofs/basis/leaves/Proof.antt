@@ -16,10 +16,9 @@ returns c =
 
 returns-2 : tie.Need-returns-2
 returns-2 c =
-    let at-same-digits = c .before .before in
-    let start = at-same-digits .before in
+    let start = c .before .before .before in
     let a = start .args in
-    let t : same (take (a .a) (a .p)) (take (a .b) (a .q)) ≡ false = sym (at-same-digits .same-digits .ensures) ∙ c .before .if1 .left in
+    let t : same (take (a .a) (a .p)) (take (a .b) (a .q)) ≡ false = sym (c .before .before .same-digits .ensures) ∙ c .before .if1 .left in
     rw (t, ← c .stands-in .ensures) refl
 
 pub leaves-spec : {M : Type 1} → statement M

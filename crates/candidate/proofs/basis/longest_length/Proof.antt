@@ -26,10 +26,9 @@ loop-holds c =
 
 returns : tie.Need-returns Inv-loop μ-loop
 returns c =
-    let at-loop = c .before .before in
-    let start = at-loop .before in
+    let start = c .before .before .before in
     let a = start .args in
-    let l = at-loop .loop in (
+    let l = c .before .before .loop in (
       longest-done (longest (patternsOf (a .t1) (a .t2) (a .count))) (from (a .t1) (a .t2) (a .count) (l .i)) (l .m) (l .inv .0)
           (from-counted (a .t1) (a .t2) (a .count) (l .i) (omega arith)),
       l .inv .1,
@@ -37,17 +36,16 @@ returns c =
 
 loop-again : tie.Need-loop-again Inv-loop μ-loop
 loop-again c =
-    let at-digits = c .before in
-    let at-loop = at-digits .before .before .before .before in
+    let at-loop = c .before .before .before .before .before in
     let start = at-loop .before in
     let a = start .args in
     let l = at-loop .loop in
     let x = take (getD (a .t2) (l .i) 0) (getD (a .t1) (l .i) []) in
-    let m : c .larger .result ≡ max (l .m) (length x) = c .larger .ensures ∙ ap (max (l .m)) (at-digits .digits .ensures .0) in (
+    let m : c .larger .result ≡ max (l .m) (length x) = c .larger .ensures ∙ ap (max (l .m)) (c .before .digits .ensures .0) in (
       rw m (longest-here (longest (patternsOf (a .t1) (a .t2) (a .count))) (from (a .t1) (a .t2) (a .count) (l .i)) (l .m) x
           (from (a .t1) (a .t2) (a .count) (l .i + 1)) (l .inv .0)
           (from-cons (a .t1) (a .t2) (a .count) (l .i) (search needs) (search needs) (omega arith))),
-      omega (arith, c .larger .ensures, at-digits .digits .ensures .1),
+      omega (arith, c .larger .ensures, c .before .digits .ensures .1),
     )
 
 returns-2 : tie.Need-returns-2 Inv-loop μ-loop

@@ -19,18 +19,16 @@ part-is p n m e = ap (λ (k : ℕ). take k p) e ∙ take-again n p
 
 slice-aggregate-same-bytes : tie.Need-slice-aggregate-same-bytes
 slice-aggregate-same-bytes c =
-    let at-digits = c .before .before in
-    let start = at-digits .before in
-    let m = at-digits .digits in
+    let start = c .before .before .before in
+    let m = c .before .before .digits in
     let a = start .args in
     let all : length (a .t1) ≡ DIGITS = search needs in
     sym (length-take-le (m .result) (a .t1) (omega (arith, m .ensures .1)))
 
 slice-aggregate-same-bytes-2 : tie.Need-slice-aggregate-same-bytes-2
 slice-aggregate-same-bytes-2 c =
-    let at-digits2 = c .before .before in
-    let start = at-digits2 .before .before in
-    let n = at-digits2 .digits2 in
+    let start = c .before .before .before .before in
+    let n = c .before .before .digits2 in
     let a = start .args in
     let all : length (a .t3) ≡ DIGITS = search needs in
     sym (length-take-le (n .result) (a .t3) (omega (arith, n .ensures .1)))

@@ -22,12 +22,11 @@ loop-holds c = (refl, omega arith, λ a h. absurd (omega arith))
 
 loop-again : tie.Need-loop-again Inv-loop μ-loop
 loop-again c =
-    let at-digits = c .before .before in
-    let at-loop = at-digits .before .before .before in
+    let at-loop = c .before .before .before .before .before in
     let start = at-loop .before in
     let a = start .args in
     let l = at-loop .loop in
-    let d = at-digits .digits in
+    let d = c .before .before .digits in
     let n = c .level-needed in
     let i = l .at / 72 in (
       length-set (l .needs) (l .at) (n .result) ∙ l .inv .0,

@@ -25,9 +25,8 @@ loop-holds c = (omega arith, refl, refl)
 
 loop-again : tie.Need-loop-again Inv-loop μ-loop
 loop-again c =
-    let at-loop = c .before .before in
-    let start = at-loop .before in
-    let l = at-loop .loop in
+    let start = c .before .before .before in
+    let l = c .before .before .loop in
     let a = start .args in
     let at = (a .i * DIGITS + a .t) * VALUES in
     let all : length (now (a .needs)) ≡ NEEDS = start .pre .0 in

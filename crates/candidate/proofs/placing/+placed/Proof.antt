@@ -86,28 +86,25 @@ here-is : (t : ℕ) (c : placed-lts.Joined2 (called t) (placed-at t) placed.Post
     let a = c .before .before .before .before .before .before .before .before .before .before .before .before .args in
     c .if2 .here ≡ entryOf (a .t5 .levels) (getD (a .prefix .now) (c .before .before .before .before .loop .j) 0)
 here-is t c =
-    let at-wide = c .before in
-    let start = at-wide .before .before .before .before .before .before .before .before .before .before .before in
+    let start = c .before .before .before .before .before .before .before .before .before .before .before .before in
     let a = start .args in
     let nine = all-levels t start in
-    ⊎-elim (λ w. w .2 ∙ ap (λ (v : ℕ). getD (a .t5 .levels) v 0) (at-wide .wide .ensures .0))
+    ⊎-elim (λ w. w .2 ∙ ap (λ (v : ℕ). getD (a .t5 .levels) v 0) (c .before .wide .ensures .0))
     (λ w. w .1 ∙ sym (List·getD-eq-default (a .t5 .levels) 0
-    (omega (arith, w .0 .left, nine, at-wide .wide .ensures .0)))) (c .if2 .came)
+    (omega (arith, w .0 .left, nine, c .before .wide .ensures .0)))) (c .if2 .came)
 
 placed-loop-again : (t : ℕ) → placed-lts.Need-loop-again (called t) (placed-at t) placed.Post placed-Inv-loop placed-μ-loop
 placed-loop-again t c =
     let in-loop = c .before .before .before .before in
-    let at-loop = in-loop .before in
-    let at-told = at-loop .before in
-    let at-if1 = at-told .before .before .before .before in
+    let at-if1 = in-loop .before .before .before .before .before .before in
     let start = at-if1 .before .before .before in
     let a = start .args in
-    let l = at-loop .loop in
+    let l = in-loop .before .loop in
     let eight = eight-places t start in
     let room : a .state .placed < length (a .chosen) = omega (arith, start .pre .1, at-if1 .if1 .left) in
     let other : entryOf (a .t5 .levels) (getD (a .prefix .now) (l .j) 0) ≡
     entryOf (a .t5 .need) (getD (a .head .now) (a .state .placed) 0) → ⊥ =
-    λ q. c .if3 .taken (here-is t (c .before) ∙ q ∙ sym (at-told .told .ensures)) in (
+    λ q. c .if3 .taken (here-is t (c .before) ∙ q ∙ sym (in-loop .before .before .told .ensures)) in (
       omega (arith, l .inv .0),
       l .inv .1 ∙
           placed-level (entryOf (a .t5 .need)) (entryOf (a .t5 .levels)) (flagged (a .t5 .gone)) (a .head .now)
@@ -117,20 +114,16 @@ placed-loop-again t c =
 
 placed-loop-again-2 : (t : ℕ) → placed-lts.Need-loop-again-2 (called t) (placed-at t) placed.Post placed-Inv-loop placed-μ-loop
 placed-loop-again-2 t c =
-    let at-if3 = c .before .before in
-    let place = at-if3 .before in
-    let in-loop = place .before .before .before in
-    let at-loop = in-loop .before in
-    let at-told = at-loop .before in
-    let at-if1 = at-told .before .before .before .before in
+    let in-loop = c .before .before .before .before .before .before in
+    let at-if1 = in-loop .before .before .before .before .before .before in
     let start = at-if1 .before .before .before in
     let a = start .args in
-    let l = at-loop .loop in
+    let l = in-loop .before .loop in
     let eight = eight-places t start in
     let room : a .state .placed < length (a .chosen) = omega (arith, start .pre .1, at-if1 .if1 .left) in
     let level : entryOf (a .t5 .levels) (getD (a .prefix .now) (l .j) 0) ≡
     entryOf (a .t5 .need) (getD (a .head .now) (a .state .placed) 0) =
-    sym (here-is t place) ∙ at-if3 .if3 .left ∙ at-told .told .ensures in (
+    sym (here-is t (c .before .before .before)) ∙ c .before .before .if3 .left ∙ in-loop .before .before .told .ensures in (
       omega (arith, l .inv .0),
       l .inv .1 ∙ placed-pairs (entryOf (a .t5 .need)) (entryOf (a .t5 .levels)) (flagged (a .t5 .gone))
           (a .head .now) (a .prefix .now) (a .state .used) (a .chosen) (a .state .placed) (l .j) (at-if1 .if1 .left)
@@ -141,32 +134,25 @@ placed-loop-again-2 t c =
 placed-placed-requires : (t : ℕ) → placed-lts.Need-placed-requires (called t) (placed-at t) placed.Post placed-Inv-loop placed-μ-loop
 placed-placed-requires t c κs =
     let in-loop = c .before .before .before .before .before .before .before .before in
-    let at-loop = in-loop .before in
-    let start = at-loop .before .before .before .before .before .before .before .before in
-    (omega (arith, start .pre .0, at-loop .loop .inv .0, in-loop .loop-test .taken), start .pre .1)
+    let start = in-loop .before .before .before .before .before .before .before .before .before in
+    (omega (arith, start .pre .0, in-loop .before .loop .inv .0, in-loop .loop-test .taken), start .pre .1)
 
 placed-returns-2 : (t : ℕ) → placed-lts.Need-returns-2 (called t) (placed-at t) placed.Post placed-Inv-loop placed-μ-loop
 placed-returns-2 t c =
     let at-either = c .before .before in
-    let at-is-flagged = at-either .before in
-    let at-if4 = at-is-flagged .before in
-    let at-pairs-fit = at-if4 .before in
-    let at-if3 = at-pairs-fit .before in
-    let place = at-if3 .before in
-    let in-loop = place .before .before .before in
-    let at-loop = in-loop .before in
-    let at-told = at-loop .before in
-    let at-if1 = at-told .before .before .before .before in
+    let at-if3 = at-either .before .before .before .before in
+    let in-loop = at-if3 .before .before .before .before in
+    let at-if1 = in-loop .before .before .before .before .before .before in
     let start = at-if1 .before .before .before in
     let a = start .args in
-    let l = at-loop .loop in
+    let l = in-loop .before .loop in
     let v : ℕ = getD (a .prefix .now) (l .j) 0 in
     let eight = eight-places t start in
     let room : a .state .placed < length (a .chosen) = omega (arith, start .pre .1, at-if1 .if1 .left) in
     let level : entryOf (a .t5 .levels) v ≡ entryOf (a .t5 .need) (getD (a .head .now) (a .state .placed) 0) =
-    sym (here-is t place) ∙ at-if3 .if3 .left ∙ at-told .told .ensures in
+    sym (here-is t (at-if3 .before)) ∙ at-if3 .if3 .left ∙ in-loop .before .before .told .ensures in
     let more : at-either .either .result ≡ a .state .used || flagged (a .t5 .gone) v =
-    at-either .either .ensures ∙ ap (λ (b : Bool). a .state .used || b) (at-is-flagged .is-flagged .ensures) in
+    at-either .either .ensures ∙ ap (λ (b : Bool). a .state .used || b) (at-either .before .is-flagged .ensures) in
     let tried : state (entryOf (a .t5 .need)) (entryOf (a .t5 .levels)) (flagged (a .t5 .gone)) (a .head .now)
     (a .prefix .now) (a .state .used || flagged (a .t5 .gone) v) (set (a .chosen) (a .state .placed) v)
     (a .state .placed + 1) (l .j + 1) ≡ true =
@@ -175,31 +161,25 @@ placed-returns-2 t c =
     sym (c .before .placed .ensures) ∙ c .if5 .taken in
     sym (l .inv .1 ∙ placed-here (entryOf (a .t5 .need)) (entryOf (a .t5 .levels)) (flagged (a .t5 .gone))
     (a .head .now) (a .prefix .now) (a .state .used) (a .chosen) (a .state .placed) (l .j) (at-if1 .if1 .left)
-    (in-loop .loop-test .taken) room level (sym (at-pairs-fit .pairs-fit .ensures) ∙ not-false
-    _ (at-if4 .if4 .left)) tried)
+    (in-loop .loop-test .taken) room level (sym (at-either .before .before .before .pairs-fit .ensures) ∙ not-false
+    _ (at-either .before .before .if4 .left)) tried)
 
 placed-loop-again-3 : (t : ℕ) → placed-lts.Need-loop-again-3 (called t) (placed-at t) placed.Post placed-Inv-loop placed-μ-loop
 placed-loop-again-3 t c =
     let at-either = c .before .before in
-    let at-is-flagged = at-either .before in
-    let at-if4 = at-is-flagged .before in
-    let at-pairs-fit = at-if4 .before in
-    let at-if3 = at-pairs-fit .before in
-    let place = at-if3 .before in
-    let in-loop = place .before .before .before in
-    let at-loop = in-loop .before in
-    let at-told = at-loop .before in
-    let at-if1 = at-told .before .before .before .before in
+    let at-if3 = at-either .before .before .before .before in
+    let in-loop = at-if3 .before .before .before .before in
+    let at-if1 = in-loop .before .before .before .before .before .before in
     let start = at-if1 .before .before .before in
     let a = start .args in
-    let l = at-loop .loop in
+    let l = in-loop .before .loop in
     let v : ℕ = getD (a .prefix .now) (l .j) 0 in
     let eight = eight-places t start in
     let room : a .state .placed < length (a .chosen) = omega (arith, start .pre .1, at-if1 .if1 .left) in
     let level : entryOf (a .t5 .levels) v ≡ entryOf (a .t5 .need) (getD (a .head .now) (a .state .placed) 0) =
-    sym (here-is t place) ∙ at-if3 .if3 .left ∙ at-told .told .ensures in
+    sym (here-is t (at-if3 .before)) ∙ at-if3 .if3 .left ∙ in-loop .before .before .told .ensures in
     let more : at-either .either .result ≡ a .state .used || flagged (a .t5 .gone) v =
-    at-either .either .ensures ∙ ap (λ (b : Bool). a .state .used || b) (at-is-flagged .is-flagged .ensures) in
+    at-either .either .ensures ∙ ap (λ (b : Bool). a .state .used || b) (at-either .before .is-flagged .ensures) in
     let tried : state (entryOf (a .t5 .need)) (entryOf (a .t5 .levels)) (flagged (a .t5 .gone)) (a .head .now)
     (a .prefix .now) (a .state .used || flagged (a .t5 .gone) v) (set (a .chosen) (a .state .placed) v)
     (a .state .placed + 1) (l .j + 1) ≡ false =
@@ -210,8 +190,8 @@ placed-loop-again-3 t c =
       l .inv .1 ∙
           placed-later (entryOf (a .t5 .need)) (entryOf (a .t5 .levels)) (flagged (a .t5 .gone)) (a .head .now)
           (a .prefix .now) (a .state .used) (a .chosen) (a .state .placed) (l .j) (at-if1 .if1 .left)
-          (in-loop .loop-test .taken) room level (sym (at-pairs-fit .pairs-fit .ensures) ∙ not-false
-          _ (at-if4 .if4 .left)) tried,
+          (in-loop .loop-test .taken) room level (sym (at-either .before .before .before .pairs-fit .ensures) ∙ not-false
+          _ (at-either .before .before .if4 .left)) tried,
     )
 
 placed-returns-3 : (t : ℕ) → placed-lts.Need-returns-3 (called t) (placed-at t) placed.Post placed-Inv-loop placed-μ-loop

@@ -19,20 +19,18 @@ abbrev μ-loop : tie.MeasureT-loop
 
 returns : tie.Need-returns Inv-loop μ-loop
 returns c =
-    let at-loop = c .before .before .before in
-    let start = at-loop .before in
+    let start = c .before .before .before .before in
     let a = start .args in
-    let l = at-loop .loop in
+    let l = c .before .before .before .loop in
     let eight : length (a .t1) ≡ 8 = search needs in
     sym (l .inv .1 ∙ pair-failed (a .head .now) (a .t1) (a .x) (a .a) (a .s) (l .j) (omega arith) (omega arith)
     (omega arith) (c .if1 .taken))
 
 loop-again : tie.Need-loop-again Inv-loop μ-loop
 loop-again c =
-    let at-loop = c .before .before .before in
-    let start = at-loop .before in
+    let start = c .before .before .before .before in
     let a = start .args in
-    let l = at-loop .loop in
+    let l = c .before .before .before .loop in
     let eight : length (a .t1) ≡ 8 = search needs in (
       omega arith,
       l .inv .1 ∙ pair-passed (a .head .now) (a .t1) (a .x) (a .a) (a .s) (l .j) (omega arith)

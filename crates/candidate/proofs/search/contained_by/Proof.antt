@@ -20,15 +20,14 @@ slice-aggregate-first-copy c =
 
 returns : tie.Need-returns
 returns c =
-    let at-first-copy = c .before in
-    let start = at-first-copy .before .before .before in
+    let start = c .before .before .before .before in
     let a = start .args in
     let q = start .pre in
     let β = take (getD (a .t2) (a .i) 0) (getD (a .t1) (a .i) []) in
     let rows : length (a .t1) ≡ 24 = (let g = start .good in search needs) in
     let long : length (a .t2) ≡ 24 = (let g = start .good in search needs) in
-    let found = sym (found-contains β (take (a .len) (a .t5)) (at-first-copy .first-copy .result)
-    (at-first-copy .first-copy .ensures)) ∙ c .if1 .taken in
+    let found = sym (found-contains β (take (a .len) (a .t5)) (c .before .first-copy .result)
+    (c .before .first-copy .ensures)) ∙ c .if1 .taken in
     sym (ap not (not-avoided (a .t1) (a .t2) (a .count) (a .i) (take (a .len) (a .t5)) (q .1) (omega (arith, q .2))
     (omega (arith, q .2)) found))
 

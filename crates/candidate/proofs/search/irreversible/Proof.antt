@@ -69,8 +69,7 @@ six-digits start = (let o = start .good in search needs)
 
 returns : tie.Need-returns Inv-loop μ-loop
 returns c =
-    let at-loop = c .before .before .before in
-    let at-deleted-values = at-loop .before in
+    let at-deleted-values = c .before .before .before .before in
     let start = at-deleted-values .before .before .before .before .before in
     let a = start .args in
     let R = take (a .deletion .«position_count») (a .deletion .positions) in
@@ -82,7 +81,7 @@ returns c =
     length-take-le (a .deletion .length) (a .deletion .prefix) (omega (arith, start .pre .1)) in
     let F : FlaggedFor (a .set) (a .lengths) (a .count) (take (a .deletion .length) (a .deletion .prefix)) R
     (at-deleted-values .deleted-values .result) = (G, at-deleted-values .deleted-values .ensures) in
-    let l = at-loop .loop in
+    let l = c .before .before .before .loop in
     let here = c .before .total-violated .ensures R F (sym wide) in
     let found : from-total (lost A P (take (a .deletion .length) (a .deletion .prefix)) R) (a .deletion .length)
     (a .deletion .longest) (l .t) ≡ true =
@@ -94,12 +93,11 @@ returns c =
 
 loop-again : tie.Need-loop-again Inv-loop μ-loop
 loop-again c =
-    let at-loop = c .before .before .before in
-    let start = at-loop .before .before .before .before .before .before in
+    let start = c .before .before .before .before .before .before .before .before .before in
     let a = start .args in
     let P = patternsOf (a .set) (a .lengths) (a .count) in
     let A = gapsOf (now (a .gaps)) (a .deletion .length + 1) (a .deletion .«gap_count») in
-    let l = at-loop .loop in
+    let l = c .before .before .before .loop in
     let six = six-digits start in
     let wide : length (take (a .deletion .length) (a .deletion .prefix)) ≡ a .deletion .length =
     length-take-le (a .deletion .length) (a .deletion .prefix) (omega (arith, start .pre .1)) in (

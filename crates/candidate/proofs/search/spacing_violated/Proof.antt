@@ -44,14 +44,12 @@ loop-holds c =
 
 loop-again : tie.Need-loop-again Inv-loop μ-loop
 loop-again c =
-    let at-digits = c .before in
-    let at-loop = at-digits .before .before .before in
-    let at-levels = at-loop .before in
-    let start = at-levels .before .before .before .before .before .before in
+    let at-loop = c .before .before .before .before in
+    let start = at-loop .before .before .before .before .before .before .before in
     let a = start .args in
     let l = at-loop .loop in
-    let d = at-digits .digits in
-    let levels = at-levels .levels-of .result in
+    let d = c .before .digits in
+    let levels = at-loop .before .levels-of .result in
     let eight : length (patternAt (a .t1) (a .t2) (l .i)) ≤ DIGITS = omega (arith, d .ensures .0, d .ensures .1) in
     let rows = all-rows start in
     let long = all-lengths start in
@@ -66,25 +64,22 @@ need-at-requires c κs =
 
 hits-requires : tie.Need-hits-requires Inv-loop μ-loop
 hits-requires c κs =
-    let at-digits = c .before .before in
-    let start = at-digits .before .before .before .before .before .before .before .before .before .before in
-    (at-digits .digits .ensures .1, start .pre .1)
+    let start = c .before .before .before .before .before .before .before .before .before .before .before .before in
+    (c .before .before .digits .ensures .1, start .pre .1)
 
 loop-again-2 : tie.Need-loop-again-2 Inv-loop μ-loop
 loop-again-2 c =
-    let at-need-at = c .before .before in
-    let at-digits = at-need-at .before .before in
-    let at-loop = at-digits .before .before .before in
-    let at-levels = at-loop .before in
+    let at-digits = c .before .before .before .before in
+    let at-levels = at-digits .before .before .before .before in
     let start = at-levels .before .before .before .before .before .before in
     let a = start .args in
-    let l = at-loop .loop in
+    let l = at-digits .before .before .before .loop in
     let d = at-digits .digits in
     let levels = at-levels .levels-of .result in
     let eight : length (patternAt (a .t1) (a .t2) (l .i)) ≤ DIGITS = omega (arith, d .ensures .0, d .ensures .1) in
     let rows = all-rows start in
     let long = all-lengths start in
-    let need = at-need-at .need-at .ensures in
+    let need = c .before .before .need-at .ensures in
     let cut : take (d .result) (getD (a .t1) (l .i) []) ≡ patternAt (a .t1) (a .t2) (l .i) =
     ap (λ (m : ℕ). take m (getD (a .t1) (l .i) [])) (d .ensures .0) ∙ take-again (getD (a .t2) (l .i) 0) (getD (a .t1) (l .i) []) in
     let hits = c .before .hits in
@@ -107,34 +102,29 @@ contained-by-requires c κs =
 
 loop-again-3 : tie.Need-loop-again-3 Inv-loop μ-loop
 loop-again-3 c =
-    let at-candidate-word = c .before .before .before in
-    let at-if2 = at-candidate-word .before in
-    let at-hits = at-if2 .before in
-    let at-need-at = at-hits .before in
-    let at-if1 = at-need-at .before in
-    let at-digits = at-if1 .before in
-    let at-loop = at-digits .before .before .before in
-    let at-levels = at-loop .before in
+    let at-if2 = c .before .before .before .before in
+    let at-digits = at-if2 .before .before .before .before in
+    let at-levels = at-digits .before .before .before .before in
     let start = at-levels .before .before .before .before .before .before in
     let a = start .args in
-    let l = at-loop .loop in
+    let l = at-digits .before .before .before .loop in
     let d = at-digits .digits in
     let levels = at-levels .levels-of .result in
     let eight : length (patternAt (a .t1) (a .t2) (l .i)) ≤ DIGITS = omega (arith, d .ensures .0, d .ensures .1) in
     let rows = all-rows start in
     let long = all-lengths start in
-    let need = at-need-at .need-at .ensures in
+    let need = at-if2 .before .before .need-at .ensures in
     let cut : take (d .result) (getD (a .t1) (l .i) []) ≡ patternAt (a .t1) (a .t2) (l .i) =
     ap (λ (m : ℕ). take m (getD (a .t1) (l .i) [])) (d .ensures .0) ∙ take-again (getD (a .t2) (l .i) 0) (getD (a .t1) (l .i) []) in
-    let hits = at-hits .hits in
+    let hits = at-if2 .before .hits in
     let found = rw (cut, need) at (hits .ensures) in
     let six = six-digits start in
     let wide : length (take (a .at .deleted .length) (a .at .deleted .prefix)) ≡ a .at .deleted .length =
     length-take-le (a .at .deleted .length) (a .at .deleted .prefix) (omega (arith, start .pre .1)) in
-    let w = at-candidate-word .candidate-word in
+    let w = c .before .before .before .candidate-word in
     let made = word-made (a .t1) (a .t2) (a .count) (now (a .needs)) (a .at .deleted .prefix) (a .at .deleted .gone)
     levels (a .at .deleted .length) (a .at .total) (l .i) (d .result) wide
-    (omega arith) (d .ensures .0) (d .ensures .1) (omega (arith, at-if1 .if1 .left))
+    (omega arith) (d .ensures .0) (d .ensures .1) (omega (arith, at-if2 .before .before .before .if1 .left))
     (take (w .result .length) (w .result .entries)) (rw need at (w .ensures .1)) in
     passed-contained (a .t1) (a .t2) (a .count) (now (a .needs))
     (take (a .at .deleted .length) (a .at .deleted .prefix)) (a .at .deleted .gone) levels (a .at .total) (l .i)
@@ -144,34 +134,29 @@ loop-again-3 c =
 
 returns : tie.Need-returns Inv-loop μ-loop
 returns c =
-    let at-candidate-word = c .before .before .before in
-    let at-if2 = at-candidate-word .before in
-    let at-hits = at-if2 .before in
-    let at-need-at = at-hits .before in
-    let at-if1 = at-need-at .before in
-    let at-digits = at-if1 .before in
-    let at-loop = at-digits .before .before .before in
-    let at-levels = at-loop .before in
+    let at-if2 = c .before .before .before .before in
+    let at-digits = at-if2 .before .before .before .before in
+    let at-levels = at-digits .before .before .before .before in
     let start = at-levels .before .before .before .before .before .before in
     let a = start .args in
-    let l = at-loop .loop in
+    let l = at-digits .before .before .before .loop in
     let d = at-digits .digits in
     let levels = at-levels .levels-of .result in
     let eight : length (patternAt (a .t1) (a .t2) (l .i)) ≤ DIGITS = omega (arith, d .ensures .0, d .ensures .1) in
     let rows = all-rows start in
     let long = all-lengths start in
-    let need = at-need-at .need-at .ensures in
+    let need = at-if2 .before .before .need-at .ensures in
     let cut : take (d .result) (getD (a .t1) (l .i) []) ≡ patternAt (a .t1) (a .t2) (l .i) =
     ap (λ (m : ℕ). take m (getD (a .t1) (l .i) [])) (d .ensures .0) ∙ take-again (getD (a .t2) (l .i) 0) (getD (a .t1) (l .i) []) in
-    let hits = at-hits .hits in
+    let hits = at-if2 .before .hits in
     let found = rw (cut, need) at (hits .ensures) in
     let six = six-digits start in
     let wide : length (take (a .at .deleted .length) (a .at .deleted .prefix)) ≡ a .at .deleted .length =
     length-take-le (a .at .deleted .length) (a .at .deleted .prefix) (omega (arith, start .pre .1)) in
-    let w = at-candidate-word .candidate-word in
+    let w = c .before .before .before .candidate-word in
     let made = word-made (a .t1) (a .t2) (a .count) (now (a .needs)) (a .at .deleted .prefix) (a .at .deleted .gone)
     levels (a .at .deleted .length) (a .at .total) (l .i) (d .result) wide
-    (omega arith) (d .ensures .0) (d .ensures .1) (omega (arith, at-if1 .if1 .left))
+    (omega arith) (d .ensures .0) (d .ensures .1) (omega (arith, at-if2 .before .before .before .if1 .left))
     (take (w .result .length) (w .result .entries)) (rw need at (w .ensures .1)) in
     λ R F size e N. violation (a .t1) (a .t2) (a .count) (now (a .needs))
     (take (a .at .deleted .length) (a .at .deleted .prefix)) (a .at .deleted .gone) levels (a .at .total) (l .i)

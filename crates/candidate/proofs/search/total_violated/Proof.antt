@@ -54,28 +54,25 @@ returns c =
 
 returns-2 : tie.Need-returns-2 Inv-loop μ-loop
 returns-2 c =
-    let at-next-spacing = c .before .before in
-    let at-if1 = at-next-spacing .before in
-    let at-free-and-violated = at-if1 .before in
+    let at-free-and-violated = c .before .before .before .before in
     let at-loop = at-free-and-violated .before in
     let start = at-loop .before .before .before .before .before in
     let a = start .args in
     let f = at-free-and-violated .free-and-violated in
-    let n = at-next-spacing .next-spacing in
+    let n = c .before .before .next-spacing in
     walked-none (a .set) (a .lengths) (a .count) (now (a .needs))
     (take (a .of .deleted .length) (a .of .deleted .prefix)) (a .of .deleted .gone)
     (gapsOf (now (a .gaps)) (a .of .deleted .length + 1) (a .of .deleted .«gap_count»)) (a .of .deleted .length)
     (a .of .total) (take (a .of .deleted .length + 1) (at-loop .loop .g)) (at-loop .loop .inv)
-    (start .pre .3 .said (a .of .total) (start .pre .2)) (f .result) (f .ensures) (at-if1 .if1 .left)
+    (start .pre .3 .said (a .of .total) (start .pre .2)) (f .result) (f .ensures) (c .before .before .before .if1 .left)
     (take (a .of .deleted .length + 1) (n .result .g)) (n .result .found) (n .ensures .follows) (not-true _ (c .if2 .taken))
 
 loop-less : tie.Need-loop-less Inv-loop μ-loop
 loop-less c =
-    let at-next-spacing = c .before .before .before in
-    let at-loop = at-next-spacing .before .before .before in
+    let at-loop = c .before .before .before .before .before .before in
     let start = at-loop .before .before .before .before .before in
     let a = start .args in
-    let n = at-next-spacing .next-spacing in
+    let n = c .before .before .before .next-spacing in
     less-later (take (a .of .deleted .length + 1) (at-loop .loop .g))
     (take (a .of .deleted .length + 1) (n .result .g)) (n .result .found) (n .ensures .follows)
     (not-false _ (c .before .if2 .left))
@@ -87,12 +84,10 @@ seven-components o = (let k = o .next-spacing .ok in search needs)
 loop-again : tie.Need-loop-again Inv-loop μ-loop
 loop-again c =
     let at-next-spacing = c .before .before .before in
-    let at-if1 = at-next-spacing .before in
-    let at-free-and-violated = at-if1 .before in
-    let at-loop = at-free-and-violated .before in
+    let at-loop = at-next-spacing .before .before .before in
     let start = at-loop .before .before .before .before .before in
     let a = start .args in
-    let f = at-free-and-violated .free-and-violated in
+    let f = at-next-spacing .before .before .free-and-violated in
     let n = at-next-spacing .next-spacing in
     let six = six-digits start in
     let seven = seven-components at-next-spacing in
@@ -105,7 +100,7 @@ loop-again c =
     (take (a .of .deleted .length) (a .of .deleted .prefix)) (a .of .deleted .gone)
     (gapsOf (now (a .gaps)) (a .of .deleted .length + 1) (a .of .deleted .«gap_count»)) (a .of .deleted .length)
     (a .of .total) (take (a .of .deleted .length + 1) (at-loop .loop .g)) (at-loop .loop .inv)
-    (start .pre .3 .said (a .of .total) (start .pre .2)) (f .result) (f .ensures) (at-if1 .if1 .left)
+    (start .pre .3 .said (a .of .total) (start .pre .2)) (f .result) (f .ensures) (at-next-spacing .before .if1 .left)
     (take (a .of .deleted .length + 1) (n .result .g)) (n .result .found) (n .ensures .follows)
     (not-false _ (c .before .if2 .left)) wide size
 

@@ -21,10 +21,9 @@ abbrev μ-loop : tie.MeasureT-loop
 
 loop-again : tie.Need-loop-again Inv-loop μ-loop
 loop-again c =
-    let at-loop = c .before .before in
-    let start = at-loop .before in
+    let start = c .before .before .before in
     let a = start .args in
-    let l = at-loop .loop in
+    let l = c .before .before .loop in
     let eight : length (a .t1) ≡ 8 = search needs in
     ⊎-elim (λ w. omega (arith, under-counted (a .t1) (a .to) (l .j) (a .x) (omega arith) (omega arith) (w .0 .taken)))
     (λ w. omega (arith, under-passed (a .t1) (a .to) (l .j) (a .x) (omega arith) (omega arith) (w .0 .left))) (c .if1 .came)

@@ -22,14 +22,12 @@ abbrev μ-loop : tie.MeasureT-loop
 
 loop-again : tie.Need-loop-again Inv-loop μ-loop
 loop-again c =
-    let at-if1 = c .before .before in
-    let at-told = at-if1 .before in
-    let at-loop = at-told .before .before in
+    let at-loop = c .before .before .before .before .before in
     let start = at-loop .before in
     let a = start .args in
     let l = at-loop .loop in
     let six : length (a .t1) ≡ 6 = search needs in
-    let stays = sym (at-told .told .ensures) ∙ at-if1 .if1 .taken in
+    let stays = sym (c .before .before .before .told .ensures) ∙ c .before .before .if1 .taken in
     let value : c .added .result ≡ min (getD (a .t1) (l .i) 0 + getD (a .levels) (getD (a .t1) (l .i) 0) 0) 255 =
     c .added .ensures ∙ ap (λ (x : ℕ). min (getD (a .t1) (l .i) 0 + x) 255) (c .before .told2 .ensures) in (
       search needs,
@@ -43,10 +41,9 @@ loop-again c =
 
 loop-again-2 : tie.Need-loop-again-2 Inv-loop μ-loop
 loop-again-2 c =
-    let at-loop = c .before .before .before in
-    let start = at-loop .before in
+    let start = c .before .before .before .before in
     let a = start .args in
-    let l = at-loop .loop in
+    let l = c .before .before .before .loop in
     let six : length (a .t1) ≡ 6 = search needs in (
       search needs,
       search needs,

@@ -28,9 +28,7 @@ loop-holds c = (search needs, search needs, search needs, search needs, λ g r. 
 
 loop-again : tie.Need-loop-again Inv-loop μ-loop
 loop-again c =
-    let at-capped = c .before in
-    let at-told = at-capped .before in
-    let at-loop = at-told .before .before in
+    let at-loop = c .before .before .before .before in
     let start = at-loop .before .before .before .before in
     let a = start .args in
     let l = at-loop .loop in
@@ -42,8 +40,8 @@ loop-again c =
       λ (g : List ℕ) (r : Reached (a .t2) (a .from) (a .to) (a .tables .need) (a .tables .levels) (a .k) g).
           let low : getD (a .tables .need) (getD (a .t2) (l .j) 0) 0 ≤ 100 =
           omega (arith, r .reach (l .j) (omega arith) (omega arith), r .small) in
-          let s : at-capped .capped .result ≡ getD (a .tables .need) (getD (a .t2) (l .j) 0) 0 =
-          omega (arith, at-capped .capped .ensures, at-told .told .ensures) in
+          let s : c .before .capped .result ≡ getD (a .tables .need) (getD (a .t2) (l .j) 0) 0 =
+          omega (arith, c .before .capped .ensures, c .before .before .told .ensures) in
           let y : c .lifted .result ≡ lift g (getD (a .tables .need) (getD (a .t2) (l .j) 0) 0) =
           c .lifted .ensures g (r .size) (r .says) (omega (arith, r .reach (l .j) (omega arith) (omega arith))) ∙ ap (lift g) s in
           push (l .entries) (l .n) (c .lifted .result)

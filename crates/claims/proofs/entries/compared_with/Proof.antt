@@ -28,11 +28,11 @@ returns c =
 
 returns-2 : tie.Need-returns-2
 returns-2 c =
-    let at-enum-told2 = c .before .before in
-    let start = at-enum-told2 .before .before .before in
+    let start = c .before .before .before .before .before in
     let a = start .args in
     let all : length (a .e .gaps) ≡ PARTS = (let g = start .good in search needs) in
-    deletes-compared (a .m) (a .e) _ (c .compared-count .result) (start .pre .0) (start .pre .1) (at-enum-told2 .enum-told2 .given .1) all
+    deletes-compared (a .m) (a .e) _ (c .compared-count .result) (start .pre .0) (start .pre .1)
+    (c .before .before .enum-told2 .given .1) all
     (c .compared-count .ensures)
 
 pub compared-with-spec : {M : Type 1} → statement M

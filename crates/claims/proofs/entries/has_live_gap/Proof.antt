@@ -37,11 +37,10 @@ loop-holds c =
 
 is-live-requires : tie.Need-is-live-requires Inv-loop μ-loop
 is-live-requires c κs =
-    let at-loop = c .before .before in
-    let start = at-loop .before .before in
+    let start = c .before .before .before .before in
     let a = start .args in
     let q = start .pre in
-    let l = at-loop .loop in
+    let l = c .before .before .loop in
     let six = six-digits start in
     let is = c .entry-gap .ensures in (
       entry-short (a .e) q,
@@ -52,8 +51,7 @@ is-live-requires c κs =
 
 returns : tie.Need-returns Inv-loop μ-loop
 returns c =
-    let at-entry-gap = c .before .before in
-    let at-loop = at-entry-gap .before .before in
+    let at-loop = c .before .before .before .before in
     let start = at-loop .before .before in
     let a = start .args in
     let q = start .pre in
@@ -62,13 +60,12 @@ returns c =
     let p = (entryIn (a .e)) .prefix in
     let six = six-digits start in
     let live = ap (λ (u : List ℕ). liveAt P u (gapAt (a .e) (l .j))) (prefix-is (a .e) q six) ∙
-    sym (rw (at-entry-gap .entry-gap .ensures) at (c .before .is-live .ensures)) ∙ c .if1 .taken in
+    sym (rw (c .before .before .entry-gap .ensures) at (c .before .is-live .ensures)) ∙ c .if1 .taken in
     sym (l .inv .2 ∙ any-here (liveAt P p) (gapAt (a .e)) (a .e .«gap_count») (l .j) (omega arith) live)
 
 loop-again : tie.Need-loop-again Inv-loop μ-loop
 loop-again c =
-    let at-entry-gap = c .before .before in
-    let at-loop = at-entry-gap .before .before in
+    let at-loop = c .before .before .before .before in
     let start = at-loop .before .before in
     let a = start .args in
     let q = start .pre in
@@ -77,7 +74,7 @@ loop-again c =
     let p = (entryIn (a .e)) .prefix in
     let six = six-digits start in
     let dead = ap (λ (u : List ℕ). liveAt P u (gapAt (a .e) (l .j))) (prefix-is (a .e) q six) ∙
-    sym (rw (at-entry-gap .entry-gap .ensures) at (c .before .is-live .ensures)) ∙ c .if1 .left in
+    sym (rw (c .before .before .entry-gap .ensures) at (c .before .is-live .ensures)) ∙ c .if1 .left in
     (l .inv .0, omega arith, l .inv .2 ∙ any-later (liveAt P p) (gapAt (a .e)) (a .e .«gap_count») (l .j) (omega arith) dead)
 
 returns-2 : tie.Need-returns-2 Inv-loop μ-loop

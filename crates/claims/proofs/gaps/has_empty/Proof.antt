@@ -50,59 +50,50 @@ is-empty-below-requires c κs = (
 
 returns : tie.Need-returns Inv-loop μ-loop
 returns c =
-    let at-loop = c .before .before in
-    let start = at-loop .before .before in
+    let start = c .before .before .before .before in
     let a = start .args in
-    let l = at-loop .loop in
+    let l = c .before .before .loop in
     let f = shows (a .set) (a .lengths) (a .count) (a .at .prefix) (a .at .length) (a .at .parts) in
     sym (l .inv .1 ∙ walk-here f (take (a .at .length + 1) (l .g)) (sym (c .before .is-empty-below .ensures) ∙ c .if1 .taken))
 
 next-spacing-requires : tie.Need-next-spacing-requires Inv-loop μ-loop
 next-spacing-requires c κs =
-    let at-loop = c .before .before in
-    let start = at-loop .before .before in
-    (omega (arith, start .pre .0), omega (arith, at-loop .loop .inv .0, start .pre .2))
+    let start = c .before .before .before .before in
+    (omega (arith, start .pre .0), omega (arith, c .before .before .loop .inv .0, start .pre .2))
 
 returns-2 : tie.Need-returns-2 Inv-loop μ-loop
 returns-2 c =
-    let at-next-spacing = c .before .before in
-    let at-if1 = at-next-spacing .before in
-    let at-is-empty-below = at-if1 .before in
-    let at-loop = at-is-empty-below .before in
-    let start = at-loop .before .before in
+    let at-is-empty-below = c .before .before .before .before in
+    let start = at-is-empty-below .before .before .before in
     let a = start .args in
-    let l = at-loop .loop in
-    let n = at-next-spacing .next-spacing in
+    let l = at-is-empty-below .before .loop in
+    let n = c .before .before .next-spacing in
     let f = shows (a .set) (a .lengths) (a .count) (a .at .prefix) (a .at .length) (a .at .parts) in
     sym (l .inv .1 ∙
     walk-last f (take (a .at .length + 1) (l .g)) (take (a .at .length + 1) (n .result .g)) (n .result .found) (n .ensures .follows)
-    (sym (at-is-empty-below .is-empty-below .ensures) ∙ at-if1 .if1 .left) (not-true _ (c .if2 .taken)))
+    (sym (at-is-empty-below .is-empty-below .ensures) ∙ c .before .before .before .if1 .left) (not-true _ (c .if2 .taken)))
 
 loop-less : tie.Need-loop-less Inv-loop μ-loop
 loop-less c =
-    let at-next-spacing = c .before .before .before in
-    let at-loop = at-next-spacing .before .before .before in
+    let at-loop = c .before .before .before .before .before .before in
     let start = at-loop .before .before in
     let a = start .args in
-    let n = at-next-spacing .next-spacing in
+    let n = c .before .before .before .next-spacing in
     less-later (take (a .at .length + 1) (at-loop .loop .g)) (take (a .at .length + 1) (n .result .g))
     (n .result .found) (n .ensures .follows) (not-false _ (c .before .if2 .left))
 
 loop-again : tie.Need-loop-again Inv-loop μ-loop
 loop-again c =
-    let at-next-spacing = c .before .before .before in
-    let at-if1 = at-next-spacing .before in
-    let at-is-empty-below = at-if1 .before in
-    let at-loop = at-is-empty-below .before in
-    let start = at-loop .before .before in
+    let at-if1 = c .before .before .before .before in
+    let start = at-if1 .before .before .before .before in
     let a = start .args in
-    let l = at-loop .loop in
-    let n = at-next-spacing .next-spacing in
+    let l = at-if1 .before .before .loop in
+    let n = c .before .before .before .next-spacing in
     let f = shows (a .set) (a .lengths) (a .count) (a .at .prefix) (a .at .length) (a .at .parts) in (
       n .ensures .follows .same-total ∙ l .inv .0,
       l .inv .1 ∙
           walk-next f (take (a .at .length + 1) (l .g)) (take (a .at .length + 1) (n .result .g)) (n .result .found) (n .ensures .follows)
-          (sym (at-is-empty-below .is-empty-below .ensures) ∙ at-if1 .if1 .left)
+          (sym (at-if1 .before .is-empty-below .ensures) ∙ at-if1 .if1 .left)
           (not-false _ (c .before .if2 .left)),
     )
 

@@ -37,10 +37,9 @@ is-at-most-requires c κs = c .before .before .pre .0
 
 returns : tie.Need-returns Inv-loop μ-loop
 returns c =
-    let at-loop = c .before .before .before in
-    let start = at-loop .before in
+    let start = c .before .before .before .before in
     let a = start .args in
-    let l = at-loop .loop in
+    let l = c .before .before .before .loop in
     let m = total (take (a .k + 1) (a .parts)) in
     sym (l .inv .1 ∙
     totals-end (shows (a .set) (a .lengths) (a .count) (a .prefix) (a .k) (a .parts)) (a .k) m (l .t)
@@ -48,29 +47,24 @@ returns c =
 
 has-empty-requires : tie.Need-has-empty-requires Inv-loop μ-loop
 has-empty-requires c κs =
-    let at-loop = c .before .before .before in
-    let start = at-loop .before in
-    (start .pre .0, start .pre .1, omega (arith, at-loop .loop .inv .0))
+    let start = c .before .before .before .before in
+    (start .pre .0, start .pre .1, omega (arith, c .before .before .before .loop .inv .0))
 
 returns-2 : tie.Need-returns-2 Inv-loop μ-loop
 returns-2 c =
-    let at-if1 = c .before .before in
-    let at-is-at-most = at-if1 .before in
-    let at-loop = at-is-at-most .before .before in
+    let at-loop = c .before .before .before .before .before in
     let start = at-loop .before in
     let a = start .args in
     let l = at-loop .loop in
     let m = total (take (a .k + 1) (a .parts)) in
     sym (l .inv .1 ∙
     totals-here (shows (a .set) (a .lengths) (a .count) (a .prefix) (a .k) (a .parts)) (a .k) m (l .t)
-    (leb-false m (l .t) (sym (at-is-at-most .is-at-most .ensures) ∙ at-if1 .if1 .left))
+    (leb-false m (l .t) (sym (c .before .before .before .is-at-most .ensures) ∙ c .before .before .if1 .left))
     (sym (c .before .has-empty .ensures) ∙ c .if2 .taken))
 
 loop-again : tie.Need-loop-again Inv-loop μ-loop
 loop-again c =
-    let at-if1 = c .before .before in
-    let at-is-at-most = at-if1 .before in
-    let at-loop = at-is-at-most .before .before in
+    let at-loop = c .before .before .before .before .before in
     let start = at-loop .before in
     let a = start .args in
     let l = at-loop .loop in
@@ -78,7 +72,7 @@ loop-again c =
       omega arith,
       l .inv .1 ∙
           totals-later (shows (a .set) (a .lengths) (a .count) (a .prefix) (a .k) (a .parts)) (a .k) m (l .t)
-          (leb-false m (l .t) (sym (at-is-at-most .is-at-most .ensures) ∙ at-if1 .if1 .left))
+          (leb-false m (l .t) (sym (c .before .before .before .is-at-most .ensures) ∙ c .before .before .if1 .left))
           (sym (c .before .has-empty .ensures) ∙ c .if2 .left),
     )
 

@@ -28,10 +28,9 @@ loop-holds c =
 
 loop-again : tie.Need-loop-again Inv-loop μ-loop
 loop-again c =
-    let at-loop = c .before .before in
-    let start = at-loop .before in
+    let start = c .before .before .before in
     let a = start .args in
-    let l = at-loop .loop in
+    let l = c .before .before .loop in
     let seven : length (a .t1) ≡ COMPONENTS = (let g = start .good in search needs) in
     let more = level-more (a .t1) (a .k + 1) (l .i) (omega arith) (omega (arith, seven, start .pre)) in
     (omega arith, omega (arith, l .inv .1, c .wide .ensures .1), omega (arith, l .inv .2, c .wide .ensures .0, more))

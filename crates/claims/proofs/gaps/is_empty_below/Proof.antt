@@ -28,11 +28,9 @@ is-live-at-requires c κs =
 
 returns-2 : tie.Need-returns-2
 returns-2 c =
-    let at-if1 = c .before .before in
-    let at-at-least = at-if1 .before in
-    let start = at-at-least .before .before in
+    let start = c .before .before .before .before .before in
     let a = start .args in
-    let above = sym (at-at-least .at-least .ensures) ∙ not-false _ (at-if1 .if1 .left) in
+    let above = sym (c .before .before .before .at-least .ensures) ∙ not-false _ (c .before .before .if1 .left) in
     shows-if-empty (patternsOf (a .set) (a .lengths) (a .count)) (take (a .at .length) (a .at .prefix))
     (take (a .at .length + 1) (a .at .parts)) (take (a .at .length + 1) (a .g))
     (c .is-live-at .result) above (c .is-live-at .ensures)

@@ -26,11 +26,10 @@ has-empty-below-requires c κs =
 
 returns : tie.Need-returns
 returns c =
-    let at-parts-of = c .before .before in
-    let start = at-parts-of .before in
+    let start = c .before .before .before in
     let a = start .args in
     let q = start .pre in
-    let o = at-parts-of .parts-of in
+    let o = c .before .before .parts-of in
     let same = gap-is (a .b) (a .k) (o .result) (q .2) (o .ensures .0) (o .ensures .1) (q .0) in
     let P = patternsOf (a .set) (a .lengths) (a .count) in
     let p = take (a .k) (a .prefix) in
@@ -39,21 +38,19 @@ returns c =
 
 is-live-at-requires : tie.Need-is-live-at-requires
 is-live-at-requires c κs =
-    let at-parts-of = c .before .before in
-    let start = at-parts-of .before in
+    let start = c .before .before .before in
     let a = start .args in
     let q = start .pre in
-    let o = at-parts-of .parts-of in
+    let o = c .before .before .parts-of in
     let same = gap-is (a .b) (a .k) (o .result) (q .2) (o .ensures .0) (o .ensures .1) (q .0) in
     (q .0, q .1, rw (← same) (q .3))
 
 returns-2 : tie.Need-returns-2
 returns-2 c =
-    let at-parts-of = c .before .before .before in
-    let start = at-parts-of .before in
+    let start = c .before .before .before .before in
     let a = start .args in
     let q = start .pre in
-    let o = at-parts-of .parts-of in
+    let o = c .before .before .before .parts-of in
     let same = gap-is (a .b) (a .k) (o .result) (q .2) (o .ensures .0) (o .ensures .1) (q .0) in
     let P = patternsOf (a .set) (a .lengths) (a .count) in
     c .is-live-at .ensures ∙ ap (λ (v : List ℕ). not (isEmpty (cell P (take (a .k) (a .prefix)) v))) (sym same)

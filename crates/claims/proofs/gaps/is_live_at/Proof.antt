@@ -54,13 +54,11 @@ all-entries o = (let k = o .kept .ok in search needs)
 
 returns : tie.Need-returns
 returns c =
-    let at-wide = c .before .before in
-    let at-kept = at-wide .before .before in
-    let at-levels-of = at-kept .before in
-    let start = at-levels-of .before in
+    let at-kept = c .before .before .before .before in
+    let start = at-kept .before .before in
     let a = start .args in
     let q = start .pre in
-    let v = at-levels-of .levels-of in
+    let v = at-kept .before .levels-of in
     let w = at-kept .kept in
     let six = six-digits start in
     let seven = seven-components start in
@@ -68,7 +66,7 @@ returns c =
     c .completable .ensures ∙
     live-is (a .k) (a .t6) seven (q .0) (q .2) (v .result) (v .ensures)
     (patternsOf (a .set) (a .lengths) (a .count)) (a .prefix) (w .result .entries) _ (w .result .length) six (q .1) twenty
-    (w .ensures .0) (w .ensures .1) (omega (arith, c .before .wide2 .ensures .0, at-wide .wide .ensures .0))
+    (w .ensures .0) (w .ensures .1) (omega (arith, c .before .wide2 .ensures .0, c .before .before .wide .ensures .0))
 
 pub is-live-at-spec : {M : Type 1} → statement M
 is-live-at-spec =

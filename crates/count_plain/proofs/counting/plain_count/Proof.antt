@@ -11,16 +11,14 @@ use Rattle.count_plain.proofs.counting.plain_count.Tie as tie
 
 fill-sheet-requires : tie.Need-fill-sheet-requires
 fill-sheet-requires c κs =
-    let start = c .before in
-    let q = proper (schemeIn (start .args .s)) (start .pre .1 .scheme) in search needs
+    let q = proper (schemeIn (c .before .args .s)) (c .before .pre .1 .scheme) in search needs
 
 cell-requires : tie.Need-cell-requires
 cell-requires c κs =
-    let at-fill-sheet = c .before .before in
-    let start = at-fill-sheet .before .before in
+    let start = c .before .before .before .before in
     let a = start .args in
     let p = start .pre in
-    let sheet = at-fill-sheet .fill-sheet in
+    let sheet = c .before .before .fill-sheet in
     counted-cell (patternsOf (a .set) (a .lengths) (a .count)) (a .s) (sheet .last .0)
     (proper (schemeIn (a .s)) (p .1 .scheme)) (sheet .ensures .0) (sheet .result) (a .n) _
     (sheet .ensures .1)
@@ -28,11 +26,10 @@ cell-requires c κs =
 
 returns : tie.Need-returns
 returns c =
-    let at-fill-sheet = c .before .before .before in
-    let start = at-fill-sheet .before .before in
+    let start = c .before .before .before .before .before in
     let a = start .args in
     let p = start .pre in
-    let sheet = at-fill-sheet .fill-sheet in
+    let sheet = c .before .before .before .fill-sheet in
     counted-value (patternsOf (a .set) (a .lengths) (a .count)) (a .s) (sheet .last .0)
     (proper (schemeIn (a .s)) (p .1 .scheme)) (sheet .ensures .0) (sheet .result) (a .n) _
     (sheet .ensures .1)

@@ -96,13 +96,12 @@ cell-is-free-at-requires t c κs =
 
 cell-returns : (t : ℕ) → cell-lts.Need-returns (cell-called t) (cell-at t) cell.Post
 cell-returns t c =
-    let at-is-free-at = c .before in
-    let at-field = at-is-free-at .before in
+    let at-field = c .before .before in
     let start = at-field .before .before in
     let a = start .args in
     let q = start .pre .1 in
     let f : free (gapsAt (now (a .sheet)) (a .e) (at-field .field .result)) (take (at-field .field .result + 1) (a .g)) ≡ false =
-    sym (at-is-free-at .is-free-at .ensures) ∙ not-true (at-is-free-at .is-free-at .result) (c .if1 .taken) in
+    sym (c .before .is-free-at .ensures) ∙ not-true (c .before .is-free-at .result) (c .if1 .taken) in
     λ o v solved. covered-value (now (a .sheet)) (a .e) (a .g) (a .t) o (at-field .field .result) (at-field .field .ensures) v solved f
 
 cell-field-requires-2 : (t : ℕ) → cell-lts.Need-field-requires-2 (cell-called t) (cell-at t) cell.Post
@@ -121,17 +120,16 @@ cell-field-requires-3 t c κs =
 
 cell-merged-spacing-requires : (t : ℕ) → cell-lts.Need-merged-spacing-requires (cell-called t) (cell-at t) cell.Post
 cell-merged-spacing-requires t c κs =
-    let at-if2 = c .before in
-    let at-field2 = at-if2 .before in
+    let at-field2 = c .before .before in
     let at-field = at-field2 .before .before .before in
     let start = at-field .before .before in
     let a = start .args in
     let q = start .pre .1 in (
       omega (arith, at-field .field .ensures, length-small (now (a .sheet)) (a .e) (a .g) (a .t) q),
       deleted-low (now (a .sheet)) (a .e) (a .g) (a .t) q (at-field .field .result) (at-field .field .ensures)
-          (at-field2 .field2 .result) (at-field2 .field2 .ensures) (at-if2 .if2 .taken),
+          (at-field2 .field2 .result) (at-field2 .field2 .ensures) (c .before .if2 .taken),
       deleted-high (now (a .sheet)) (a .e) (a .g) (a .t) q (at-field .field .result) (at-field .field .ensures)
-          (at-field2 .field2 .result) (at-field2 .field2 .ensures) (at-if2 .if2 .taken),
+          (at-field2 .field2 .result) (at-field2 .field2 .ensures) (c .before .if2 .taken),
       omega (arith, total-is (now (a .sheet)) (a .e) (a .g) (a .t) q (at-field .field .result) (at-field .field .ensures), q .fits),
     )
 
@@ -161,26 +159,22 @@ cell-cell-requires t c κs =
 
 cell-returns-2 : (t : ℕ) → cell-lts.Need-returns-2 (cell-called t) (cell-at t) cell.Post
 cell-returns-2 t c =
-    let at-merged-spacing = c .before in
-    let at-field3 = at-merged-spacing .before in
-    let at-if2 = at-field3 .before in
-    let at-field2 = at-if2 .before in
-    let at-if1 = at-field2 .before in
-    let at-is-free-at = at-if1 .before in
+    let at-field2 = c .before .before .before .before in
+    let at-is-free-at = at-field2 .before .before in
     let at-field = at-is-free-at .before in
     let start = at-field .before .before in
     let a = start .args in
     let q = start .pre .1 in
-    let seven = merged-places t at-merged-spacing in
+    let seven = merged-places t (c .before) in
     let f : free (gapsAt (now (a .sheet)) (a .e) (at-field .field .result)) (take (at-field .field .result + 1) (a .g)) ≡ true =
-    sym (at-is-free-at .is-free-at .ensures) ∙ not-false (at-is-free-at .is-free-at .result) (at-if1 .if1 .left) in
+    sym (at-is-free-at .is-free-at .ensures) ∙ not-false (at-is-free-at .is-free-at .result) (at-field2 .before .if1 .left) in
     let ev : Evaluates (now (a .sheet)) (fieldOf (now (a .sheet)) (a .e) FIELDS)
-    (at-merged-spacing .merged-spacing .result) (a .t) (c .cell .result) =
-    subst (λ (d : ℕ). Evaluates (now (a .sheet)) d (at-merged-spacing .merged-spacing .result) (a .t)
-    (c .cell .result)) (at-field3 .field3 .ensures) (c .cell .ensures) in
+    (c .before .merged-spacing .result) (a .t) (c .cell .result) =
+    subst (λ (d : ℕ). Evaluates (now (a .sheet)) d (c .before .merged-spacing .result) (a .t)
+    (c .cell .result)) (c .before .before .field3 .ensures) (c .cell .ensures) in
     λ o v solved. target-evaluates (now (a .sheet)) (a .e) (a .g) (a .t) o (at-field .field .result)
-    (at-field .field .ensures) (at-field2 .field2 .result) (at-field2 .field2 .ensures) (at-if2 .if2 .taken)
-    (at-merged-spacing .merged-spacing .result) seven (at-merged-spacing .merged-spacing .ensures) v solved f
+    (at-field .field .ensures) (at-field2 .field2 .result) (at-field2 .field2 .ensures) (c .before .before .before .if2 .taken)
+    (c .before .merged-spacing .result) seven (c .before .merged-spacing .ensures) v solved f
     (c .cell .result) ev
 
 cell-field-requires-4 : (t : ℕ) → cell-lts.Need-field-requires-4 (cell-called t) (cell-at t) cell.Post
@@ -192,27 +186,22 @@ cell-field-requires-4 t c κs =
 
 cell-returns-3 : (t : ℕ) → cell-lts.Need-returns-3 (cell-called t) (cell-at t) cell.Post
 cell-returns-3 t c =
-    let at-if3 = c .before .before in
-    let at-if2 = at-if3 .before in
-    let at-field2 = at-if2 .before in
-    let at-if1 = at-field2 .before in
-    let at-is-free-at = at-if1 .before in
+    let at-field2 = c .before .before .before .before in
+    let at-is-free-at = at-field2 .before .before in
     let at-field = at-is-free-at .before in
     let start = at-field .before .before in
     let a = start .args in
     let q = start .pre .1 in
     let f : free (gapsAt (now (a .sheet)) (a .e) (at-field .field .result)) (take (at-field .field .result + 1) (a .g)) ≡ true =
-    sym (at-is-free-at .is-free-at .ensures) ∙ not-false (at-is-free-at .is-free-at .result) (at-if1 .if1 .left) in
+    sym (at-is-free-at .is-free-at .ensures) ∙ not-false (at-is-free-at .is-free-at .result) (at-field2 .before .if1 .left) in
     λ o v solved. alone-value (now (a .sheet)) (a .e) (a .g) (a .t) o (at-field .field .result)
-    (at-field .field .ensures) v solved (sym (at-field2 .field2 .ensures) ∙ at-if2 .if2 .left) f
+    (at-field .field .ensures) v solved (sym (at-field2 .field2 .ensures) ∙ c .before .before .before .if2 .left) f
     (c .long .result)
-    (c .long .ensures ∙ c .before .field4 .ensures) (at-if3 .if3 .taken)
+    (c .long .ensures ∙ c .before .field4 .ensures) (c .before .before .if3 .taken)
 
 cell-returns-4 : (t : ℕ) → cell-lts.Need-returns-4 (cell-called t) (cell-at t) cell.Post
 cell-returns-4 t c =
-    let at-if2 = c .before .before in
-    let at-field2 = at-if2 .before in
-    let at-if1 = at-field2 .before in
+    let at-if1 = c .before .before .before .before in
     let at-is-free-at = at-if1 .before in
     let at-field = at-is-free-at .before in
     let start = at-field .before .before in
@@ -220,7 +209,7 @@ cell-returns-4 t c =
     let q = start .pre .1 in
     let f : free (gapsAt (now (a .sheet)) (a .e) (at-field .field .result)) (take (at-field .field .result + 1) (a .g)) ≡ true =
     sym (at-is-free-at .is-free-at .ensures) ∙ not-false (at-is-free-at .is-free-at .result) (at-if1 .if1 .left) in
-    let z : fieldOf (now (a .sheet)) (a .e) 1 ≡ 0 = sym (at-field2 .field2 .ensures) ∙ at-if2 .if2 .left in
+    let z : fieldOf (now (a .sheet)) (a .e) 1 ≡ 0 = sym (c .before .before .before .field2 .ensures) ∙ c .before .before .if2 .left in
     λ o v solved. sum-value (now (a .sheet)) (a .e) (a .g) (a .t) o (at-field .field .result)
     (at-field .field .ensures) v solved z f (c .next-sum .result) (c .before .if3 .left)
     (c .next-sum .ensures o v solved z)
@@ -288,23 +277,21 @@ next-sum-split-spacing-requires t c κs =
 next-sum-add-field : (t : ℕ) → next-sum-lts.Need-add-field (next-sum-called t) (next-sum-at t) next-sum.Post
     next-sum-Inv-loop next-sum-μ-loop
 next-sum-add-field t c =
-    let at-held = c .before .before in
-    let start = at-held .before .before .before .before in
+    let start = c .before .before .before .before .before .before in
     let a = start .args in
     let q = start .pre .1 .0 in
     let p = start .pre .1 in
-    omega (arith, at-held .held .ensures .reach, p .1, length-small (now (a .sheet)) (a .e) (a .g) (a .t) q)
+    omega (arith, c .before .before .held .ensures .reach, p .1, length-small (now (a .sheet)) (a .e) (a .g) (a .t) q)
 
 next-sum-field-requires : (t : ℕ) → next-sum-lts.Need-field-requires (next-sum-called t) (next-sum-at t)
     next-sum.Post next-sum-Inv-loop next-sum-μ-loop
 next-sum-field-requires t c κs =
-    let at-held = c .before .before in
-    let start = at-held .before .before .before .before in
+    let start = c .before .before .before .before .before .before in
     let a = start .args in
     let q = start .pre .1 .0 in
     let p = start .pre .1 in (
       index-small (now (a .sheet)) (a .e) (a .g) (a .t) q,
-      omega (arith, at-held .held .ensures .reach, p .1, length-small (now (a .sheet)) (a .e) (a .g) (a .t) q),
+      omega (arith, c .before .before .held .ensures .reach, p .1, length-small (now (a .sheet)) (a .e) (a .g) (a .t) q),
       q .of .long,
     )
 
@@ -343,30 +330,27 @@ next-sum-cell-requires t c κs =
 next-sum-loop-again : (t : ℕ) → next-sum-lts.Need-loop-again (next-sum-called t) (next-sum-at t) next-sum.Post
     next-sum-Inv-loop next-sum-μ-loop
 next-sum-loop-again t c =
-    let at-cell = c .before in
-    let at-field = at-cell .before in
-    let at-split-spacing = at-field .before .before in
+    let at-split-spacing = c .before .before .before .before in
     let at-held = at-split-spacing .before in
-    let at-loop = at-held .before .before in
-    let start = at-loop .before .before in
+    let start = at-held .before .before .before .before in
     let a = start .args in
     let q = start .pre .1 .0 in
     let p = start .pre .1 in
-    let l = at-loop .loop in
+    let l = at-held .before .before .loop in
     let seven = split-places t at-split-spacing in
     let ev : Evaluates (now (a .sheet)) (fieldOf (now (a .sheet)) (a .e) (FIELDS + at-held .held .result .index))
-    (at-split-spacing .split-spacing .result) (a .t - 1) (at-cell .cell .result) =
+    (at-split-spacing .split-spacing .result) (a .t - 1) (c .before .cell .result) =
     subst (λ (d : ℕ). Evaluates (now (a .sheet)) d (at-split-spacing .split-spacing .result) (a .t - 1)
-    (at-cell .cell .result)) (at-field .field .ensures) (at-cell .cell .ensures) in
+    (c .before .cell .result)) (c .before .before .field .ensures) (c .before .cell .ensures) in
     let low : l .q ≤ a .t = omega arith in (
       omega arith,
       omega arith,
-      cap-high (c .capped-sum .result) (l .sum + at-cell .cell .result) (c .capped-sum .ensures),
-      sum-more (now (a .sheet)) (a .e) (a .g) (a .t) (l .q) (l .sum) (c .capped-sum .result) (at-cell .cell .result)
+      cap-high (c .capped-sum .result) (l .sum + c .before .cell .result) (c .capped-sum .ensures),
+      sum-more (now (a .sheet)) (a .e) (a .g) (a .t) (l .q) (l .sum) (c .capped-sum .result) (c .before .cell .result)
           low (l .inv .3) (c .capped-sum .ensures)
           (λ o v solved z. child-evaluates (now (a .sheet)) (a .e) (a .g) (a .t) o (a .k) (p .1) z (l .q)
           (at-held .held .result .index) (at-held .held .result .left) (l .inv .0) low (at-held .held .ensures)
-          (at-split-spacing .split-spacing .result) seven (at-split-spacing .split-spacing .ensures) v solved (at-cell .cell .result) ev),
+          (at-split-spacing .split-spacing .result) seven (at-split-spacing .split-spacing .ensures) v solved (c .before .cell .result) ev),
     )
 
 next-sum-returns : (t : ℕ) → next-sum-lts.Need-returns (next-sum-called t) (next-sum-at t) next-sum.Post next-sum-Inv-loop next-sum-μ-loop

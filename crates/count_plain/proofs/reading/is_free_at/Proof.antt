@@ -23,12 +23,11 @@ is-free-requires c κs =
 
 returns : tie.Need-returns
 returns c =
-    let at-field = c .before .before in
-    let start = at-field .before .before in
+    let start = c .before .before .before .before in
     let a = start .args in
     c .is-free .ensures ∙
     ap₂ (λ (parts : List ℕ) (n : ℕ). free (gapsOf parts (a .k + 1) n) (take (a .k + 1) (a .g))) (c .before .gaps-of .ensures)
-    (at-field .field .ensures)
+    (c .before .before .field .ensures)
 
 pub is-free-at-spec : {M : Type 1} → statement M
 is-free-at-spec = tie.close (tie.spec (λ c κs. search needs) (λ c κs. search needs) is-free-requires returns)

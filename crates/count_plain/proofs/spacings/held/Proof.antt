@@ -25,27 +25,23 @@ loop-holds c =
 
 returns : tie.Need-returns Inv-loop μ-loop
 returns c =
-    let at-wide = c .before in
-    let at-loop = at-wide .before .before in
-    let start = at-loop .before in
+    let start = c .before .before .before .before in
     let a = start .args in
-    let l = at-loop .loop in
+    let l = c .before .before .before .loop in
     let seven : length (a .t1) ≡ COMPONENTS = (let o = start in search needs) in
     let size : length (take (a .k + 1) (a .t1)) ≡ suc (a .k) = length-take-le (a .k + 1) (a .t1) (omega arith) ∙ add-one (a .k) in
-    walk-end (take (a .k + 1) (a .t1)) (a .k) (a .s) (l .i) (l .left) size (l .inv) (at-wide .wide .result)
-    (at-wide .wide .ensures .0 ∙ sym (getD-take (a .k + 1) (a .t1) (l .i) 0 (omega arith))) (c .if1 .taken)
+    walk-end (take (a .k + 1) (a .t1)) (a .k) (a .s) (l .i) (l .left) size (l .inv) (c .before .wide .result)
+    (c .before .wide .ensures .0 ∙ sym (getD-take (a .k + 1) (a .t1) (l .i) 0 (omega arith))) (c .if1 .taken)
 
 loop-again : tie.Need-loop-again Inv-loop μ-loop
 loop-again c =
-    let at-wide = c .before in
-    let at-loop = at-wide .before .before in
-    let start = at-loop .before in
+    let start = c .before .before .before .before in
     let a = start .args in
-    let l = at-loop .loop in
+    let l = c .before .before .before .loop in
     let seven : length (a .t1) ≡ COMPONENTS = (let o = start in search needs) in
     let size : length (take (a .k + 1) (a .t1)) ≡ suc (a .k) = length-take-le (a .k + 1) (a .t1) (omega arith) ∙ add-one (a .k) in
-    walk-more (take (a .k + 1) (a .t1)) (a .k) (a .s) (l .i) (l .left) size (l .inv) (at-wide .wide .result)
-    (at-wide .wide .ensures .0 ∙ sym (getD-take (a .k + 1) (a .t1) (l .i) 0 (omega arith))) (omega arith) (omega arith)
+    walk-more (take (a .k + 1) (a .t1)) (a .k) (a .s) (l .i) (l .left) size (l .inv) (c .before .wide .result)
+    (c .before .wide .ensures .0 ∙ sym (getD-take (a .k + 1) (a .t1) (l .i) 0 (omega arith))) (omega arith) (omega arith)
 
 returns-2 : tie.Need-returns-2 Inv-loop μ-loop
 returns-2 c =

@@ -31,10 +31,9 @@ merged-piece-requires c κs =
 
 loop-again : tie.Need-loop-again Inv-loop μ-loop
 loop-again c =
-    let at-loop = c .before .before in
-    let start = at-loop .before in
+    let start = c .before .before .before in
     let a = start .args in
-    let l = at-loop .loop in
+    let l = c .before .before .loop in
     let seven : length (a .g) ≡ COMPONENTS = (let o = start in search needs) in
     let size = length-take-le (a .k + 1) (a .g) (omega arith) in (
       omega arith,

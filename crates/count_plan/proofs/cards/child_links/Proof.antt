@@ -21,10 +21,9 @@ loop-holds c = (omega arith, λ ps w. links-start ps (take (c .before .args .k) 
 
 loop-again : tie.Need-loop-again Inv-loop μ-loop
 loop-again c =
-    let at-loop = c .before .before in
-    let start = at-loop .before .before in
+    let start = c .before .before .before .before in
     let a = start .args in
-    let l = at-loop .loop in (
+    let l = c .before .before .loop in (
       omega arith,
       λ ps w. links-more ps (take (a .k) (a .prefix)) (l .links) (l .a) (c .child-index .result) (omega arith)
           (c .child-index .ensures ps w)

@@ -13,13 +13,12 @@ use Rattle.count_plan.proofs.cards.deleting.Tie as tie
 
 returns : tie.Need-returns
 returns c ps w =
-    let at-wide = c .before .before in
-    let start = at-wide .before .before in
+    let start = c .before .before .before .before in
     let a = start .args in
     let six : length (a .t2) ≡ PREFIX = search needs in
     record {
       size = sym (length-take-le (a .k) (a .t2) (omega arith));
-      value = at-wide .wide .ensures .0 ∙ sym (getD-take (a .k) (a .t2) (a .r - 1) 0 (omega arith));
+      value = c .before .before .wide .ensures .0 ∙ sym (getD-take (a .k) (a .t2) (a .r - 1) 0 (omega arith));
       link = c .index-in .ensures ps w ∙ ap (indexIn ps) (c .before .shorter .ensures);
     }
 

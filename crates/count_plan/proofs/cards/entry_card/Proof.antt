@@ -46,12 +46,11 @@ returns c ps w =
 
 returns-2 : tie.Need-returns-2
 returns-2 c ps w =
-    let at-rule = c .before .before in
-    let o = at-rule .before .before .before .before in
+    let o = c .before .before .before .before .before .before in
     let a = o .args in
     let six = six-digits o in
     rule-deletes (patternsOf (a .set) (a .lengths) (a .count)) ps (c .deleting .result) (a .e .length) (a .e .prefix) (a .e .rule)
-    (omega (arith, o .pre .0 .short)) _ (at-rule .rule .given .1) (c .deleting .ensures ps w)
+    (omega (arith, o .pre .0 .short)) _ (c .before .before .rule .given .1) (c .deleting .ensures ps w)
 
 pub entry-card-spec : {M : Type 1} → statement M
 entry-card-spec =

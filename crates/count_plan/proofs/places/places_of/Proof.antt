@@ -30,15 +30,13 @@ element-copy-out-e c =
 
 choose-requires : tie.Need-choose-requires Inv-loop μ-loop
 choose-requires c κs =
-    let at-loop = c .before .before in
-    let o = at-loop .before .before in
-    (o .pre .1, omega (arith, entry-short (o .args .t1) (o .pre .0) (at-loop .loop .i) (omega arith)), o .pre .2)
+    let o = c .before .before .before .before in
+    (o .pre .1, omega (arith, entry-short (o .args .t1) (o .pre .0) (c .before .before .loop .i) (omega arith)), o .pre .2)
 
 add-at : tie.Need-add-at Inv-loop μ-loop
 add-at c =
-    let at-loop = c .before .before .before in
-    let o = at-loop .before .before in
-    let l = at-loop .loop in
+    let o = c .before .before .before .before .before in
+    let l = c .before .before .before .loop in
     omega (
       arith,
       l .inv .1 .here,
@@ -61,9 +59,8 @@ array-write-places c =
 
 loop-again : tie.Need-loop-again Inv-loop μ-loop
 loop-again c =
-    let at-loop = c .before .before .before in
-    let o = at-loop .before .before in
-    let l = at-loop .loop in (
+    let o = c .before .before .before .before .before in
+    let l = c .before .before .before .loop in (
       omega arith,
       places-more (o .args .n) (o .args .t1) (l .i) (l .places) (l .at) (c .choose .result) (l .inv .1)
           (omega (arith, count-few (o .args .t1) (o .pre .0))) (o .pre .1) (c .choose .ensures),

@@ -55,9 +55,8 @@ slice-aggregate-entry-card c =
 
 entry-card-requires : tie.Need-entry-card-requires Inv-loop μ-loop
 entry-card-requires c κs =
-    let at-loop = c .before .before .before in
-    let o = at-loop .before .before .before in
-    let i = at-loop .loop .i in
+    let o = c .before .before .before .before .before .before in
+    let i = c .before .before .before .loop .i in
     (entry-linked (o .args .t5) (o .pre .0) i (omega arith), expands-short (o .args .t5) (o .pre .0) i (omega arith))
 
 mul-put-card : tie.Need-mul-put-card Inv-loop μ-loop
@@ -77,14 +76,12 @@ loop-again c =
     let at-put-card = c .before .before in
     let at-entry-card = at-put-card .before .before in
     let at-loop = at-entry-card .before .before .before .before in
-    let at-codes-of = at-loop .before in
-    let o = at-codes-of .before .before in
-    let a = o .args in
+    let a = at-loop .before .before .before .args in
     let l = at-loop .loop in (
       omega arith,
       sheet-more (patternsOf (a .set) (a .lengths) (a .count)) (a .t5) (l .i) (l .sheet) (at-put-card .put-card .last .0)
           (at-entry-card .entry-card .result)
-          (l .inv .1) (at-entry-card .entry-card .ensures (prefixesIn (a .t5)) (at-codes-of .codes-of .ensures .1))
+          (l .inv .1) (at-entry-card .entry-card .ensures (prefixesIn (a .t5)) (at-loop .before .codes-of .ensures .1))
           (at-put-card .put-card .ensures),
     )
 
@@ -95,19 +92,17 @@ array-share-prefix-codes-2 c =
 
 slice-aggregate-index-in : tie.Need-slice-aggregate-index-in Inv-loop μ-loop
 slice-aggregate-index-in c =
-    let at-codes-of = c .before .before .before in
-    let start = at-codes-of .before .before in
-    let codes = at-codes-of .codes-of in
+    let start = c .before .before .before .before .before in
+    let codes = c .before .before .before .codes-of in
     sym (length-take-le (start .args .t5 .count) (codes .result)
     (omega (arith, count-few (start .args .t5) (start .pre .0), codes .ensures .0)))
 
 returns : tie.Need-returns Inv-loop μ-loop
 returns c =
-    let at-loop = c .before .before .before in
-    let at-codes-of = at-loop .before in
+    let at-codes-of = c .before .before .before .before in
     let o = at-codes-of .before .before in
     let a = o .args in
-    let l = at-loop .loop in
+    let l = c .before .before .before .loop in
     let e : l .i ≡ a .t5 .count = omega arith in
     let root = c .index-in .ensures (prefixesIn (a .t5)) (at-codes-of .codes-of .ensures .1) in (
       subst (λ (m : ℕ). SheetTo (patternsOf (a .set) (a .lengths) (a .count)) (a .t5) m (l .sheet)) e (l .inv .1),

@@ -17,10 +17,9 @@ abbrev μ-loop : tie.MeasureT-loop
 
 loop-again : tie.Need-loop-again Inv-loop μ-loop
 loop-again c =
-    let at-loop = c .before .before in
-    let start = at-loop .before in
+    let start = c .before .before .before in
     let a = start .args in
-    let l = at-loop .loop in
+    let l = c .before .before .loop in
     (omega arith, put-more (a .at) (now (a .part)) (l .f) (now (a .sheet)) (l .sheet) (omega arith) (l .inv .1))
 
 returns : tie.Need-returns Inv-loop μ-loop

@@ -26,10 +26,9 @@ loop-holds c = (omega arith, refl, λ (d : ℕ) (h : d < 0). absurd (omega arith
 
 add-from : tie.Need-add-from Inv-loop μ-loop
 add-from c =
-    let at-loop = c .before .before .before in
-    let o = at-loop .before .before .before in
+    let o = c .before .before .before .before .before .before in
     let a = o .args in
-    let l = at-loop .loop in
+    let l = c .before .before .before .loop in
     omega (
       arith,
       c .place-at .ensures ∙ ap (λ n. getD (now (a .places)) n 0) (c .before .field .ensures),
@@ -40,10 +39,9 @@ add-from c =
 
 loop-again : tie.Need-loop-again Inv-loop μ-loop
 loop-again c =
-    let at-loop = c .before .before .before in
-    let start = at-loop .before .before .before in
+    let start = c .before .before .before .before .before .before in
     let a = start .args in
-    let l = at-loop .loop in
+    let l = c .before .before .before .loop in
     let e = c .place-at .ensures ∙ ap (λ n. getD (now (a .places)) n 0) (c .before .field .ensures) in (
       omega arith,
       length-set (l .from) (l .a) (a .offset + c .place-at .result) ∙ l .inv .1,

@@ -33,26 +33,23 @@ links-from-requires c κs =
 
 returns : tie.Need-returns
 returns c =
-    let at-links-from = c .before in
-    let at-offset-of = at-links-from .before in
-    let at-field4 = at-offset-of .before in
+    let at-field4 = c .before .before .before in
     let at-long = at-field4 .before in
-    let at-field3 = at-long .before in
-    let at-field2 = at-field3 .before in
+    let at-field2 = at-long .before .before in
     let at-field = at-field2 .before in
     let start = at-field .before .before .before in
     let a = start .args in
     let sheet = now (a .sheet) in
     let places = now (a .places) in
-    let links : at-links-from .links-from .result ≡ map (λ x. readsFrom (itemOf (now (a .sheet)) (now (a .places)) (a .e)) (a .w .here)
+    let links : c .before .links-from .result ≡ map (λ x. readsFrom (itemOf (now (a .sheet)) (now (a .places)) (a .e)) (a .w .here)
     (a .w .before) + x) (linksAt (now (a .sheet)) (now (a .places)) (a .e)) =
-    at-links-from .links-from .ensures ∙
+    c .before .links-from .ensures ∙
     ap (λ o. map (λ x. o + x) (linksAt (now (a .sheet)) (now (a .places)) (a .e)))
-    (at-offset-of .offset-of .ensures ∙ ap (λ d. cond (eqb d 0) (a .w .here) (a .w .before)) (at-field2 .field2 .ensures)) in
+    (c .before .before .offset-of .ensures ∙ ap (λ d. cond (eqb d 0) (a .w .here) (a .w .before)) (at-field2 .field2 .ensures)) in
     task-made (itemOf sheet places (a .e)) (fieldOf sheet (a .e) 3) (a .w) (at-field .field .result) (at-field2 .field2 .result)
     (at-long .long .result) (at-field4 .field4 .result)
-    (at-links-from .links-from .result) (at-field .field .ensures) (at-field2 .field2 .ensures)
-    (at-long .long .ensures ∙ at-field3 .field3 .ensures)
+    (c .before .links-from .result) (at-field .field .ensures) (at-field2 .field2 .ensures)
+    (at-long .long .ensures ∙ at-long .before .field3 .ensures)
     (at-field4 .field4 .ensures) links
 
 pub task-of-spec : {M : Type 1} → statement M

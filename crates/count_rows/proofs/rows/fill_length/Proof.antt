@@ -34,32 +34,29 @@ field-requires c κs =
 
 fill-entry-requires : tie.Need-fill-entry-requires Inv-loop μ-loop
 fill-entry-requires c κs =
-    let at-field = c .before .before in
-    let at-loop = at-field .before .before .before in
+    let at-loop = c .before .before .before .before .before in
     let start = at-loop .before .before .before .before .before in
     let p = start .pre in
     let a = start .args in (
       entry-given (now (a .sheet)) (now (a .places)) (a .w) (p .0) (at-loop .loop .e) (omega arith)
-          (omega (arith, at-field .field .ensures, c .before .if2 .taken, p .1)),
+          (omega (arith, c .before .before .field .ensures, c .before .if2 .taken, p .1)),
       p .2,
     )
 
 loop-again : tie.Need-loop-again Inv-loop μ-loop
 loop-again c =
-    let at-fill-entry = c .before .before in
-    let at-if2 = at-fill-entry .before .before in
-    let at-field = at-if2 .before in
-    let at-loop = at-field .before .before .before in
+    let at-if2 = c .before .before .before .before in
+    let at-loop = at-if2 .before .before .before .before in
     let start = at-loop .before .before .before .before .before in
     let a = start .args in
     let l = at-loop .loop in
-    let filled = at-fill-entry .fill-entry .ensures in (
+    let filled = c .before .before .fill-entry .ensures in (
       filled .outside .size ∙ l .inv .0,
       omega arith,
       λ o. goes-entry (o .of .s) (itemOf (now (a .sheet)) (now (a .places))) (a .w .length) (a .w .here)
           (a .w .before) (now (a .table)) (a .k) (l .e)
           (l .table) _
-          (omega (arith, o .counted)) (start .pre .1) (sym (at-field .field .ensures) ∙ at-if2 .if2 .taken) (l .inv .2 o) filled,
+          (omega (arith, o .counted)) (start .pre .1) (sym (at-if2 .before .field .ensures) ∙ at-if2 .if2 .taken) (l .inv .2 o) filled,
     )
 
 loop-again-2 : tie.Need-loop-again-2 Inv-loop μ-loop
@@ -81,10 +78,9 @@ same-length c = c .before .before .loop .inv .0
 
 returns : tie.Need-returns Inv-loop μ-loop
 returns c =
-    let at-loop = c .before .before in
-    let start = at-loop .before .before .before .before .before in
+    let start = c .before .before .before .before .before .before .before in
     let a = start .args in
-    let l = at-loop .loop in
+    let l = c .before .before .loop in
     let e : l .e ≡ a .w .entries = omega arith in
     subst (λ (m : ℕ). LengthGoesTo (now (a .sheet)) (now (a .places)) (a .w) (a .k) m (now (a .table)) (l .table)) e (l .inv .2)
 

@@ -39,10 +39,9 @@ loop-holds c =
 loop-again : tie.Need-loop-again Inv-loop μ-loop
 loop-again c =
     let at-fill-length = c .before .before in
-    let at-loop = at-fill-length .before .before .before in
-    let start = at-loop .before .before .before .before .before .before in
+    let start = at-fill-length .before .before .before .before .before .before .before .before .before in
     let a = start .args in
-    let l = at-loop .loop in
+    let l = at-fill-length .before .before .before .loop in
     let U = at-fill-length .fill-length .last .0 in
     let len : length (at-fill-length .fill-length .last .0) ≡ length (l .table) = search needs in
     let e : l .k ≡ suc (l .k - 1) = omega arith in

@@ -20,10 +20,9 @@ abbrev μ-loop : tie.MeasureT-loop
 loop-again : tie.Need-loop-again Inv-loop μ-loop
 loop-again c =
     let at-store = c .before .before in
-    let at-loop = at-store .before .before .before in
-    let start = at-loop .before .before in
+    let start = at-store .before .before .before .before .before in
     let a = start .args in
-    let l = at-loop .loop in
+    let l = at-store .before .before .before .loop in
     let len : length (at-store .store .last .0) ≡ length (l .table) = search needs in (
       len ∙ l .inv .0,
       omega arith,

@@ -33,12 +33,11 @@ run-requires c κs =
     let at-place-at2 = c .before .before .before .before in
     let at-place-at = at-place-at2 .before .before in
     let at-places-of = at-place-at .before .before in
-    let at-fill-sheet = at-places-of .before .before .before in
-    let at-binomials = at-fill-sheet .before .before in
+    let at-binomials = at-places-of .before .before .before .before .before in
     let start = at-binomials .before .before in
     let a = start .args in
     let p = start .pre in
-    let sheet = at-fill-sheet .fill-sheet in (
+    let sheet = at-places-of .before .before .before .fill-sheet in (
       counts-given (patternsOf (a .set) (a .lengths) (a .count)) (a .s) (sheet .last .0)
           (at-places-of .places-of .result) (proper (schemeIn (a .s)) (p .1 .scheme))
           (sheet .ensures .0) (a .n) (p .0)
@@ -51,39 +50,34 @@ run-requires c κs =
 mul-clear : tie.Need-mul-clear
 mul-clear c =
     let at-place-at = c .before .before .before .before .before .before .before .before .before .before in
-    let at-places-of = at-place-at .before .before in
-    let start = at-places-of .before .before .before .before .before .before .before in
+    let start = at-place-at .before .before .before .before .before .before .before .before .before in
     let a = start .args in
     let p = start .pre in
-    let width = at-place-at .place-at .ensures ∙ at-places-of .places-of .ensures .at (a .s .count) (omega arith) in
+    let width = at-place-at .place-at .ensures ∙ at-place-at .before .before .places-of .ensures .at (a .s .count) (omega arith) in
     omega (arith, width, place-small (a .n) (a .s) (a .s .count) (p .0), count-few (a .s) (proper (schemeIn (a .s)) (p .1 .scheme)))
 
 clear-requires : tie.Need-clear-requires
 clear-requires c κs =
-    let at-run = c .before .before .before in
-    let at-place-at = at-run .before .before .before .before .before .before .before in
-    let at-places-of = at-place-at .before .before in
-    let start = at-places-of .before .before .before .before .before .before .before in
+    let at-place-at = c .before .before .before .before .before .before .before .before .before .before in
+    let start = at-place-at .before .before .before .before .before .before .before .before .before in
     let a = start .args in
     let p = start .pre in
-    let width = at-place-at .place-at .ensures ∙ at-places-of .places-of .ensures .at (a .s .count) (omega arith) in
-    let len : length (at-run .run .last .0) ≡ length (now (a .table)) = search needs in
+    let width = at-place-at .place-at .ensures ∙ at-place-at .before .before .places-of .ensures .at (a .s .count) (omega arith) in
+    let len : length (c .before .before .before .run .last .0) ≡ length (now (a .table)) = search needs in
     omega (arith, width, width-sum (a .n) (a .s), p .3, len)
 
 returns : tie.Need-returns
 returns c =
-    let at-clear = c .before .before in
-    let at-run = at-clear .before .before .before .before in
+    let at-run = c .before .before .before .before .before .before in
     let at-place-at2 = at-run .before .before .before .before .before in
     let at-place-at = at-place-at2 .before .before in
-    let at-places-of = at-place-at .before .before in
-    let at-fill-sheet = at-places-of .before .before .before in
+    let at-fill-sheet = at-place-at .before .before .before .before .before in
     let start = at-fill-sheet .before .before .before .before in
     let a = start .args in
     let p = start .pre in
     let P = patternsOf (a .set) (a .lengths) (a .count) in
     let sheet = at-fill-sheet .fill-sheet in
-    let places = at-places-of .places-of in
+    let places = at-place-at .before .before .places-of in
     let ran = at-run .run in
     let we : at-place-at .place-at .result ≡ widthOf (a .n) (a .s) = at-place-at .place-at .ensures ∙
     places .ensures .at (a .s .count) (omega arith) in
@@ -96,7 +90,7 @@ returns c =
     let (rows, counted, kept) = ran .ensures o (o .outlook) (size P) (sizes-solved P (a .s) (p .1) (p .2))
     (omega (arith, we, ne, p .3)) in (
       run-counts P (a .s) (a .n) (ran .result) (p .1) (p .2) counted,
-      at-clear .clear .ensures ∙ ap (λ (m : ℕ). cleared (2 * m) (ran .last .0)) we ∙
+      c .before .before .clear .ensures ∙ ap (λ (m : ℕ). cleared (2 * m) (ran .last .0)) we ∙
           kept-drop (a .n) (a .s) (now (a .table)) (ran .last .0) kept ∙
           ap (λ (m : ℕ). cleared m (now (a .table))) ne,
     )

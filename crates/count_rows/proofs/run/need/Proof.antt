@@ -10,13 +10,12 @@ use Rattle.count_rows.proofs.run.need.Tie as tie
 
 mul-result : tie.Need-mul-result
 mul-result c =
-    let at-places-of = c .before .before in
-    let o = at-places-of .before .before .before in
+    let o = c .before .before .before .before .before in
     let a = o .args in
     omega (
       arith,
       c .place-at .ensures,
-      at-places-of .places-of .ensures .at (a .s .count) (omega arith),
+      c .before .before .places-of .ensures .at (a .s .count) (omega arith),
       place-small (a .n) (a .s) (a .s .count)
           (o .pre .1),
       count-few (a .s) (o .pre .0),
@@ -24,10 +23,9 @@ mul-result c =
 
 returns : tie.Need-returns
 returns c =
-    let at-places-of = c .before .before in
-    let start = at-places-of .before .before .before in
+    let start = c .before .before .before .before .before in
     let a = start .args in
-    ap (λ m. 2 * m) (c .place-at .ensures ∙ at-places-of .places-of .ensures .at (a .s .count) (omega arith) ∙ width-sum (a .n) (a .s))
+    ap (λ m. 2 * m) (c .place-at .ensures ∙ c .before .before .places-of .ensures .at (a .s .count) (omega arith) ∙ width-sum (a .n) (a .s))
 
 pub need-spec : {M : Type 1} → statement M
 need-spec =

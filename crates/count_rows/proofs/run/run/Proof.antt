@@ -37,10 +37,9 @@ loop-holds c =
 
 fill-row-requires : tie.Need-fill-row-requires Inv-loop μ-loop
 fill-row-requires c κs =
-    let at-loop = c .before .before .before in
-    let start = at-loop .before .before .before .before .before in
+    let start = c .before .before .before .before .before .before .before .before in
     let a = start .args in
-    let l = at-loop .loop in
+    let l = c .before .before .before .loop in
     let p = start .pre in
     let blocks = l .inv .2 (p .0) in
     (run-row (now (a .sheet)) (now (a .places)) (a .f) (p .0) (l .j) (l .here) (l .before) (omega arith) (blocks .0) (blocks .1), p .1)
@@ -98,10 +97,9 @@ loop-again c =
 
 returns : tie.Need-returns Inv-loop μ-loop
 returns c =
-    let at-loop = c .before .before in
-    let start = at-loop .before .before .before .before .before in
+    let start = c .before .before .before .before .before .before .before in
     let a = start .args in
-    let l = at-loop .loop in
+    let l = c .before .before .loop in
     let e : l .j ≡ a .f .last + 1 = omega arith in
     subst (λ (m : ℕ). RunFilledTo (now (a .sheet)) (now (a .places)) (a .f) m (now (a .table)) (l .table) (l .counts)) e (l .inv .3)
 

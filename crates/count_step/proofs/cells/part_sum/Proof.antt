@@ -26,23 +26,21 @@ loop-holds c =
 
 add-read : tie.Need-add-read Inv-loop μ-loop
 add-read c =
-    let at-loop = c .before .before in
-    let start = at-loop .before .before .before in
-    let l = at-loop .loop in
+    let start = c .before .before .before .before .before in
+    let l = c .before .before .loop in
     omega (arith, c .choose .ensures, binomial-small (l .z) (start .args .col) (omega arith))
 
 loop-again : tie.Need-loop-again Inv-loop μ-loop
 loop-again c =
-    let at-read = c .before in
-    let at-choose = at-read .before in
-    let at-loop = at-choose .before .before in
+    let at-loop = c .before .before .before .before in
     let start = at-loop .before .before .before in
     let a = start .args in
     let l = at-loop .loop in (
       l .inv .0,
       part-more LARGEST (now (a .table)) (a .at) (a .col) (a .first) (a .n) (a .first + a .n) (l .sum) (l .z) (l .inv .1)
-          (at-read .read .result) (c .capped-sum .result) (omega arith)
-          (at-read .read .ensures ∙ ap (λ i. getD (now (a .table)) (a .at + i) 0) (at-choose .choose .ensures)) (c .capped-sum .ensures),
+          (c .before .read .result) (c .capped-sum .result) (omega arith)
+          (c .before .read .ensures ∙ ap (λ i. getD (now (a .table)) (a .at + i) 0)
+          (c .before .before .choose .ensures)) (c .capped-sum .ensures),
     )
 
 returns : tie.Need-returns Inv-loop μ-loop

@@ -16,14 +16,13 @@ use Rattle.count_step.proofs.cells.value_at.Tie as tie
 
 returns : tie.Need-returns
 returns c =
-    let at-is-free = c .before in
-    let start = at-is-free .before .before .before .before in
+    let start = c .before .before .before .before .before in
     let a = start .args in
     let t = a .task in
     let G = take (t .length + 1) (a .g) in
     let B = gapsOf (now (a .gaps)) (t .length + 1) (t .«gap_count») in
     sym (step-covered (now (a .table)) B (t .deleted) (t .alone) (t .links) G
-    (sym (at-is-free .is-free .ensures) ∙ not-true (at-is-free .is-free .result) (c .if1 .taken)))
+    (sym (c .before .is-free .ensures) ∙ not-true (c .before .is-free .result) (c .if1 .taken)))
 
 add-read : tie.Need-add-read
 add-read c =
@@ -32,9 +31,7 @@ add-read c =
 
 returns-2 : tie.Need-returns-2
 returns-2 c =
-    let at-rank-without = c .before in
-    let at-if2 = at-rank-without .before in
-    let at-if1 = at-if2 .before .before .before in
+    let at-if1 = c .before .before .before .before .before in
     let at-is-free = at-if1 .before in
     let start = at-is-free .before .before .before .before in
     let a = start .args in
@@ -43,12 +40,11 @@ returns-2 c =
     let B = gapsOf (now (a .gaps)) (t .length + 1) (t .«gap_count») in
     let fr : free B G ≡ true = sym (at-is-free .is-free .ensures) ∙ not-false (at-is-free .is-free .result) (at-if1 .if1 .left) in
     c .read .ensures ∙ step-deletes (now (a .table)) B (t .deleted) (t .alone) (t .links) G
-    (at-rank-without .rank-without .result) fr (at-if2 .if2 .taken) (at-rank-without .rank-without .ensures .0)
+    (c .before .rank-without .result) fr (c .before .before .if2 .taken) (c .before .rank-without .ensures .0)
 
 returns-3 : tie.Need-returns-3
 returns-3 c =
-    let at-if2 = c .before .before in
-    let at-if1 = at-if2 .before .before .before in
+    let at-if1 = c .before .before .before .before .before in
     let at-is-free = at-if1 .before in
     let start = at-is-free .before .before .before .before in
     let a = start .args in
@@ -56,12 +52,11 @@ returns-3 c =
     let G = take (t .length + 1) (a .g) in
     let B = gapsOf (now (a .gaps)) (t .length + 1) (t .«gap_count») in
     let fr : free B G ≡ true = sym (at-is-free .is-free .ensures) ∙ not-false (at-is-free .is-free .result) (at-if1 .if1 .left) in
-    step-alone (now (a .table)) B (t .deleted) (t .alone) (t .links) G fr (at-if2 .if2 .left) (start .pre .2 ∙ c .if3 .taken)
+    step-alone (now (a .table)) B (t .deleted) (t .alone) (t .links) G fr (c .before .before .if2 .left) (start .pre .2 ∙ c .if3 .taken)
 
 returns-4 : tie.Need-returns-4
 returns-4 c =
-    let at-if2 = c .before .before .before in
-    let at-if1 = at-if2 .before .before .before in
+    let at-if1 = c .before .before .before .before .before .before in
     let at-is-free = at-if1 .before in
     let start = at-is-free .before .before .before .before in
     let a = start .args in
@@ -69,7 +64,7 @@ returns-4 c =
     let G = take (t .length + 1) (a .g) in
     let B = gapsOf (now (a .gaps)) (t .length + 1) (t .«gap_count») in
     let fr : free B G ≡ true = sym (at-is-free .is-free .ensures) ∙ not-false (at-is-free .is-free .result) (at-if1 .if1 .left) in
-    c .child-sum .ensures ∙ step-sums (now (a .table)) B (t .deleted) (t .alone) (t .links) G fr (at-if2 .if2 .left)
+    c .child-sum .ensures ∙ step-sums (now (a .table)) B (t .deleted) (t .alone) (t .links) G fr (c .before .before .before .if2 .left)
     (λ e. c .before .if3 .left (sym (start .pre .2) ∙ e))
 
 pub value-at-spec : {M : Type 1} → statement M

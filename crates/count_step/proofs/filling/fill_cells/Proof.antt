@@ -31,8 +31,7 @@ loop-holds c =
 
 add-fill-one : tie.Need-add-fill-one Inv-loop μ-loop
 add-fill-one c =
-    let at-loop = c .before .before in
-    let start = at-loop .before .before .before .before .before .before in
+    let start = c .before .before .before .before .before .before .before .before in
     let a = start .args in
     let t = a .task in
     omega (
@@ -40,17 +39,16 @@ add-fill-one c =
       start .pre .2,
       start .pre .3,
       binomial-small (t .length + t .total) (t .length) (start .pre .0 .sum),
-      at-loop .loop .inv .reach,
+      c .before .before .loop .inv .reach,
     )
 
 loop-again : tie.Need-loop-again Inv-loop μ-loop
 loop-again c =
     let at-fill-one = c .before .before .before in
-    let at-loop = at-fill-one .before .before .before in
-    let start = at-loop .before .before .before .before .before .before in
+    let start = at-fill-one .before .before .before .before .before .before .before .before .before in
     let a = start .args in
     let t = a .task in
-    let l = at-loop .loop in
+    let l = at-fill-one .before .before .before .loop in
     filling-more (taskStep t (now (a .gaps))) (t .length) (t .total) (a .at) (a .size) (start .pre .2) (now (a .table)) (l .p) (l .table)
     (spacingIn (t .length) (l .g)) (l .inv) (omega arith) (at-fill-one .fill-one .last .0) (spacingIn (t .length) (c .next-cell .result))
     (at-fill-one .fill-one .ensures) (c .next-cell .ensures)

@@ -9,11 +9,10 @@ use Rattle.count_step.proofs.filling.fill_one.Tie as tie
 
 returns : tie.Need-returns
 returns c =
-    let at-store = c .before .before in
-    let at-value-at = at-store .before .before in
+    let at-value-at = c .before .before .before .before in
     let start = at-value-at .before .before .before .before .before in
     let a = start .args in
-    at-store .store .ensures ∙ ap (set (now (a .table)) (a .at)) (at-value-at .value-at .ensures)
+    c .before .before .store .ensures ∙ ap (set (now (a .table)) (a .at)) (at-value-at .value-at .ensures)
 
 pub fill-one-spec : {M : Type 1} → statement M
 fill-one-spec = tie.close (tie.spec (λ c κs. search needs) (λ c κs. search needs) (λ c. search needs) returns)

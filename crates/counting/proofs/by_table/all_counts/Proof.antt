@@ -10,11 +10,10 @@ use Rattle.counting.proofs.by_table.all_counts.Tie as tie
 
 counts-requires : tie.Need-counts-requires
 counts-requires c κs =
-    let at-rows-of = c .before .before in
-    let start = at-rows-of .before .before in
+    let start = c .before .before .before .before in
     let a = start .args in
     let q = start .pre in
-    let r = at-rows-of .rows-of in
+    let r = c .before .before .rows-of in
     let k = c .before .lengths-of in
     let hr : length (r .result) ≡ PATTERNS = search needs in
     let hk : length (k .result) ≡ PATTERNS = search needs in
@@ -23,18 +22,16 @@ counts-requires c κs =
 
 returns : tie.Need-returns
 returns c =
-    let at-counts = c .before .before in
-    let at-lengths-of = at-counts .before .before in
-    let at-rows-of = at-lengths-of .before in
-    let start = at-rows-of .before .before in
+    let at-lengths-of = c .before .before .before .before in
+    let start = at-lengths-of .before .before .before in
     let a = start .args in
     let q = start .pre in
-    let r = at-rows-of .rows-of in
+    let r = at-lengths-of .before .rows-of in
     let k = at-lengths-of .lengths-of in
     let hr : length (r .result) ≡ PATTERNS = search needs in
     let hk : length (k .result) ≡ PATTERNS = search needs in
     let holds = set-holds (a .patterns) (q .1 .patterns) (r .result) (k .result) hr hk (r .ensures) (k .ensures) in
-    let n = at-counts .counts .ensures in
+    let n = c .before .before .counts .ensures in
     (rw holds at (n .0), n .1)
 
 pub all-counts-spec : {M : Type 1} → statement M

@@ -14,137 +14,107 @@ use Rattle.counting.proofs.by_table.count.Tie as tie
 
 returns : tie.Need-returns
 returns c =
-    let at-is-fault = c .before .before in
-    let at-fault-of = at-is-fault .before in
-    let at-judge = at-fault-of .before in
+    let at-judge = c .before .before .before .before in
     let start = at-judge .before .before in
     let a = start .args in
     let P = patternsIn (a .patterns) in
     let E = schemeIn (a .scheme) in
     let j = at-judge .judge in
-    let f = at-fault-of .fault-of in
+    let f = c .before .before .before .fault-of in
     let is = f .ensures ∙ verdict-fault P E (j .result) (j .ensures .verdict) in
     refused-judging P E (a .n) (now (a .table)) (f .result) is
-    (sym (at-is-fault .is-fault .ensures) ∙ c .before .if1 .taken) (c .count-or .result) (c .count-or .ensures)
+    (sym (c .before .before .is-fault .ensures) ∙ c .before .if1 .taken) (c .count-or .result) (c .count-or .ensures)
 
 table-fault-requires : tie.Need-table-fault-requires
 table-fault-requires c κs =
-    let at-fault-of = c .before .before in
-    let at-judge = at-fault-of .before in
-    let start = at-judge .before .before in
-    let j = at-judge .judge in
-    let f = at-fault-of .fault-of in
+    let start = c .before .before .before .before .before in
+    let j = c .before .before .before .judge in
+    let f = c .before .before .fault-of in
     let none = not-faulty (f .result) (sym (c .before .is-fault .ensures) ∙ c .if1 .left) in
     proper (schemeIn (start .args .scheme))
     (j .ensures .exactly .0 (clean-accepts (j .result) (sym (f .ensures) ∙ none)) .0 .scheme)
 
 returns-2 : tie.Need-returns-2
 returns-2 c =
-    let at-is-fault2 = c .before .before in
-    let at-table-fault = at-is-fault2 .before in
-    let at-if1 = at-table-fault .before in
-    let at-is-fault = at-if1 .before in
-    let at-fault-of = at-is-fault .before in
-    let at-judge = at-fault-of .before in
-    let start = at-judge .before .before in
+    let at-if1 = c .before .before .before .before in
+    let start = at-if1 .before .before .before .before .before in
     let a = start .args in
     let P = patternsIn (a .patterns) in
     let E = schemeIn (a .scheme) in
-    let j = at-judge .judge in
-    let f = at-fault-of .fault-of in
+    let j = at-if1 .before .before .before .judge in
+    let f = at-if1 .before .before .fault-of in
     let is = f .ensures ∙ verdict-fault P E (j .result) (j .ensures .verdict) in
-    let g = at-table-fault .table-fault in
+    let g = c .before .before .before .table-fault in
     refused-n-or-table P E (a .n) (now (a .table)) (f .result) is
-    (sym (at-is-fault .is-fault .ensures) ∙ at-if1 .if1 .left) (g .result) (g .ensures)
-    (sym (at-is-fault2 .is-fault2 .ensures) ∙ c .before .if2 .taken) (c .count-or2 .result) (c .count-or2 .ensures)
+    (sym (at-if1 .before .is-fault .ensures) ∙ at-if1 .if1 .left) (g .result) (g .ensures)
+    (sym (c .before .before .is-fault2 .ensures) ∙ c .before .if2 .taken) (c .count-or2 .result) (c .count-or2 .ensures)
 
 all-counts-requires : tie.Need-all-counts-requires
 all-counts-requires c κs =
-    let at-is-fault2 = c .before .before in
-    let at-table-fault = at-is-fault2 .before in
-    let at-if1 = at-table-fault .before in
-    let at-is-fault = at-if1 .before in
-    let at-fault-of = at-is-fault .before in
-    let at-judge = at-fault-of .before in
-    let start = at-judge .before .before in
+    let at-if1 = c .before .before .before .before in
+    let start = at-if1 .before .before .before .before .before in
     let a = start .args in
     let P = patternsIn (a .patterns) in
     let E = schemeIn (a .scheme) in
-    let j = at-judge .judge in
-    let f = at-fault-of .fault-of in
+    let j = at-if1 .before .before .before .judge in
+    let f = at-if1 .before .before .fault-of in
     let is = f .ensures ∙ verdict-fault P E (j .result) (j .ensures .verdict) in
-    let g = at-table-fault .table-fault in
-    let clean = sym (at-is-fault .is-fault .ensures) ∙ at-if1 .if1 .left in
+    let g = c .before .before .before .table-fault in
+    let clean = sym (at-if1 .before .is-fault .ensures) ∙ at-if1 .if1 .left in
     let good = served P E (a .n) (now (a .table)) (f .result) is clean (g .result) (g .ensures)
-    (sym (at-is-fault2 .is-fault2 .ensures) ∙ c .before .if2 .left) in
+    (sym (c .before .before .is-fault2 .ensures) ∙ c .before .if2 .left) in
     let so = j .ensures .exactly .0 (clean-accepts (j .result) (sym (f .ensures) ∙ not-faulty (f .result) clean)) in
     (good .0, so .0, so .1, good .1)
 
 mul-count-or : tie.Need-mul-count-or
 mul-count-or c =
     let at-if2 = c .before .before .before .before in
-    let at-is-fault2 = at-if2 .before in
-    let at-table-fault = at-is-fault2 .before in
-    let at-if1 = at-table-fault .before in
-    let at-is-fault = at-if1 .before in
-    let at-fault-of = at-is-fault .before in
-    let at-judge = at-fault-of .before in
-    let start = at-judge .before .before in
+    let at-is-fault = at-if2 .before .before .before .before in
+    let start = at-is-fault .before .before .before .before in
     let a = start .args in
     let P = patternsIn (a .patterns) in
     let E = schemeIn (a .scheme) in
-    let j = at-judge .judge in
-    let f = at-fault-of .fault-of in
-    let g = at-table-fault .table-fault in
+    let j = at-is-fault .before .before .judge in
+    let f = at-is-fault .before .fault-of in
+    let g = at-if2 .before .before .table-fault in
     let is = f .ensures ∙ verdict-fault P E (j .result) (j .ensures .verdict) in
     let good = served P E (a .n) (now (a .table)) (f .result) is
-    (sym (at-is-fault .is-fault .ensures) ∙ at-if1 .if1 .left) (g .result) (g .ensures)
-    (sym (at-is-fault2 .is-fault2 .ensures) ∙ at-if2 .if2 .left) in
+    (sym (at-is-fault .is-fault .ensures) ∙ at-if2 .before .before .before .if1 .left) (g .result) (g .ensures)
+    (sym (at-if2 .before .is-fault2 .ensures) ∙ at-if2 .if2 .left) in
     let low = good .0 in search needs
 
 array-read-count-or : tie.Need-array-read-count-or
 array-read-count-or c =
     let at-if2 = c .before .before .before .before in
-    let at-is-fault2 = at-if2 .before in
-    let at-table-fault = at-is-fault2 .before in
-    let at-if1 = at-table-fault .before in
-    let at-is-fault = at-if1 .before in
-    let at-fault-of = at-is-fault .before in
-    let at-judge = at-fault-of .before in
-    let start = at-judge .before .before in
+    let at-is-fault = at-if2 .before .before .before .before in
+    let start = at-is-fault .before .before .before .before in
     let a = start .args in
     let P = patternsIn (a .patterns) in
     let E = schemeIn (a .scheme) in
-    let j = at-judge .judge in
-    let f = at-fault-of .fault-of in
-    let g = at-table-fault .table-fault in
+    let j = at-is-fault .before .before .judge in
+    let f = at-is-fault .before .fault-of in
+    let g = at-if2 .before .before .table-fault in
     let is = f .ensures ∙ verdict-fault P E (j .result) (j .ensures .verdict) in
     let good = served P E (a .n) (now (a .table)) (f .result) is
-    (sym (at-is-fault .is-fault .ensures) ∙ at-if1 .if1 .left) (g .result) (g .ensures)
-    (sym (at-is-fault2 .is-fault2 .ensures) ∙ at-if2 .if2 .left) in
+    (sym (at-is-fault .is-fault .ensures) ∙ at-if2 .before .before .before .if1 .left) (g .result) (g .ensures)
+    (sym (at-if2 .before .is-fault2 .ensures) ∙ at-if2 .if2 .left) in
     omega (arith, good .0)
 
 returns-3 : tie.Need-returns-3
 returns-3 c =
-    let at-all-counts = c .before .before .before in
-    let at-if2 = at-all-counts .before .before in
-    let at-is-fault2 = at-if2 .before in
-    let at-table-fault = at-is-fault2 .before in
-    let at-if1 = at-table-fault .before in
-    let at-is-fault = at-if1 .before in
-    let at-fault-of = at-is-fault .before in
-    let at-judge = at-fault-of .before in
-    let start = at-judge .before .before in
+    let at-if2 = c .before .before .before .before .before in
+    let at-is-fault = at-if2 .before .before .before .before in
+    let start = at-is-fault .before .before .before .before in
     let a = start .args in
     let P = patternsIn (a .patterns) in
     let E = schemeIn (a .scheme) in
-    let j = at-judge .judge in
-    let f = at-fault-of .fault-of in
-    let g = at-table-fault .table-fault in
+    let j = at-is-fault .before .before .judge in
+    let f = at-is-fault .before .fault-of in
+    let g = at-if2 .before .before .table-fault in
     let is = f .ensures ∙ verdict-fault P E (j .result) (j .ensures .verdict) in
-    let all = at-all-counts .all-counts in
-    let clean = sym (at-is-fault .is-fault .ensures) ∙ at-if1 .if1 .left in
-    let serves = sym (at-is-fault2 .is-fault2 .ensures) ∙ at-if2 .if2 .left in
+    let all = c .before .before .before .all-counts in
+    let clean = sym (at-is-fault .is-fault .ensures) ∙ at-if2 .before .before .before .if1 .left in
+    let serves = sym (at-if2 .before .is-fault2 .ensures) ∙ at-if2 .if2 .left in
     done P E (a .n) (now (a .table)) (f .result) is clean (g .result) (g .ensures) serves
     _ (getD (all .result) (a .n) 0) (c .count-or3 .result)
     (all .ensures .1) (all .ensures .0 .upto (a .n) (omega arith)) (c .count-or3 .ensures)

@@ -10,72 +10,58 @@ use Rattle.counting.proofs.plainly.count_plainly.Tie as tie
 
 returns : tie.Need-returns
 returns c =
-    let at-is-fault = c .before .before in
-    let at-fault-of = at-is-fault .before in
-    let at-judge = at-fault-of .before in
+    let at-judge = c .before .before .before .before in
     let start = at-judge .before in
     let a = start .args in
     let P = patternsIn (a .patterns) in
     let E = schemeIn (a .scheme) in
     let j = at-judge .judge in
-    let f = at-fault-of .fault-of in
+    let f = c .before .before .before .fault-of in
     let is = f .ensures ∙ verdict-fault P E (j .result) (j .ensures .verdict) in
-    plain-refused P E (a .n) (f .result) is (sym (at-is-fault .is-fault .ensures) ∙ c .before .if1 .taken)
+    plain-refused P E (a .n) (f .result) is (sym (c .before .before .is-fault .ensures) ∙ c .before .if1 .taken)
     (c .count-or .result) (c .count-or .ensures)
 
 returns-2 : tie.Need-returns-2
 returns-2 c =
-    let at-is-fault2 = c .before .before in
-    let at-length-fault = at-is-fault2 .before in
-    let at-if1 = at-length-fault .before in
-    let at-is-fault = at-if1 .before in
-    let at-fault-of = at-is-fault .before in
-    let at-judge = at-fault-of .before in
-    let start = at-judge .before in
+    let at-if1 = c .before .before .before .before in
+    let start = at-if1 .before .before .before .before in
     let a = start .args in
     let P = patternsIn (a .patterns) in
     let E = schemeIn (a .scheme) in
-    let j = at-judge .judge in
-    let f = at-fault-of .fault-of in
+    let j = at-if1 .before .before .before .judge in
+    let f = at-if1 .before .before .fault-of in
     let is = f .ensures ∙ verdict-fault P E (j .result) (j .ensures .verdict) in
-    let g = at-length-fault .length-fault in
-    plain-long P E (a .n) (f .result) is (sym (at-is-fault .is-fault .ensures) ∙ at-if1 .if1 .left) (g .result) (g .ensures)
-    (sym (at-is-fault2 .is-fault2 .ensures) ∙ c .before .if2 .taken) (c .count-or2 .result) (c .count-or2 .ensures)
+    let g = c .before .before .before .length-fault in
+    plain-long P E (a .n) (f .result) is (sym (at-if1 .before .is-fault .ensures) ∙ at-if1 .if1 .left) (g .result) (g .ensures)
+    (sym (c .before .before .is-fault2 .ensures) ∙ c .before .if2 .taken) (c .count-or2 .result) (c .count-or2 .ensures)
 
 evaluated-requires : tie.Need-evaluated-requires
 evaluated-requires c κs =
-    let at-length-fault = c .before .before in
-    let at-if1 = at-length-fault .before in
-    let at-is-fault = at-if1 .before in
-    let at-fault-of = at-is-fault .before in
-    let at-judge = at-fault-of .before in
-    let start = at-judge .before in
+    let at-is-fault = c .before .before .before .before in
+    let start = at-is-fault .before .before .before in
     let a = start .args in
-    let j = at-judge .judge in
-    let f = at-fault-of .fault-of in
-    let g = at-length-fault .length-fault in
-    let clean = sym (at-is-fault .is-fault .ensures) ∙ at-if1 .if1 .left in
+    let j = at-is-fault .before .before .judge in
+    let f = at-is-fault .before .fault-of in
+    let g = c .before .before .length-fault in
+    let clean = sym (at-is-fault .is-fault .ensures) ∙ c .before .before .before .if1 .left in
     let so = j .ensures .exactly .0 (clean-accepts (j .result) (sym (f .ensures) ∙ not-faulty (f .result) clean)) in
     (length-good (a .n) (sym (g .ensures) ∙ not-faulty (g .result) (sym (c .before .is-fault2 .ensures) ∙ c .if2 .left)), so .0, so .1)
 
 returns-3 : tie.Need-returns-3
 returns-3 c =
-    let at-evaluated = c .before in
-    let at-length-fault = at-evaluated .before .before .before in
-    let at-if1 = at-length-fault .before in
-    let at-is-fault = at-if1 .before in
-    let at-fault-of = at-is-fault .before in
-    let at-judge = at-fault-of .before in
+    let at-length-fault = c .before .before .before .before in
+    let at-judge = at-length-fault .before .before .before .before in
     let start = at-judge .before in
     let a = start .args in
     let P = patternsIn (a .patterns) in
     let E = schemeIn (a .scheme) in
     let j = at-judge .judge in
-    let f = at-fault-of .fault-of in
+    let f = at-length-fault .before .before .before .fault-of in
     let is = f .ensures ∙ verdict-fault P E (j .result) (j .ensures .verdict) in
     let g = at-length-fault .length-fault in
-    plain-done P E (a .n) (f .result) is (sym (at-is-fault .is-fault .ensures) ∙ at-if1 .if1 .left) (g .result) (g .ensures)
-    (at-evaluated .evaluated .result) (c .count-or3 .result) (at-evaluated .evaluated .ensures) (c .count-or3 .ensures)
+    plain-done P E (a .n) (f .result) is (sym (at-length-fault .before .before .is-fault .ensures) ∙
+    at-length-fault .before .if1 .left) (g .result) (g .ensures)
+    (c .before .evaluated .result) (c .count-or3 .result) (c .before .evaluated .ensures) (c .count-or3 .ensures)
 
 pub count-plainly-spec : {M : Type 1} → statement M
 count-plainly-spec =

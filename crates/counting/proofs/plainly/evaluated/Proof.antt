@@ -25,11 +25,10 @@ plain-count-requires c κs =
 
 returns : tie.Need-returns
 returns c =
-    let at-rows-of = c .before .before in
-    let start = at-rows-of .before in
+    let start = c .before .before .before in
     let a = start .args in
     let q = start .pre in
-    let r = at-rows-of .rows-of in
+    let r = c .before .before .rows-of in
     let k = c .before .lengths-of in
     let hr : length (r .result) ≡ PATTERNS = search needs in
     let hk : length (k .result) ≡ PATTERNS = search needs in

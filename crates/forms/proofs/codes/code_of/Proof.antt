@@ -25,11 +25,10 @@ loop-holds c =
 
 mul-code : tie.Need-mul-code Inv-loop μ-loop
 mul-code c =
-    let at = c .before in
     omega (
       arith,
-      coding-fits (at .before .args .length) (at .before .args .t1) (at .loop .j) (at .loop .code)
-          (at .loop .inv .1) (at .loop .inv .0) (search needs),
+      coding-fits (c .before .before .args .length) (c .before .before .args .t1) (c .before .loop .j) (c .before .loop .code)
+          (c .before .loop .inv .1) (c .before .loop .inv .0) (search needs),
     )
 
 array-read-long : tie.Need-array-read-long Inv-loop μ-loop

@@ -36,14 +36,13 @@ loop-again c =
 
 returns : tie.Need-returns Inv-loop μ-loop
 returns c =
-    let at-wide = c .before .before in
-    let start = at-wide .before in
+    let start = c .before .before .before in
     let l = c .before .loop in
     let a = start .args in
     let done : l .i ≡ COMPONENTS = omega arith in
     ap₂ (λ (b : List ℕ) (w : ℕ). record { parts = b; width = w })
     (copied-all COMPONENTS (l .i) (l .parts) (drop (COMPONENTS * a .j) (a .t1)) (l .inv .1) done (l .inv .2))
-    (at-wide .wide .ensures .0)
+    (c .before .before .wide .ensures .0)
 
 pub gap-at-spec : {M : Type 1} → statement M
 gap-at-spec =

@@ -26,9 +26,8 @@ loop-holds c = (refl, omega arith, λ i h. absurd (omega arith))
 
 loop-again : tie.Need-loop-again Inv-loop μ-loop
 loop-again c =
-    let at-loop = c .before .before .before in
-    let start = at-loop .before in
-    let l = at-loop .loop in
+    let start = c .before .before .before .before in
+    let l = c .before .before .before .loop in
     let items = start .args .t1 .items in (
       length-set (l .rows) (l .i) (c .digits-of .result) ∙ l .inv .0,
       omega arith,

@@ -30,16 +30,14 @@ loop-holds c =
 
 compared-with-requires : tie.Need-compared-with-requires Inv-loop μ-loop
 compared-with-requires c κs =
-    let at-loop = c .before .before in
-    let start = at-loop .before in
-    let l = at-loop .loop in
+    let start = c .before .before .before in
+    let l = c .before .before .loop in
     let q = start .pre in
     (q .0, proper-at (start .args .t2) (q .1) (l .i) (omega arith))
 
 add-sum : tie.Need-add-sum Inv-loop μ-loop
 add-sum c =
-    let at-loop = c .before .before .before in
-    let l = at-loop .loop in
+    let l = c .before .before .before .loop in
     let small = c .compared-with .ensures .small in
     let low = l .inv .2 in
     let few = l .inv .0 in
@@ -47,10 +45,9 @@ add-sum c =
 
 loop-again : tie.Need-loop-again Inv-loop μ-loop
 loop-again c =
-    let at-loop = c .before .before .before in
-    let start = at-loop .before in
+    let start = c .before .before .before .before in
     let a = start .args in
-    let l = at-loop .loop in
+    let l = c .before .before .before .loop in
     let w = c .compared-with .ensures in (
       l .inv .0,
       omega arith,

@@ -10,36 +10,32 @@ use Rattle.judge.proofs.judging.judge.Tie as tie
 
 returns : tie.Need-returns
 returns c =
-    let at-is-fault = c .before .before in
-    let at-formed-fault = at-is-fault .before in
-    let start = at-formed-fault .before in
+    let start = c .before .before .before .before in
     let a = start .args in
-    let f = at-formed-fault .formed-fault in
+    let f = c .before .before .before .formed-fault in
     let P = patternsIn (a .patterns) in
     let E = schemeIn (a .scheme) in
     judges P E (c .answer .result)
-    (c .answer .ensures ∙ verdict-refused P E (f .result) (f .ensures) (sym (at-is-fault .is-fault .ensures) ∙ c .before .if1 .taken))
+    (c .answer .ensures ∙ verdict-refused P E (f .result) (f .ensures) (sym (c .before .before .is-fault .ensures) ∙ c .before .if1 .taken))
 
 judge-claims-requires : tie.Need-judge-claims-requires
 judge-claims-requires c κs =
-    let at-formed-fault = c .before .before in
-    let start = at-formed-fault .before in
+    let start = c .before .before .before in
     let a = start .args in
-    let f = at-formed-fault .formed-fault in
+    let f = c .before .before .formed-fault in
     formed-well (patternsIn (a .patterns)) (schemeIn (a .scheme)) (f .result) (f .ensures)
     (sym (c .before .is-fault .ensures) ∙ c .if1 .left)
 
 returns-2 : tie.Need-returns-2
 returns-2 c =
-    let at-is-fault = c .before .before in
-    let at-formed-fault = at-is-fault .before in
-    let start = at-formed-fault .before in
+    let start = c .before .before .before .before in
     let a = start .args in
-    let f = at-formed-fault .formed-fault in
+    let f = c .before .before .before .formed-fault in
     let P = patternsIn (a .patterns) in
     let E = schemeIn (a .scheme) in
     judges P E (c .judge-claims .result)
-    (c .judge-claims .ensures ∙ verdict-claims P E (f .result) (f .ensures) (sym (at-is-fault .is-fault .ensures) ∙ c .before .if1 .left))
+    (c .judge-claims .ensures ∙ verdict-claims P E (f .result) (f .ensures)
+    (sym (c .before .before .is-fault .ensures) ∙ c .before .if1 .left))
 
 pub judge-spec : {M : Type 1} → statement M
 judge-spec =

@@ -31,11 +31,10 @@ holds : (c : tie.After-lengths-of2) → patternsOf (c .before .before .before .b
     (c .before .before .before .before .before .args .patterns .count) ≡
     patternsIn (c .before .before .before .before .before .args .patterns)
 holds c =
-    let at-lengths-of = c .before .before .before in
-    let at-rows-of = at-lengths-of .before in
+    let at-rows-of = c .before .before .before .before in
     let start = at-rows-of .before in
     let r = at-rows-of .rows-of in
-    let k = at-lengths-of .lengths-of in
+    let k = c .before .before .before .lengths-of in
     let hr : length (r .result) ≡ PATTERNS = search needs in
     let hk : length (k .result) ≡ PATTERNS = search needs in
     set-holds (start .args .patterns) (start .pre .patterns) (r .result) (k .result) hr hk (r .ensures) (k .ensures)
@@ -44,11 +43,10 @@ proper : (c : tie.After-lengths-of2) → ProperSet (c .before .before .before .b
     (c .before .before .before .lengths-of .result)
     (c .before .before .before .before .before .args .patterns .count)
 proper c =
-    let at-lengths-of = c .before .before .before in
-    let at-rows-of = at-lengths-of .before in
+    let at-rows-of = c .before .before .before .before in
     let start = at-rows-of .before in
     let r = at-rows-of .rows-of in
-    let k = at-lengths-of .lengths-of in
+    let k = c .before .before .before .lengths-of in
     let hr : length (r .result) ≡ PATTERNS = search needs in
     let hk : length (k .result) ≡ PATTERNS = search needs in
     proper-set (start .args .patterns) (start .pre .patterns) (r .result) (k .result) hr hk (r .ensures) (k .ensures)
@@ -56,16 +54,14 @@ proper c =
 small-proper : (c : tie.After-lengths-of2) →
     ProperSet (c .before .rows-of2 .result) (c .lengths-of2 .result) (c .before .before .basis-of .result .count)
 small-proper c =
-    let at-basis-of = c .before .before in
-    let at-lengths-of = at-basis-of .before in
-    let at-rows-of = at-lengths-of .before in
+    let at-rows-of = c .before .before .before .before in
     let start = at-rows-of .before in
     let r = c .before .rows-of2 in
     let k = c .lengths-of2 in
-    let b = at-basis-of .basis-of in
+    let b = c .before .before .basis-of in
     let hr : length (r .result) ≡ PATTERNS = (let o = r .ok in search needs) in
     let hk : length (k .result) ≡ PATTERNS = (let o = k .ok in search needs) in
-    basis-proper (at-rows-of .rows-of .result) (at-lengths-of .lengths-of .result) (start .args .patterns .count)
+    basis-proper (at-rows-of .rows-of .result) (c .before .before .before .lengths-of .result) (start .args .patterns .count)
     (proper c) (b .result) (b .ensures) (r .result) (k .result) hr hk (r .ensures) (k .ensures)
 
 -- what the tests on the basis find is what those on the set find
@@ -77,17 +73,15 @@ live-first : (c : tie.After-live-fault) → faulty (c .live-fault .result) ≡ t
     (c .before .before .before .before .before .before .args .patterns .count))
     (schemeIn (c .before .before .before .before .before .before .args .scheme))))
 live-first c h =
-    let at-sets = c .before in
-    let at-lengths-of = at-sets .before .before .before in
-    let at-rows-of = at-lengths-of .before in
-    let start = at-rows-of .before in
-    let r = at-sets .before .rows-of2 in
-    let k = at-sets .lengths-of2 in
-    let b = at-sets .before .before .basis-of in
+    let at-lengths-of = c .before .before .before .before in
+    let start = at-lengths-of .before .before in
+    let r = c .before .before .rows-of2 in
+    let k = c .before .lengths-of2 in
+    let b = c .before .before .before .basis-of in
     let hr : length (r .result) ≡ PATTERNS = (let o = r .ok in search needs) in
     let hk : length (k .result) ≡ PATTERNS = (let o = k .ok in search needs) in
-    claims-live (at-rows-of .rows-of .result) (at-lengths-of .lengths-of .result) (start .args .patterns .count)
-    (proper at-sets) (b .result) (b .ensures) (r .result) (k .result) hr hk (r .ensures) (k .ensures)
+    claims-live (at-lengths-of .before .rows-of .result) (at-lengths-of .lengths-of .result) (start .args .patterns .count)
+    (proper (c .before)) (b .result) (b .ensures) (r .result) (k .result) hr hk (r .ensures) (k .ensures)
     (start .args .scheme) (proper-scheme (schemeIn (start .args .scheme)) (start .pre .scheme))
     (c .live-fault .result) (c .live-fault .ensures) h
 
@@ -104,17 +98,15 @@ lost-first : (c : tie.After-live-fault) (lost : Fault) →
     (c .before .before .before .before .before .before .args .patterns .count))
     (schemeIn (c .before .before .before .before .before .before .args .scheme))))
 lost-first c lost e h =
-    let at-sets = c .before in
-    let at-lengths-of = at-sets .before .before .before in
-    let at-rows-of = at-lengths-of .before in
-    let start = at-rows-of .before in
-    let r = at-sets .before .rows-of2 in
-    let k = at-sets .lengths-of2 in
-    let b = at-sets .before .before .basis-of in
+    let at-lengths-of = c .before .before .before .before in
+    let start = at-lengths-of .before .before in
+    let r = c .before .before .rows-of2 in
+    let k = c .before .lengths-of2 in
+    let b = c .before .before .before .basis-of in
     let hr : length (r .result) ≡ PATTERNS = (let o = r .ok in search needs) in
     let hk : length (k .result) ≡ PATTERNS = (let o = k .ok in search needs) in
-    claims-lost (at-rows-of .rows-of .result) (at-lengths-of .lengths-of .result) (start .args .patterns .count)
-    (proper at-sets) (b .result) (b .ensures) (r .result) (k .result) hr hk (r .ensures) (k .ensures)
+    claims-lost (at-lengths-of .before .rows-of .result) (at-lengths-of .lengths-of .result) (start .args .patterns .count)
+    (proper (c .before)) (b .result) (b .ensures) (r .result) (k .result) hr hk (r .ensures) (k .ensures)
     (start .args .scheme) (proper-scheme (schemeIn (start .args .scheme)) (start .pre .scheme))
     (c .live-fault .result) (c .live-fault .ensures) lost e h
 
@@ -150,13 +142,11 @@ live-fault-requires c κs =
 
 returns : tie.Need-returns
 returns c =
-    let at-if1 = c .before in
-    let at-is-fault = at-if1 .before in
+    let at-is-fault = c .before .before in
     let at-live-fault = at-is-fault .before in
-    let at-sets = at-live-fault .before in
     let l = at-live-fault .live-fault in
-    refused at-sets (l .result) (c .answer .result) (sym (at-is-fault .is-fault .ensures) ∙ at-if1 .if1 .taken)
-    (live-first at-live-fault (sym (at-is-fault .is-fault .ensures) ∙ at-if1 .if1 .taken)) (c .answer .ensures)
+    refused (at-live-fault .before) (l .result) (c .answer .result) (sym (at-is-fault .is-fault .ensures) ∙ c .before .if1 .taken)
+    (live-first at-live-fault (sym (at-is-fault .is-fault .ensures) ∙ c .before .if1 .taken)) (c .answer .ensures)
 
 irreversible-fault-requires : tie.Need-irreversible-fault-requires
 irreversible-fault-requires c κs =
@@ -168,12 +158,11 @@ irreversible-fault-requires c κs =
 
 returns-2 : tie.Need-returns-2
 returns-2 c =
-    let at-is-fault2 = c .before .before in
-    let at-lost = at-is-fault2 .before in
+    let at-lost = c .before .before .before in
     let clean = sym (at-lost .before .before .is-fault .ensures) ∙ at-lost .before .if1 .left in
     let at-live = at-lost .before .before .before in
     let f = at-lost .irreversible-fault in
-    let h = sym (at-is-fault2 .is-fault2 .ensures) ∙ c .before .if2 .taken in
+    let h = sym (c .before .before .is-fault2 .ensures) ∙ c .before .if2 .taken in
     refused (at-live .before) (f .result) (c .answer2 .result) h (lost-first at-live (f .result) (f .ensures) clean) (c .answer2 .ensures)
 
 compared-cells-requires : tie.Need-compared-cells-requires
@@ -183,20 +172,18 @@ compared-cells-requires c κs =
 
 returns-3 : tie.Need-returns-3
 returns-3 c =
-    let at-compared-cells = c .before in
-    let at-longest-length = at-compared-cells .before in
-    let at-lost = at-longest-length .before .before .before in
+    let at-lost = c .before .before .before .before .before in
     let at-live = at-lost .before .before .before in
     let clean = sym (at-lost .before .before .is-fault .ensures) ∙ at-lost .before .if1 .left in
     let f = at-lost .irreversible-fault in
-    let m = at-longest-length .longest-length in
+    let m = c .before .before .longest-length in
     let at-sets = at-live .before in
     let a = at-sets .before .before .before .before .before .args in
     c .answer3 .ensures ∙
     claims-answer (a .patterns) (a .scheme) (patternsOf (at-sets .before .before .before .before .rows-of .result)
     (at-sets .before .before .before .lengths-of .result) (a .patterns .count)) (f .result) (m .result)
-    (at-compared-cells .compared-cells .result)
-    (holds at-sets) (lost-first at-live (f .result) (f .ensures) clean) (m .ensures .0) (at-compared-cells .compared-cells .ensures)
+    (c .before .compared-cells .result)
+    (holds at-sets) (lost-first at-live (f .result) (f .ensures) clean) (m .ensures .0) (c .before .compared-cells .ensures)
 
 pub judge-claims-spec : {M : Type 1} → statement M
 judge-claims-spec =

@@ -33,9 +33,8 @@ loop-holds c =
 
 has-live-gap-requires : tie.Need-has-live-gap-requires Inv-loop μ-loop
 has-live-gap-requires c κs =
-    let at-loop = c .before .before in
-    let start = at-loop .before in
-    let l = at-loop .loop in
+    let start = c .before .before .before in
+    let l = c .before .before .loop in
     let q = start .pre in
     proper-at (start .args .t4) q (l .i) (omega arith)
 

@@ -17,23 +17,21 @@ returns c =
 
 judge-claims-requires : tie.Need-judge-claims-requires
 judge-claims-requires c κs =
-    let clean = c .before .before in
-    let tested = clean .before in
+    let tested = c .before .before .before in
     let f = tested .before .earlier in
     let q = tested .before .before .read-scheme in
     let p = tested .before .before .before .read-patterns in
     texts-formed _ _ (p .result) (p .ensures .0) (p .ensures .1) (q .result) (q .ensures .0) (q .ensures .1) (f .result) (f .ensures)
-    (sym (tested .is-fault .ensures) ∙ clean .if1 .left)
+    (sym (tested .is-fault .ensures) ∙ c .before .before .if1 .left)
 
 returns-2 : tie.Need-returns-2
 returns-2 c =
-    let clean = c .before .before .before in
-    let tested = clean .before in
+    let tested = c .before .before .before .before in
     let f = tested .before .earlier in
     let q = tested .before .before .read-scheme in
     let p = tested .before .before .before .read-patterns in
     judged-texts _ _ (p .result) (p .ensures .0) (p .ensures .1) (q .result) (q .ensures .0) (q .ensures .1) (f .result) (f .ensures)
-    (sym (tested .is-fault .ensures) ∙ clean .if1 .left) (c .judge-claims .result) (c .judge-claims .ensures) .judges
+    (sym (tested .is-fault .ensures) ∙ c .before .before .before .if1 .left) (c .judge-claims .result) (c .judge-claims .ensures) .judges
 
 pub judge-texts-spec : {M : Type 1} → statement M
 judge-texts-spec =

@@ -9,38 +9,30 @@ use Rattle.judge.proofs.texts.read_and_judge.Tie as tie
 
 returns : tie.Need-returns
 returns c =
-    let at-is-fault = c .before .before in
-    let at-earlier = at-is-fault .before in
-    let at-read-scheme = at-earlier .before .before .before in
-    let at-read-patterns = at-read-scheme .before in
-    let p = at-read-patterns .read-patterns in
+    let at-read-scheme = c .before .before .before .before .before .before in
+    let p = at-read-scheme .before .read-patterns in
     let q = at-read-scheme .read-scheme in
-    let f = at-earlier .earlier in
+    let f = c .before .before .before .earlier in
     refused-texts _ _ (p .result) (p .ensures .0) (p .ensures .1) (q .result) (q .ensures .0) (q .ensures .1) (f .result) (f .ensures)
-    (sym (at-is-fault .is-fault .ensures) ∙ c .before .if1 .taken) (c .answer .result) (c .answer .ensures)
+    (sym (c .before .before .is-fault .ensures) ∙ c .before .if1 .taken) (c .answer .result) (c .answer .ensures)
 
 judge-claims-requires : tie.Need-judge-claims-requires
 judge-claims-requires c κs =
-    let at-earlier = c .before .before in
-    let at-read-scheme = at-earlier .before .before .before in
-    let at-read-patterns = at-read-scheme .before in
-    let p = at-read-patterns .read-patterns in
+    let at-read-scheme = c .before .before .before .before .before in
+    let p = at-read-scheme .before .read-patterns in
     let q = at-read-scheme .read-scheme in
-    let f = at-earlier .earlier in
+    let f = c .before .before .earlier in
     texts-formed _ _ (p .result) (p .ensures .0) (p .ensures .1) (q .result) (q .ensures .0) (q .ensures .1) (f .result) (f .ensures)
     (sym (c .before .is-fault .ensures) ∙ c .if1 .left)
 
 returns-2 : tie.Need-returns-2
 returns-2 c =
-    let at-is-fault = c .before .before in
-    let at-earlier = at-is-fault .before in
-    let at-read-scheme = at-earlier .before .before .before in
-    let at-read-patterns = at-read-scheme .before in
-    let p = at-read-patterns .read-patterns in
+    let at-read-scheme = c .before .before .before .before .before .before in
+    let p = at-read-scheme .before .read-patterns in
     let q = at-read-scheme .read-scheme in
-    let f = at-earlier .earlier in
+    let f = c .before .before .before .earlier in
     judged-texts _ _ (p .result) (p .ensures .0) (p .ensures .1) (q .result) (q .ensures .0) (q .ensures .1) (f .result) (f .ensures)
-    (sym (at-is-fault .is-fault .ensures) ∙ c .before .if1 .left) (c .judge-claims .result) (c .judge-claims .ensures)
+    (sym (c .before .before .is-fault .ensures) ∙ c .before .if1 .left) (c .judge-claims .result) (c .judge-claims .ensures)
 
 pub read-and-judge-spec : {M : Type 1} → statement M
 read-and-judge-spec =

@@ -19,38 +19,32 @@ returns c =
 
 returns-2 : tie.Need-returns-2
 returns-2 c =
-    let at-load-scheme = c .before .before .before in
-    let start = at-load-scheme .before .before .before in
-    let f = at-load-scheme .load-scheme in
+    let start = c .before .before .before .before .before .before in
+    let f = c .before .before .before .load-scheme in
     let s = start .args .text .now in
     answered s (c .refused-scheme2 .result) (c .refused-scheme2 .ensures ∙ answer-misspelt s (f .result)
     (omega arith) (f .ensures) (not-true (f .result .spelt) (c .before .if2 .taken)))
 
 returns-3 : tie.Need-returns-3
 returns-3 c =
-    let at-is-fault = c .before .before in
-    let at-scheme-fault = at-is-fault .before in
-    let at-if2 = at-scheme-fault .before .before in
-    let at-load-scheme = at-if2 .before .before in
-    let start = at-load-scheme .before .before .before in
-    let f = at-load-scheme .load-scheme in
+    let at-if2 = c .before .before .before .before .before in
+    let start = at-if2 .before .before .before .before .before in
+    let f = at-if2 .before .before .load-scheme in
     let s = start .args .text .now in
-    let found = at-scheme-fault .scheme-fault in
+    let found = c .before .before .before .scheme-fault in
     answered s _ (c .refused-scheme3 .ensures ∙
     or-refused (found .result) (f .result .scheme)
-    (sym (at-is-fault .is-fault .ensures) ∙ c .before .if3 .taken) ∙
+    (sym (c .before .before .is-fault .ensures) ∙ c .before .if3 .taken) ∙
     ap (λ (x : Fault). readSchemeOr x (f .result .scheme)) (found .ensures) ∙
     answer-tested s (f .result) (omega arith) (f .ensures) (not-false (f .result .spelt) (at-if2 .if2 .left)))
 
 returns-4 : tie.Need-returns-4
 returns-4 c =
-    let at-scheme-fault = c .before .before in
-    let at-if2 = at-scheme-fault .before .before in
-    let at-load-scheme = at-if2 .before .before in
-    let start = at-load-scheme .before .before .before in
-    let f = at-load-scheme .load-scheme in
+    let at-if2 = c .before .before .before .before in
+    let start = at-if2 .before .before .before .before .before in
+    let f = at-if2 .before .before .load-scheme in
     let s = start .args .text .now in
-    let found = at-scheme-fault .scheme-fault in
+    let found = c .before .before .scheme-fault in
     answered s _ (or-read (found .result) (f .result .scheme) (sym (c .before .is-fault .ensures) ∙ c .if3 .left) ∙
     ap (λ (x : Fault). readSchemeOr x (f .result .scheme)) (found .ensures) ∙
     answer-tested s (f .result) (omega arith) (f .ensures) (not-false (f .result .spelt) (at-if2 .if2 .left)))

@@ -15,65 +15,53 @@ use Rattle.notation.proofs.schemes.write_scheme.Tie as tie
 
 returns : tie.Need-returns
 returns c =
-    let at-is-fault = c .before .before in
-    let at-scheme-fault = at-is-fault .before in
-    let start = at-scheme-fault .before .before in
+    let start = c .before .before .before .before .before in
     let a = start .args in
-    let f = at-scheme-fault .scheme-fault in
+    let f = c .before .before .before .scheme-fault in
     scheme-refused (schemeIn (a .s)) (a .page .now) (c .written-or .result) (f .result) (f .ensures)
-    (sym (at-is-fault .is-fault .ensures) ∙ c .before .if1 .taken) (c .written-or .ensures)
+    (sym (c .before .before .is-fault .ensures) ∙ c .before .if1 .taken) (c .written-or .ensures)
 
 put-scheme-requires : tie.Need-put-scheme-requires
 put-scheme-requires c κs =
-    let at-is-fault = c .before .before in
-    let at-scheme-fault = at-is-fault .before in
-    let start = at-scheme-fault .before .before in
+    let start = c .before .before .before .before .before in
     let s = start .args .s in
-    let f = at-scheme-fault .scheme-fault in
-    let none = sym (at-is-fault .is-fault .ensures) ∙ c .before .if1 .left in
+    let f = c .before .before .before .scheme-fault in
+    let none = sym (c .before .before .is-fault .ensures) ∙ c .before .if1 .left in
     (scheme-fit s (clean-finding (firstFault (schemeTests (schemeIn s))) (f .result) (f .ensures) none), omega arith)
 
 returns-2 : tie.Need-returns-2
 returns-2 c =
-    let at-put-scheme = c .before .before .before in
-    let at-if1 = at-put-scheme .before .before in
-    let at-is-fault = at-if1 .before in
-    let at-scheme-fault = at-is-fault .before in
-    let start = at-scheme-fault .before .before in
+    let at-if1 = c .before .before .before .before .before in
+    let start = at-if1 .before .before .before .before in
     let a = start .args in
     let E = schemeIn (a .s) in
-    let f = at-scheme-fault .scheme-fault in
-    let none = sym (at-is-fault .is-fault .ensures) ∙ at-if1 .if1 .left in
-    let put = at-put-scheme .put-scheme in
+    let f = at-if1 .before .before .scheme-fault in
+    let none = sym (at-if1 .before .is-fault .ensures) ∙ at-if1 .if1 .left in
+    let put = c .before .before .before .put-scheme in
     scheme-page-short E (a .page .now) (clean-finding (firstFault (schemeTests E)) (f .result) (f .ensures) none)
     _ (put .result) (put .ensures) (search needs)
 
 put-scheme-requires-2 : tie.Need-put-scheme-requires-2
 put-scheme-requires-2 c κs =
     let at-if1 = c .before .before .before .before .before .before in
-    let at-is-fault = at-if1 .before in
-    let at-scheme-fault = at-is-fault .before in
-    let start = at-scheme-fault .before .before in
+    let start = at-if1 .before .before .before .before in
     let s = start .args .s in
-    let f = at-scheme-fault .scheme-fault in
-    let none = sym (at-is-fault .is-fault .ensures) ∙ at-if1 .if1 .left in
+    let f = at-if1 .before .before .scheme-fault in
+    let none = sym (at-if1 .before .is-fault .ensures) ∙ at-if1 .if1 .left in
     (scheme-fit s (clean-finding (firstFault (schemeTests (schemeIn s))) (f .result) (f .ensures) none), omega arith)
 
 returns-3 : tie.Need-returns-3
 returns-3 c =
-    let at-put-scheme2 = c .before .before in
-    let at-put-scheme = at-put-scheme2 .before .before .before .before .before in
-    let at-if1 = at-put-scheme .before .before in
-    let at-is-fault = at-if1 .before in
-    let at-scheme-fault = at-is-fault .before in
+    let at-put-scheme = c .before .before .before .before .before .before .before in
+    let at-scheme-fault = at-put-scheme .before .before .before .before in
     let start = at-scheme-fault .before .before in
     let a = start .args in
     let E = schemeIn (a .s) in
     let f = at-scheme-fault .scheme-fault in
-    let none = sym (at-is-fault .is-fault .ensures) ∙ at-if1 .if1 .left in
+    let none = sym (at-put-scheme .before .before .before .is-fault .ensures) ∙ at-put-scheme .before .before .if1 .left in
     let put = at-put-scheme .put-scheme in
     scheme-done E (a .page .now) (clean-finding (firstFault (schemeTests E)) (f .result) (f .ensures) none)
-    _ (put .result) (put .ensures) (search needs) _ _ (at-put-scheme2 .put-scheme2 .ensures)
+    _ (put .result) (put .ensures) (search needs) _ _ (c .before .before .put-scheme2 .ensures)
 
 pub write-scheme-spec : {M : Type 1} → statement M
 write-scheme-spec =

@@ -26,10 +26,9 @@ raised-requires c κs =
 
 loop-again : tie.Need-loop-again Inv-loop μ-loop
 loop-again c =
-    let at-loop = c .before .before in
-    let start = at-loop .before in
+    let start = c .before .before .before in
     let a = start .args in
-    let l = at-loop .loop in
+    let l = c .before .before .loop in
     let six : length (a .t1) ≡ PREFIX = search needs in (
       child-more (l .digits) (a .t1) (l .j) (a .a) (c .raised .result) (omega arith) (omega arith) (c .raised .ensures) (l .inv .0),
       length-set (l .digits) (l .j) (c .raised .result) ∙ l .inv .1,

@@ -52,25 +52,23 @@ loop-holds c =
 
 returns-2 : tie.Need-returns-2 Inv-loop μ-loop
 returns-2 c =
-    let has = c .before in
-    let at = has .before .before .before in
+    let at = c .before .before .before .before in
     let a = at .before .before .before .args in
     let l = at .loop in
     λ ps w.
-    let found : has .has-entry .result ≡ listed ps (childAt (take (a .k) (a .prefix)) (l .a)) =
-    has .has-entry .ensures ps w ∙ ap (listed ps) (has .before .child .ensures) in
+    let found : c .before .has-entry .result ≡ listed ps (childAt (take (a .k) (a .prefix)) (l .a)) =
+    c .before .has-entry .ensures ps w ∙ ap (listed ps) (c .before .before .child .ensures) in
     sym (l .inv .0 ps w ∙ place-here (missing ps (take (a .k) (a .prefix))) (a .k + 2) (l .a) (omega arith)
     (sym (ap not found) ∙ c .if2 .taken))
 
 loop-again : tie.Need-loop-again Inv-loop μ-loop
 loop-again c =
-    let has = c .before in
-    let at = has .before .before .before in
+    let at = c .before .before .before .before in
     let a = at .before .before .before .args in
     let l = at .loop in
     let next : Left (a .codes .now) (a .prefix) (a .k) (l .a + 1) = λ ps w.
-    let found : has .has-entry .result ≡ listed ps (childAt (take (a .k) (a .prefix)) (l .a)) =
-    has .has-entry .ensures ps w ∙ ap (listed ps) (has .before .child .ensures) in
+    let found : c .before .has-entry .result ≡ listed ps (childAt (take (a .k) (a .prefix)) (l .a)) =
+    c .before .has-entry .ensures ps w ∙ ap (listed ps) (c .before .before .child .ensures) in
     l .inv .0 ps w ∙ place-later (missing ps (take (a .k) (a .prefix))) (a .k + 2) (l .a) (omega arith)
     (sym (ap not found) ∙ c .if2 .left) in
     (next, l .inv .1, l .inv .2)

@@ -8,9 +8,8 @@ use Rattle.scheme.proofs.links.find_prefix.Tie as tie
 
 returns : tie.Need-returns
 returns c =
-    let at = c .before in
-    let a = at .before .before .args in
-    find-coded (a .codes .now) (take (a .length) (a .prefix)) (at .code-of .result) (at .code-of .ensures)
+    let a = c .before .before .before .args in
+    find-coded (a .codes .now) (take (a .length) (a .prefix)) (c .before .code-of .result) (c .before .code-of .ensures)
     (c .find .result) (c .find .ensures)
 
 pub find-prefix-spec : {M : Type 1} → statement M

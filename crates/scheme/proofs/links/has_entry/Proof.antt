@@ -12,17 +12,15 @@ enum-told c = search needs
 
 returns : tie.Need-returns
 returns c =
-    let at-find-prefix = c .before .before in
-    let start = at-find-prefix .before .before in
-    let f = at-find-prefix .find-prefix in
+    let start = c .before .before .before .before in
+    let f = c .before .before .find-prefix in
     let a = start .args in
     λ ps w. sym (at-listed ps (take (a .length) (a .prefix)) (f .result) (f .ensures ps w) _ (c .enum-told .given .1))
 
 returns-2 : tie.Need-returns-2
 returns-2 c =
-    let at-find-prefix = c .before .before in
-    let start = at-find-prefix .before .before in
-    let f = at-find-prefix .find-prefix in
+    let start = c .before .before .before .before in
+    let f = c .before .before .find-prefix in
     let a = start .args in
     λ ps w. sym (nothing-listed ps (take (a .length) (a .prefix)) (f .result) (f .ensures ps w) (c .enum-told2 .given .1))
 

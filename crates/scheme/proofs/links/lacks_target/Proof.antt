@@ -16,22 +16,20 @@ use Rattle.scheme.proofs.links.lacks_target.Tie as tie
 
 shorter-requires : tie.Need-shorter-requires
 shorter-requires c κs =
-    let at-rule = c .before in
-    let start = at-rule .before .before .before .before in
+    let start = c .before .before .before .before .before in
     let e = start .args .e in
     let six : length (e .prefix) ≡ PREFIX = search needs in
     let short : e .length ≤ PREFIX = start .pre .short in
-    let r = at-rule .rule .given .0 .0 in
-    let at = position-inside (e .length) r (e .rule) (start .pre .inside) (at-rule .rule .given .1) in
+    let r = c .before .rule .given .0 .0 in
+    let at = position-inside (e .length) r (e .rule) (start .pre .inside) (c .before .rule .given .1) in
     let perm : isPerm (take (e .length) (e .prefix)) ≡ true =
     ap isPerm (sym (padded-within (e .length) (e .prefix) (omega arith))) ∙ start .pre .perm in
     (at .0, at .1, short, perm)
 
 sub-has-entry : tie.Need-sub-has-entry
 sub-has-entry c =
-    let at-rule = c .before .before in
-    let start = at-rule .before .before .before .before in
-    let rule = at-rule .rule in
+    let start = c .before .before .before .before .before .before in
+    let rule = c .before .before .rule in
     let e = start .args .e in
     omega (arith, position-inside (e .length) (rule .given .0 .0) (e .rule) (start .pre .inside) (rule .given .1))
 
@@ -40,9 +38,8 @@ returns c = λ ps w. search needs
 
 returns-2 : tie.Need-returns-2
 returns-2 c =
-    let at-rule = c .before .before .before in
-    let start = at-rule .before .before .before .before in
-    let rule = at-rule .rule in
+    let start = c .before .before .before .before .before .before .before in
+    let rule = c .before .before .before .rule in
     let e = start .args .e in
     let six : length (e .prefix) ≡ PREFIX = search needs in
     let short : e .length ≤ PREFIX = start .pre .short in

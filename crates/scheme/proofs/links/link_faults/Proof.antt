@@ -57,8 +57,7 @@ lacks-target-requires c κs =
 
 loop-again : tie.Need-loop-again Inv-loop μ-loop
 loop-again c =
-    let t = c .before in
-    let n = t .before in
+    let n = c .before .before in
     let d = n .before in
     let at = d .before .before .before in
     let l = at .loop in
@@ -71,7 +70,7 @@ loop-again c =
       noted-more NoTarget (λ i. noTarget s (entryAt s i)) (s .count) (first-from NoTarget (noTarget s) (entryAt s) (s .count))
           (first-step (entryAt s) (s .count) NoTarget (noTarget s)) (faultOf (targetTest (schemeIn s))) (l .i)
           (l .target) (c .noted2 .result)
-          (t .lacks-target .result) h (l .inv .1) (t .lacks-target .ensures (prefixesIn s) w) (c .noted2 .ensures),
+          (c .before .lacks-target .result) h (l .inv .1) (c .before .lacks-target .ensures (prefixesIn s) w) (c .noted2 .ensures),
     )
 
 returns : tie.Need-returns Inv-loop μ-loop

@@ -25,20 +25,18 @@ abbrev μ-loop : tie.MeasureT-loop
 
 lowered-requires : tie.Need-lowered-requires Inv-loop μ-loop
 lowered-requires c κs =
-    let at-loop = c .before .before in
-    let start = at-loop .before in
+    let start = c .before .before .before in
     let a = start .args in
-    let j = at-loop .loop .j in
+    let j = c .before .before .loop .j in
     let six : length (a .t1) ≡ PREFIX = search needs in
     let inside : bump (a .r - 1) j < a .k = bump-inside (a .r - 1) j (a .k) (omega arith) in
     omega (arith, c .kept .ensures, digit-bounds (a .t1) (a .k) (bump (a .r - 1) j) (start .pre .3) (omega arith) inside)
 
 loop-again : tie.Need-loop-again Inv-loop μ-loop
 loop-again c =
-    let at-loop = c .before .before .before in
-    let start = at-loop .before in
+    let start = c .before .before .before .before in
     let a = start .args in
-    let l = at-loop .loop in
+    let l = c .before .before .before .loop in
     let h = start .pre in
     let six : length (a .t1) ≡ PREFIX = search needs in
     let value : c .lowered .result ≡ unbump (getD (a .t1) (a .r - 1) 0) (getD (a .t1) (bump (a .r - 1) (l .j)) 0) =

@@ -26,19 +26,17 @@ add-n c =
 
 returns : tie.Need-returns Inv-loop μ-loop
 returns c =
-    let at-loop = c .before .before in
-    let start = at-loop .before in
+    let start = c .before .before .before in
     let a = start .args in
-    let l = at-loop .loop in
+    let l = c .before .before .loop in
     let seven : length (a .t1) ≡ COMPONENTS = search needs in
     ap (λ (u : List ℕ). take (a .k + 1) (set (set u (l .i) (getD (a .t1) (l .i) 0 - 1)) (l .i - 1) (getD (a .t1) 0 0 + 1))) (l .inv .2) ∙
     found-memory (a .t1) (a .k) (omega arith) (l .i) (getD (a .t1) (l .i) 0) (l .inv .0) (omega arith) (l .inv .3) refl (c .if1 .taken)
 
 loop-again : tie.Need-loop-again Inv-loop μ-loop
 loop-again c =
-    let at-loop = c .before .before in
-    let start = at-loop .before in
-    let l = at-loop .loop in
+    let start = c .before .before .before in
+    let l = c .before .before .loop in
     let z : getD (start .args .t1) (l .i) 0 ≡ 0 = search needs in
     (omega arith, omega arith, l .inv .2, zeros-more (start .args .t1) (l .i) (l .inv .3) z)
 

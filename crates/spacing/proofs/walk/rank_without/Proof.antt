@@ -29,38 +29,33 @@ loop-holds c =
 
 add-z : tie.Need-add-z Inv-loop μ-loop
 add-z c =
-    let at-wide2 = c .before in
-    let at-loop = at-wide2 .before .before in
-    let start = at-loop .before .before .before in
+    let start = c .before .before .before .before .before .before in
     let a = start .args in
-    let l = at-loop .loop in
+    let l = c .before .before .before .loop in
     let seven : length (a .t1) ≡ COMPONENTS = (let o = start in search needs) in
     let s = length-take-le (a .k + 1) (a .t1) (omega arith) in
     omega (
       arith,
       next-small (take (a .k + 1) (a .t1)) (a .k) (a .v) (a .start) s (l .z) (l .count) (l .rank) (l .t) (l .inv)
-          (omega arith) (at-wide2 .wide2 .result)
-          (at-wide2 .wide2 .ensures .0 ∙ sym (getD-take (a .k + 1) (a .t1) (l .t) 0 (omega arith))),
+          (omega arith) (c .before .wide2 .result)
+          (c .before .wide2 .ensures .0 ∙ sym (getD-take (a .k + 1) (a .t1) (l .t) 0 (omega arith))),
     )
 
 loop-again : tie.Need-loop-again Inv-loop μ-loop
 loop-again c =
-    let at-wide2 = c .before in
-    let at-loop = at-wide2 .before .before in
-    let start = at-loop .before .before .before in
+    let start = c .before .before .before .before .before .before in
     let a = start .args in
-    let l = at-loop .loop in
+    let l = c .before .before .before .loop in
     let seven : length (a .t1) ≡ COMPONENTS = (let o = start in search needs) in
     let s = length-take-le (a .k + 1) (a .t1) (omega arith) in
     walk-leave (take (a .k + 1) (a .t1)) (a .k) (a .v) (a .start) s (l .z) (l .count) (l .rank) (l .t) (l .inv)
-    (omega arith) (at-wide2 .wide2 .result)
-    (at-wide2 .wide2 .ensures .0 ∙ sym (getD-take (a .k + 1) (a .t1) (l .t) 0 (omega arith))) (c .if1 .taken)
+    (omega arith) (c .before .wide2 .result)
+    (c .before .wide2 .ensures .0 ∙ sym (getD-take (a .k + 1) (a .t1) (l .t) 0 (omega arith))) (c .if1 .taken)
 
 choose-requires : tie.Need-choose-requires Inv-loop μ-loop
 choose-requires c κs =
-    let at-loop = c .before .before .before in
-    let start = at-loop .before .before .before in
-    let l = at-loop .loop in
+    let start = c .before .before .before .before .before .before in
+    let l = c .before .before .before .loop in
     (omega (arith, l .inv .fits), omega (arith, l .inv .counted, l .inv .high, start .pre .1, start .pre .0), start .pre .3)
 
 add-rank : tie.Need-add-rank Inv-loop μ-loop
@@ -80,10 +75,9 @@ add-rank c =
 add-z-3 : tie.Need-add-z-3 Inv-loop μ-loop
 add-z-3 c =
     let at-wide2 = c .before .before in
-    let at-loop = at-wide2 .before .before in
-    let start = at-loop .before .before .before in
+    let start = at-wide2 .before .before .before .before .before in
     let a = start .args in
-    let l = at-loop .loop in
+    let l = at-wide2 .before .before .loop in
     let seven : length (a .t1) ≡ COMPONENTS = (let o = start in search needs) in
     let s = length-take-le (a .k + 1) (a .t1) (omega arith) in
     omega (
@@ -96,10 +90,9 @@ add-z-3 c =
 loop-again-2 : tie.Need-loop-again-2 Inv-loop μ-loop
 loop-again-2 c =
     let at-wide2 = c .before .before in
-    let at-loop = at-wide2 .before .before in
-    let start = at-loop .before .before .before in
+    let start = at-wide2 .before .before .before .before .before in
     let a = start .args in
-    let l = at-loop .loop in
+    let l = at-wide2 .before .before .loop in
     let seven : length (a .t1) ≡ COMPONENTS = (let o = start in search needs) in
     let s = length-take-le (a .k + 1) (a .t1) (omega arith) in
     walk-keep (take (a .k + 1) (a .t1)) (a .k) (a .v) (a .start) s (l .z) (l .count) (l .rank) (l .t) (l .inv)

@@ -32,87 +32,68 @@ loop-holds c =
 
 loop-again : tie.Need-loop-again Inv-loop μ-loop
 loop-again c =
-    let in-loop = c .before .before in
-    let at-loop = in-loop .before in
-    let start = at-loop .before .before .before .before .before .before in
-    let l = at-loop .loop in
+    let start = c .before .before .before .before .before .before .before .before .before in
+    let l = c .before .before .before .loop in
     let a = start .args in
-    turn (l .inv) _ (in-loop .loop-test .taken) refl refl
+    turn (l .inv) _ (c .before .before .loop-test .taken) refl refl
     (turn-fourth (l .kept) (l .set) (l .scheme) (getD (a .chunk .now) (l .i) 0) (omega arith))
 
 loop-again-2 : tie.Need-loop-again-2 Inv-loop μ-loop
 loop-again-2 c =
-    let in-loop = c .before .before .before in
-    let at-loop = in-loop .before in
+    let at-loop = c .before .before .before .before in
     let l = at-loop .loop in
-    turn (l .inv) _ (in-loop .loop-test .taken) refl refl
+    turn (l .inv) _ (c .before .before .before .loop-test .taken) refl refl
     (turn-end (l .kept) (l .set) (l .scheme) _ (omega arith) (c .if2 .taken))
 
 loop-again-3 : tie.Need-loop-again-3 Inv-loop μ-loop
 loop-again-3 c =
-    let at-if2 = c .before .before in
-    let in-loop = at-if2 .before .before .before in
-    let at-loop = in-loop .before in
-    let l = at-loop .loop in
+    let in-loop = c .before .before .before .before .before in
+    let l = in-loop .before .loop in
     turn (l .inv) _ (in-loop .loop-test .taken) (length-set (l .set) _ _) refl
-    (turn-set (l .kept) (l .set) (l .scheme) _ (c .before .if3 .taken) (at-if2 .if2 .left)
+    (turn-set (l .kept) (l .set) (l .scheme) _ (c .before .if3 .taken) (c .before .before .if2 .left)
     (omega (arith, l .inv .set-known, c .if4 .taken)))
 
 loop-again-4 : tie.Need-loop-again-4 Inv-loop μ-loop
 loop-again-4 c =
-    let at-if2 = c .before .before in
-    let in-loop = at-if2 .before .before .before in
-    let at-loop = in-loop .before in
-    let l = at-loop .loop in
+    let in-loop = c .before .before .before .before .before in
+    let l = in-loop .before .loop in
     turn (l .inv) _ (in-loop .loop-test .taken) refl refl
-    (drop-set (l .kept) (l .set) (l .scheme) _ (c .before .if3 .taken) (at-if2 .if2 .left)
+    (drop-set (l .kept) (l .set) (l .scheme) _ (c .before .if3 .taken) (c .before .before .if2 .left)
     (omega (arith, l .inv .set-known, c .if4 .left)))
 
 loop-again-5 : tie.Need-loop-again-5 Inv-loop μ-loop
 loop-again-5 c =
-    let at-if2 = c .before .before .before in
-    let in-loop = at-if2 .before .before .before in
-    let at-loop = in-loop .before in
-    let l = at-loop .loop in
+    let in-loop = c .before .before .before .before .before .before in
+    let l = in-loop .before .loop in
     turn (l .inv) _ (in-loop .loop-test .taken) refl (length-set (l .scheme) _ _)
-    (turn-scheme (l .kept) (l .set) (l .scheme) _ (c .before .if5 .taken) (at-if2 .if2 .left)
+    (turn-scheme (l .kept) (l .set) (l .scheme) _ (c .before .if5 .taken) (c .before .before .before .if2 .left)
     (omega (arith, l .inv .scheme-known, c .if6 .taken)))
 
 loop-again-6 : tie.Need-loop-again-6 Inv-loop μ-loop
 loop-again-6 c =
-    let at-if2 = c .before .before .before in
-    let in-loop = at-if2 .before .before .before in
-    let at-loop = in-loop .before in
-    let l = at-loop .loop in
+    let in-loop = c .before .before .before .before .before .before in
+    let l = in-loop .before .loop in
     turn (l .inv) _ (in-loop .loop-test .taken) refl refl
-    (drop-scheme (l .kept) (l .set) (l .scheme) _ (c .before .if5 .taken) (at-if2 .if2 .left)
+    (drop-scheme (l .kept) (l .set) (l .scheme) _ (c .before .if5 .taken) (c .before .before .before .if2 .left)
     (omega (arith, l .inv .scheme-known, c .if6 .left)))
 
 loop-again-7 : tie.Need-loop-again-7 Inv-loop μ-loop
 loop-again-7 c =
-    let at-if3 = c .before .before in
-    let at-if2 = at-if3 .before in
-    let at-if1 = at-if2 .before in
-    let in-loop = at-if1 .before .before in
-    let at-loop = in-loop .before in
-    let l = at-loop .loop in
+    let at-if1 = c .before .before .before .before in
+    let l = at-if1 .before .before .before .loop in
     let two : l .kept .ends ≡ 2 =
-    omega (arith, c .before .if5 .left, at-if3 .if3 .left, at-if1 .if1 .left) in
-    turn (l .inv) _ (in-loop .loop-test .taken) refl refl
-    (turn-last (l .kept) (l .set) (l .scheme) _ two (at-if2 .if2 .left) (c .if7 .taken))
+    omega (arith, c .before .if5 .left, c .before .before .if3 .left, at-if1 .if1 .left) in
+    turn (l .inv) _ (at-if1 .before .before .loop-test .taken) refl refl
+    (turn-last (l .kept) (l .set) (l .scheme) _ two (c .before .before .before .if2 .left) (c .if7 .taken))
 
 loop-again-8 : tie.Need-loop-again-8 Inv-loop μ-loop
 loop-again-8 c =
-    let at-if3 = c .before .before in
-    let at-if2 = at-if3 .before in
-    let at-if1 = at-if2 .before in
-    let in-loop = at-if1 .before .before in
-    let at-loop = in-loop .before in
-    let l = at-loop .loop in
+    let at-if1 = c .before .before .before .before in
+    let l = at-if1 .before .before .before .loop in
     let two : l .kept .ends ≡ 2 =
-    omega (arith, c .before .if5 .left, at-if3 .if3 .left, at-if1 .if1 .left) in
-    turn (l .inv) _ (in-loop .loop-test .taken) refl refl
-    (drop-last (l .kept) (l .set) (l .scheme) _ two (at-if2 .if2 .left) (c .if7 .left))
+    omega (arith, c .before .if5 .left, c .before .before .if3 .left, at-if1 .if1 .left) in
+    turn (l .inv) _ (at-if1 .before .before .loop-test .taken) refl refl
+    (drop-last (l .kept) (l .set) (l .scheme) _ two (c .before .before .before .if2 .left) (c .if7 .left))
 
 same-length : tie.Need-same-length Inv-loop μ-loop
 same-length c = c .before .loop .inv .set-size

@@ -23,21 +23,19 @@ returns-2 c = let a = c .before .before .args in
 
 returns-3 : tie.Need-returns-3
 returns-3 c =
-    let at-if1 = c .before .before in
-    let start = at-if1 .before in
+    let start = c .before .before .before in
     let a = start .args in
     let same : toZ w64 (ofZ w64 (a .got)) ≡ a .got = search needs in
-    state-failed (a .error) (a .got) (ap (ltZ (pos 0)) (sym same) ∙ at-if1 .if1 .left)
+    state-failed (a .error) (a .got) (ap (ltZ (pos 0)) (sym same) ∙ c .before .before .if1 .left)
     (λ (e : a .got ≡ pos 0). c .before .if2 .left (ap (ofZ w64) e)) (λ (e : a .error ≡ pos 4). c .if3 .taken (ap (ofZ w32) e))
 
 returns-4 : tie.Need-returns-4
 returns-4 c =
-    let at-if1 = c .before .before in
-    let start = at-if1 .before in
+    let start = c .before .before .before in
     let a = start .args in
     let same : toZ w64 (ofZ w64 (a .got)) ≡ a .got = search needs in
     let error : toZ w32 (ofZ w32 (a .error)) ≡ a .error = search needs in
-    state-again (a .error) (a .got) (ap (ltZ (pos 0)) (sym same) ∙ at-if1 .if1 .left)
+    state-again (a .error) (a .got) (ap (ltZ (pos 0)) (sym same) ∙ c .before .before .if1 .left)
     (λ (e : a .got ≡ pos 0). c .before .if2 .left (ap (ofZ w64) e)) (sym error ∙ ap (toZ w32) (c .if3 .left))
 
 pub state-after-spec : {M : Type 1} → statement M

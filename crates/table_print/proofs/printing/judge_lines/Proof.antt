@@ -11,24 +11,21 @@ use Rattle.table_print.proofs.printing.judge_lines.Tie as tie
 
 slice-aggregate-read-and-judge : tie.Need-slice-aggregate-read-and-judge
 slice-aggregate-read-and-judge c =
-    let at-least = c .before .before in
-    let start = at-least .before .before .before in
-    let m = at-least .least in
+    let start = c .before .before .before .before .before in
+    let m = c .before .before .least in
     sym (length-take-le (m .result) (start .args .set .now) (m .ensures .1))
 
 slice-aggregate-read-and-judge-2 : tie.Need-slice-aggregate-read-and-judge-2
 slice-aggregate-read-and-judge-2 c =
-    let at-least2 = c .before .before in
-    let start = at-least2 .before .before .before .before in
-    let n = at-least2 .least2 in
+    let start = c .before .before .before .before .before .before in
+    let n = c .before .before .least2 in
     sym (length-take-le (n .result) (start .args .scheme .now) (n .ensures .1))
 
 returns : tie.Need-returns
 returns c =
-    let at-least2 = c .before .before .before in
-    let at-least = at-least2 .before in
+    let at-least = c .before .before .before .before in
     let start = at-least .before .before .before in
-    let n = at-least2 .least2 in
+    let n = c .before .before .before .least2 in
     let m = at-least .least in
     let a = start .args in
     rw (

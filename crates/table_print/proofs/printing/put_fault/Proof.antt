@@ -15,9 +15,8 @@ returns c = (rw (c .enum-told .given .1) (record { moved = refl; page = sym (ove
 
 returns-2 : tie.Need-returns-2
 returns-2 c =
-    let at-put-refusal = c .before .before in
-    let at-fault = at-put-refusal .before .before .before in
-    let put = at-put-refusal .put-refusal .ensures in
+    let at-fault = c .before .before .before .before .before in
+    let put = c .before .before .put-refusal .ensures in
     (rw (at-fault .fault .given .1) (put .0), put .1)
 
 pub put-fault-spec : {M : Type 1} → statement M

@@ -14,16 +14,14 @@ put-table-requires c κs =
 
 returns : tie.Need-returns
 returns c =
-    let at-put-refusal = c .before .before in
-    let at-enum-told = at-put-refusal .before .before in
-    let put = at-put-refusal .put-refusal .ensures in
+    let at-enum-told = c .before .before .before .before in
+    let put = c .before .before .put-refusal .ensures in
     (rw (at-enum-told .enum-told .given .1) (put .0), put .1)
 
 returns-2 : tie.Need-returns-2
 returns-2 c =
-    let at-put-table = c .before .before in
-    let at-number = at-put-table .before .before .before in
-    let put = at-put-table .put-table .ensures in
+    let at-number = c .before .before .before .before .before in
+    let put = c .before .before .put-table .ensures in
     (rw (at-number .number .given .1) (put .0), put .1)
 
 pub put-number-spec : {M : Type 1} → statement M

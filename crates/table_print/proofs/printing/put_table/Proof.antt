@@ -22,64 +22,55 @@ use Rattle.table_print.proofs.printing.put_table.Tie as tie
 
 table-fault-requires : tie.Need-table-fault-requires
 table-fault-requires c κs =
-    let start = c .before in
-    proper (schemeIn (start .args .scheme)) (start .pre .formed .scheme)
+    proper (schemeIn (c .before .args .scheme)) (c .before .pre .formed .scheme)
 
 returns : tie.Need-returns
 returns c =
-    let at-put-fault = c .before .before in
-    let at-if1 = at-put-fault .before .before in
-    let at-is-fault = at-if1 .before in
-    let at-table-fault = at-is-fault .before in
-    let start = at-table-fault .before .before in
+    let at-if1 = c .before .before .before .before in
+    let start = at-if1 .before .before .before .before in
     let a = start .args in
     let P = patternsIn (a .patterns) in
     let E = schemeIn (a .scheme) in
-    let f = at-table-fault .table-fault in
-    let put = at-put-fault .put-fault .ensures in
-    let h = sym (at-is-fault .is-fault .ensures) ∙ at-if1 .if1 .taken in
+    let f = at-if1 .before .before .table-fault in
+    let put = c .before .before .put-fault .ensures in
+    let h = sym (at-if1 .before .is-fault .ensures) ∙ at-if1 .if1 .taken in
     let text = bfileText (map (countOf P E) (row 0 (suc (a .n)))) in
     (writes-as (put .0) (only-line (f .result) text h ∙ ap (λ (x : Fault). printedOr x text) (f .ensures)), put .1)
 
 all-counts-requires : tie.Need-all-counts-requires
 all-counts-requires c κs =
-    let at-is-fault = c .before .before in
-    let at-table-fault = at-is-fault .before in
-    let start = at-table-fault .before .before in
+    let start = c .before .before .before .before .before in
     let a = start .args in
     let q = start .pre in
-    let f = at-table-fault .table-fault in
+    let f = c .before .before .before .table-fault in
     let good = table-good (schemeIn (a .scheme)) (a .n) CELLS
-    (sym (f .ensures) ∙ not-faulty (f .result) (sym (at-is-fault .is-fault .ensures) ∙ c .before .if1 .left)) in
+    (sym (f .ensures) ∙ not-faulty (f .result) (sym (c .before .before .is-fault .ensures) ∙ c .before .if1 .left)) in
     (good .0, q .formed, q .claims, good .1)
 
 put-counts-requires : tie.Need-put-counts-requires
 put-counts-requires c κs =
     let at-if1 = c .before .before .before .before in
-    let at-is-fault = at-if1 .before in
-    let at-table-fault = at-is-fault .before in
-    let start = at-table-fault .before .before in
+    let start = at-if1 .before .before .before .before in
     let a = start .args in
-    let f = at-table-fault .table-fault in
+    let f = at-if1 .before .before .table-fault in
     table-good (schemeIn (a .scheme)) (a .n) CELLS (sym (f .ensures) ∙ not-faulty (f .result)
-    (sym (at-is-fault .is-fault .ensures) ∙ at-if1 .if1 .left)) .0
+    (sym (at-if1 .before .is-fault .ensures) ∙ at-if1 .if1 .left)) .0
 
 returns-2 : tie.Need-returns-2
 returns-2 c =
-    let at-put-counts = c .before .before in
-    let at-all-counts = at-put-counts .before .before .before in
-    let at-if1 = at-all-counts .before .before in
-    let at-is-fault = at-if1 .before in
-    let at-table-fault = at-is-fault .before in
+    let at-all-counts = c .before .before .before .before .before in
+    let at-table-fault = at-all-counts .before .before .before .before in
     let start = at-table-fault .before .before in
     let a = start .args in
     let P = patternsIn (a .patterns) in
     let E = schemeIn (a .scheme) in
     let f = at-table-fault .table-fault in
-    let none = sym (f .ensures) ∙ not-faulty (f .result) (sym (at-is-fault .is-fault .ensures) ∙ at-if1 .if1 .left) in
+    let none = sym (f .ensures) ∙ not-faulty (f .result)
+    (sym (at-all-counts .before .before .before .is-fault .ensures) ∙
+    at-all-counts .before .before .if1 .left) in
     let good = table-good E (a .n) CELLS none in
     let all = at-all-counts .all-counts in
-    let put = at-put-counts .put-counts .ensures in
+    let put = c .before .before .put-counts .ensures in
     let text : lengthText P E (a .n) ≡ bfileText (take (a .n + 1) (all .result)) =
     ap (λ (x : Fault). printedOr x (bfileText (map (countOf P E) (row 0 (suc (a .n)))))) none ∙
     ap bfileText (sym (counts-taken P E (a .n) (all .result) (good .0) (all .ensures .0))) in

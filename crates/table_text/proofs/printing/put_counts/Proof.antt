@@ -24,13 +24,12 @@ loop-holds c = (omega arith, omega arith, start _ _ _)
 
 loop-again : tie.Need-loop-again Inv-loop μ-loop
 loop-again c =
-    let at-put-line = c .before .before in
-    let at-loop = at-put-line .before .before .before in
+    let at-loop = c .before .before .before .before .before in
     let start = at-loop .before .before in
     let a = start .args in
     let l = at-loop .loop in
     let inside : a .n < length (a .t2) = search needs in
-    let w = at-put-line .put-line .ensures in
+    let w = c .before .before .put-line .ensures in
     (omega arith, omega (arith, w .1), step (again (l .inv .2) (lines-step (a .t2) (a .n) inside (l .i) (omega arith))) (w .0))
 
 same-length : tie.Need-same-length Inv-loop μ-loop

@@ -16,15 +16,14 @@ put-decimal-requires-2 c κs = room-decimal _ _ (search needs) (search needs)
 
 returns : tie.Need-returns
 returns c =
-    let at-put2 = c .before .before in
-    let at-put-decimal2 = at-put2 .before .before .before .before in
+    let at-put-decimal2 = c .before .before .before .before .before .before in
     let at-put = at-put-decimal2 .before .before .before .before in
     let at-put-decimal = at-put .before .before .before .before in
     let start = at-put-decimal .before .before .before in
     let first = at-put-decimal .put-decimal .ensures in
     let space = at-put .put .ensures in
     let second = at-put-decimal2 .put-decimal2 .ensures in
-    let end = at-put2 .put2 .ensures in
+    let end = c .before .before .put2 .ensures in
     let few = decimal-two (start .args .n) (omega arith) in (
       writes-join (first .0) (writes-join space (writes-join (second .0) end)),
       omega (arith, few, first .0 .moved, space .moved, second .1, end .moved),

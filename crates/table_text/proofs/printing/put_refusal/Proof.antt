@@ -18,21 +18,19 @@ put-decimal-requires-2 c κs = room-decimal _ _ (search needs) (search needs)
 
 returns : tie.Need-returns
 returns c =
-    let at-put3 = c .before .before in
-    let at-put-decimal2 = at-put3 .before .before .before .before in
+    let at-put-decimal2 = c .before .before .before .before .before .before in
     let at-put2 = at-put-decimal2 .before .before .before .before in
     let at-put-decimal = at-put2 .before .before .before .before in
-    let at-long = at-put-decimal .before in
-    let at-number = at-long .before in
-    let at-put = at-number .before .before .before .before in
+    let at-put = at-put-decimal .before .before .before .before .before .before in
     let at-put-bytes = at-put .before .before .before .before in
     let word = at-put-bytes .put-bytes .ensures in
     let space = at-put .put .ensures in
     let first = at-put-decimal .put-decimal .ensures in
     let further = at-put2 .put2 .ensures in
     let second = at-put-decimal2 .put-decimal2 .ensures in
-    let end = at-put3 .put3 .ensures in
-    let number = writes-as (first .0) (ap decimal (at-long .long .ensures .0 ∙ at-number .number .ensures)) in (
+    let end = c .before .before .put3 .ensures in
+    let number = writes-as (first .0)
+    (ap decimal (at-put-decimal .before .long .ensures .0 ∙ at-put-decimal .before .before .number .ensures)) in (
       writes-join word (writes-join space (writes-join number (writes-join further (writes-join (second .0) end)))),
       omega (arith, word .moved, space .moved, first .1, further .moved, second .1, end .moved),
     )

@@ -9,11 +9,10 @@ use Rattle.text_gaps.proofs.gap_reader.gap_at.Tie as tie
 
 returns : tie.Need-returns
 returns c =
-    let at-is-left = c .before .before in
-    let at-step = at-is-left .before .before in
+    let at-step = c .before .before .before .before in
     let start = at-step .before .before in
     vector-none (start .args .s .now) (start .args .c .at) (at-step .step .result) (at-step .step .ensures)
-    (sym (at-is-left .is-left .ensures) ∙ not-true _ (c .before .if1 .taken)) (c .no-gap .result)
+    (sym (c .before .before .is-left .ensures) ∙ not-true _ (c .before .if1 .taken)) (c .no-gap .result)
 
 parts-at-requires : tie.Need-parts-at-requires
 parts-at-requires c κs =
@@ -24,11 +23,10 @@ parts-at-requires c κs =
 
 returns-2 : tie.Need-returns-2
 returns-2 c =
-    let at-is-left = c .before .before in
-    let at-step = at-is-left .before .before in
+    let at-step = c .before .before .before .before in
     let start = at-step .before .before in
     vector-parts (start .args .s .now) (start .args .c .at) (at-step .step .result) (at-step .step .ensures)
-    (sym (at-is-left .is-left .ensures) ∙ not-false _ (c .before .if1 .left)) (c .parts-at .result)
+    (sym (c .before .before .is-left .ensures) ∙ not-false _ (c .before .if1 .left)) (c .parts-at .result)
     (c .parts-at .ensures)
 
 pub gap-at-spec : {M : Type 1} → statement M

@@ -10,22 +10,19 @@ use Rattle.text_gaps.proofs.gap_reader.gaps_at.Tie as tie
 
 returns : tie.Need-returns
 returns c =
-    let at-is-empty = c .before .before in
-    let at-step = at-is-empty .before .before in
+    let at-step = c .before .before .before .before in
     let start = at-step .before .before in
     list-empty (start .args .s .now) (start .args .c .at) (at-step .step .result) (at-step .step .ensures)
-    (sym (at-is-empty .is-empty .ensures) ∙ c .before .if1 .taken) (c .no-gaps .result) (c .no-gaps .ensures)
+    (sym (c .before .before .is-empty .ensures) ∙ c .before .if1 .taken) (c .no-gaps .result) (c .no-gaps .ensures)
 
 returns-2 : tie.Need-returns-2
 returns-2 c =
-    let at-is-byte = c .before .before in
-    let at-if1 = at-is-byte .before in
-    let at-is-empty = at-if1 .before in
+    let at-is-empty = c .before .before .before .before in
     let at-step = at-is-empty .before .before in
     let start = at-step .before .before in
     list-none (start .args .s .now) (start .args .c .at) (at-step .step .result) (at-step .step .ensures)
-    (sym (at-is-empty .is-empty .ensures) ∙ at-if1 .if1 .left)
-    (sym (at-is-byte .is-byte .ensures) ∙ not-true _ (c .before .if2 .taken)) (c .no-gaps2 .result)
+    (sym (at-is-empty .is-empty .ensures) ∙ c .before .before .before .if1 .left)
+    (sym (c .before .before .is-byte .ensures) ∙ not-true _ (c .before .if2 .taken)) (c .no-gaps2 .result)
 
 vectors-at-requires : tie.Need-vectors-at-requires
 vectors-at-requires c κs =
@@ -36,11 +33,10 @@ vectors-at-requires c κs =
 
 returns-3 : tie.Need-returns-3
 returns-3 c =
-    let at-is-byte = c .before .before in
-    let at-step = at-is-byte .before .before .before .before in
+    let at-step = c .before .before .before .before .before .before in
     let start = at-step .before .before in
     list-vectors (start .args .s .now) (start .args .c .at) (at-step .step .result) (at-step .step .ensures)
-    (sym (at-is-byte .is-byte .ensures) ∙ not-false _ (c .before .if2 .left)) (c .vectors-at .result)
+    (sym (c .before .before .is-byte .ensures) ∙ not-false _ (c .before .if2 .left)) (c .vectors-at .result)
     (c .vectors-at .ensures)
 
 pub gaps-at-spec : {M : Type 1} → statement M

@@ -18,20 +18,17 @@ returns c =
 
 number-of-requires : tie.Need-number-of-requires
 number-of-requires c κs =
-    let at-is-digits = c .before .before in
-    let at-step = at-is-digits .before .before in
+    let at-step = c .before .before .before .before in
     let start = at-step .before .before in
     run-length (start .args .s .now) (start .args .c .at) (at-step .step .result) (at-step .step .ensures)
-    (sym (at-is-digits .is-digits .ensures) ∙ not-false _ (c .before .if1 .left))
+    (sym (c .before .before .is-digits .ensures) ∙ not-false _ (c .before .if1 .left))
 
 returns-2 : tie.Need-returns-2
 returns-2 c =
-    let at-if1 = c .before .before in
-    let at-is-digits = at-if1 .before in
-    let at-step = at-is-digits .before .before in
+    let at-step = c .before .before .before .before .before in
     let start = at-step .before .before in
     number-run (start .args .s .now) (start .args .c .at) (at-step .step .result) (at-step .step .ensures)
-    (sym (at-is-digits .is-digits .ensures) ∙ not-false _ (at-if1 .if1 .left)) (c .number-of .result)
+    (sym (c .before .before .before .is-digits .ensures) ∙ not-false _ (c .before .before .if1 .left)) (c .number-of .result)
     (c .number-of .ensures)
 
 pub number-at-spec : {M : Type 1} → statement M

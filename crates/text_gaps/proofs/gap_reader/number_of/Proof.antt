@@ -23,45 +23,43 @@ returns-2 c =
 
 returns-3 : tie.Need-returns-3
 returns-3 c =
-    let at-digit-of = c .before in
-    let start = at-digit-of .before .before .before .before in
-    number-one (run (drop (start .args .from) (start .args .s .now))) (at-digit-of .digit-of .result)
-    (sym (start .pre) ∙ c .if3 .taken) (at-digit-of .digit-of .ensures)
+    let start = c .before .before .before .before .before in
+    number-one (run (drop (start .args .from) (start .args .s .now))) (c .before .digit-of .result)
+    (sym (start .pre) ∙ c .if3 .taken) (c .before .digit-of .ensures)
 
 returns-4 : tie.Need-returns-4
 returns-4 c =
-    let at-if3 = c .before .before in
-    let at-digit-of = at-if3 .before in
-    let at-if1 = at-digit-of .before .before in
-    let start = at-if1 .before .before in
+    let at-digit-of = c .before .before .before in
+    let start = at-digit-of .before .before .before .before in
     number-zero (run (drop (start .args .from) (start .args .s .now))) (c .no-number3 .result)
     (at-digit-of .digit-of .result) (c .no-number3 .ensures)
-    (omega (arith, start .pre, at-if3 .if3 .left, at-if1 .if1 .left)) (at-digit-of .digit-of .ensures)
+    (omega (arith, start .pre, c .before .before .if3 .left, at-digit-of .before .before .if1 .left)) (at-digit-of .digit-of .ensures)
     (c .before .if4 .taken)
 
 returns-5 : tie.Need-returns-5
 returns-5 c =
-    let at-digit-of2 = c .before in
-    let at-if4 = at-digit-of2 .before in
-    let at-digit-of = at-if4 .before .before in
+    let at-digit-of = c .before .before .before .before in
     let start = at-digit-of .before .before .before .before in
     number-two (run (drop (start .args .from) (start .args .s .now))) (at-digit-of .digit-of .result)
-    (at-digit-of2 .digit-of2 .result) (sym (start .pre) ∙ c .if5 .taken) (at-digit-of .digit-of .ensures)
-    (omega (arith, at-if4 .if4 .left)) (at-digit-of2 .digit-of2 .ensures)
+    (c .before .digit-of2 .result) (sym (start .pre) ∙ c .if5 .taken) (at-digit-of .digit-of .ensures)
+    (omega (arith, c .before .before .if4 .left)) (c .before .digit-of2 .ensures)
 
 returns-6 : tie.Need-returns-6
 returns-6 c =
     let at-digit-of2 = c .before .before in
-    let at-if4 = at-digit-of2 .before in
-    let at-if3 = at-if4 .before in
-    let at-digit-of = at-if3 .before in
-    let at-if2 = at-digit-of .before in
-    let at-if1 = at-if2 .before in
-    let start = at-if1 .before .before in
+    let at-digit-of = at-digit-of2 .before .before .before in
+    let start = at-digit-of .before .before .before .before in
     number-three (run (drop (start .args .from) (start .args .s .now))) (at-digit-of .digit-of .result)
     (at-digit-of2 .digit-of2 .result) (c .digit-of3 .result)
-    (omega (arith, start .pre, c .before .if5 .left, at-if3 .if3 .left, at-if1 .if1 .left, at-if2 .if2 .left))
-    (at-digit-of .digit-of .ensures) (omega (arith, at-if4 .if4 .left)) (at-digit-of2 .digit-of2 .ensures)
+    (omega (
+      arith,
+      start .pre,
+      c .before .if5 .left,
+      at-digit-of2 .before .before .if3 .left,
+      at-digit-of .before .before .if1 .left,
+      at-digit-of .before .if2 .left,
+    ))
+    (at-digit-of .digit-of .ensures) (omega (arith, at-digit-of2 .before .if4 .left)) (at-digit-of2 .digit-of2 .ensures)
     (c .digit-of3 .ensures)
 
 pub number-of-spec : {M : Type 1} → statement M

@@ -37,14 +37,12 @@ loop-holds c = let a = c .before .before .args in
 
 returns : tie.Need-returns Inv-loop μ-loop
 returns c =
-    let at-if1 = c .before .before .before in
-    let at-goes-on = at-if1 .before in
-    let at-loop = at-goes-on .before in
-    let start = at-loop .before .before .before in
+    let at-goes-on = c .before .before .before .before in
+    let start = at-goes-on .before .before .before .before in
     let a = start .args in
-    let l = at-loop .loop in
+    let l = at-goes-on .before .loop in
     parts-end (a .s .now) (a .c .at) (l .m .turn) (l .m .next)
-    (sym (at-goes-on .goes-on .ensures) ∙ not-true _ (at-if1 .if1 .taken)) (l .m .gap .width) (l .inv .1)
+    (sym (at-goes-on .goes-on .ensures) ∙ not-true _ (c .before .before .before .if1 .taken)) (l .m .gap .width) (l .inv .1)
     (l .inv .2) (c .is-done .result) (c .is-done .ensures) (l .m .gap) (l .inv .0)
 
 with-part-requires : tie.Need-with-part-requires Inv-loop μ-loop
@@ -59,8 +57,7 @@ loop-less c = c .with-part .ensures .falls
 
 loop-again : tie.Need-loop-again Inv-loop μ-loop
 loop-again c =
-    let at-loop = c .before .before .before in
-    let i = at-loop .loop .inv in
+    let i = c .before .before .before .loop .inv in
     let e = c .with-part .ensures in
     (sym (e .same) ∙ i .0, e .within, omega (arith, i .2, e .onward))
 

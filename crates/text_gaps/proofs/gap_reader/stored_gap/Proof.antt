@@ -13,10 +13,9 @@ use Rattle.text_gaps.proofs.gap_reader.stored_gap.Tie as tie
 
 returns : tie.Need-returns
 returns c =
-    let at-with-gap = c .before in
-    let start = at-with-gap .before .before .before .before .before in
+    let start = c .before .before .before .before .before .before in
     let a = start .args in
-    gap-kept (a .gaps) (a .g) (at-with-gap .with-gap .result) (c .part .result) (at-with-gap .with-gap .ensures) (c .part .ensures)
+    gap-kept (a .gaps) (a .g) (c .before .with-gap .result) (c .part .result) (c .before .with-gap .ensures) (c .part .ensures)
 
 returns-2 : tie.Need-returns-2
 returns-2 c =

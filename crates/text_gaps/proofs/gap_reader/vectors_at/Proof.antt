@@ -36,14 +36,12 @@ loop-holds c = let a = c .before .before .args in
 
 returns : tie.Need-returns Inv-loop μ-loop
 returns c =
-    let at-if1 = c .before .before .before in
-    let at-goes-on = at-if1 .before in
-    let at-loop = at-goes-on .before in
-    let start = at-loop .before .before .before in
+    let at-goes-on = c .before .before .before .before in
+    let start = at-goes-on .before .before .before .before in
     let a = start .args in
-    let l = at-loop .loop in
+    let l = at-goes-on .before .loop in
     vectors-end (a .s .now) (a .c .at) (l .m .turn) (l .m .next)
-    (sym (at-goes-on .goes-on .ensures) ∙ not-true _ (at-if1 .if1 .taken)) (l .m .gaps .count) (l .inv .1)
+    (sym (at-goes-on .goes-on .ensures) ∙ not-true _ (c .before .before .before .if1 .taken)) (l .m .gaps .count) (l .inv .1)
     (l .inv .2) (c .is-done .result) (c .is-done .ensures) (l .m .gaps) (l .inv .0)
 
 with-vector-requires : tie.Need-with-vector-requires Inv-loop μ-loop
@@ -58,8 +56,7 @@ loop-less c = c .with-vector .ensures .falls
 
 loop-again : tie.Need-loop-again Inv-loop μ-loop
 loop-again c =
-    let at-loop = c .before .before .before in
-    let i = at-loop .loop .inv in
+    let i = c .before .before .before .loop .inv in
     let e = c .with-vector .ensures in
     (sym (e .same) ∙ i .0, e .within, omega (arith, i .2, e .onward))
 

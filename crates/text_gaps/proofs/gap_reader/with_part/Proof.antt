@@ -18,18 +18,16 @@ returns c =
 
 returns-2 : tie.Need-returns-2
 returns-2 c =
-    let at-is-right = c .before .before in
-    let at-step = at-is-right .before .before in
+    let at-step = c .before .before .before .before in
     let at-stored-part = at-step .before .before in
-    let at-if1 = at-stored-part .before in
-    let at-number-at = at-if1 .before .before in
+    let at-number-at = at-stored-part .before .before .before in
     let start = at-number-at .before .before .before .before in
     let a = start .args in
     part-stored (a .s .now) (a .m .turn) (a .m .gap) (a .m .next .at) (start .pre) (at-number-at .number-at .result)
-    (at-number-at .number-at .ensures) (not-false _ (at-if1 .if1 .left)) (at-step .step .result)
+    (at-number-at .number-at .ensures) (not-false _ (at-stored-part .before .if1 .left)) (at-step .step .result)
     (at-step .step .ensures)
     (c .turn-of .result) (at-stored-part .stored-part .result)
-    (c .turn-of .ensures ∙ ap₂ turnOf (at-is-right .is-right .ensures) (c .before .is-byte .ensures))
+    (c .turn-of .ensures ∙ ap₂ turnOf (c .before .before .is-right .ensures) (c .before .is-byte .ensures))
     (at-stored-part .stored-part .ensures)
 
 pub with-part-spec : {M : Type 1} → statement M

@@ -18,18 +18,16 @@ returns c =
 
 returns-2 : tie.Need-returns-2
 returns-2 c =
-    let at-is-byte = c .before .before in
-    let at-step = at-is-byte .before .before in
+    let at-step = c .before .before .before .before in
     let at-stored-gap = at-step .before .before in
-    let at-if1 = at-stored-gap .before .before in
-    let at-gap-at = at-if1 .before .before in
+    let at-gap-at = at-stored-gap .before .before .before .before in
     let start = at-gap-at .before .before .before .before in
     let a = start .args in
     gap-stored (a .s .now) (a .m .turn) (a .m .gaps) (a .m .next .at) (start .pre) (at-gap-at .gap-at .result)
-    (at-gap-at .gap-at .ensures) (not-false _ (at-if1 .if1 .left)) (at-step .step .result)
+    (at-gap-at .gap-at .ensures) (not-false _ (at-stored-gap .before .before .if1 .left)) (at-step .step .result)
     (at-step .step .ensures)
     (c .turn-of .result) (at-stored-gap .stored-gap .result)
-    (c .turn-of .ensures ∙ ap₂ turnOf (at-is-byte .is-byte .ensures) (c .before .is-byte2 .ensures))
+    (c .turn-of .ensures ∙ ap₂ turnOf (c .before .before .is-byte .ensures) (c .before .is-byte2 .ensures))
     (at-stored-gap .stored-gap .ensures)
 
 pub with-vector-spec : {M : Type 1} → statement M

@@ -15,53 +15,41 @@ returns c =
 
 returns-2 : tie.Need-returns-2
 returns-2 c =
-    let at-if1 = c .before .before .before in
-    let at-begins-with = at-if1 .before in
+    let at-begins-with = c .before .before .before .before in
     let start = at-begins-with .before .before .before in
     let a = start .args in
-    let e = sym (at-begins-with .begins-with .ensures) ∙ at-if1 .if1 .left in
+    let e = sym (at-begins-with .begins-with .ensures) ∙ c .before .before .before .if1 .left in
     sym (is-empty (a .x) (a .s .now) e (sym (c .before .begins-with2 .ensures) ∙ c .if2 .taken))
 
 returns-3 : tie.Need-returns-3
 returns-3 c =
-    let at-if2 = c .before .before .before in
-    let at-begins-with2 = at-if2 .before in
-    let at-if1 = at-begins-with2 .before .before in
-    let at-begins-with = at-if1 .before in
-    let start = at-begins-with .before .before .before in
+    let at-begins-with2 = c .before .before .before .before in
+    let start = at-begins-with2 .before .before .before .before .before .before in
     let a = start .args in
-    let e = sym (at-begins-with .begins-with .ensures) ∙ at-if1 .if1 .left in
-    let f = sym (at-begins-with2 .begins-with2 .ensures) ∙ at-if2 .if2 .left in
+    let e = sym (at-begins-with2 .before .before .before .begins-with .ensures) ∙ at-begins-with2 .before .before .if1 .left in
+    let f = sym (at-begins-with2 .begins-with2 .ensures) ∙ c .before .before .before .if2 .left in
     sym (is-left (a .x) (a .s .now) e f (sym (c .before .begins-with3 .ensures) ∙ c .if3 .taken))
 
 returns-4 : tie.Need-returns-4
 returns-4 c =
-    let at-if3 = c .before .before .before in
-    let at-begins-with3 = at-if3 .before in
-    let at-if2 = at-begins-with3 .before .before in
-    let at-begins-with2 = at-if2 .before in
-    let at-if1 = at-begins-with2 .before .before in
-    let at-begins-with = at-if1 .before in
-    let start = at-begins-with .before .before .before in
+    let at-begins-with3 = c .before .before .before .before in
+    let at-if1 = at-begins-with3 .before .before .before .before .before in
+    let start = at-if1 .before .before .before .before in
     let a = start .args in
-    let e = sym (at-begins-with .begins-with .ensures) ∙ at-if1 .if1 .left in
-    let f = sym (at-begins-with2 .begins-with2 .ensures) ∙ at-if2 .if2 .left in
-    let g = sym (at-begins-with3 .begins-with3 .ensures) ∙ at-if3 .if3 .left in
+    let e = sym (at-if1 .before .begins-with .ensures) ∙ at-if1 .if1 .left in
+    let f = sym (at-begins-with3 .before .before .before .begins-with2 .ensures) ∙ at-begins-with3 .before .before .if2 .left in
+    let g = sym (at-begins-with3 .begins-with3 .ensures) ∙ c .before .before .before .if3 .left in
     sym (is-right (a .x) (a .s .now) e f g (sym (c .before .begins-with4 .ensures) ∙ c .if4 .taken))
 
 returns-5 : tie.Need-returns-5
 returns-5 c =
-    let at-if3 = c .before .before .before in
-    let at-begins-with3 = at-if3 .before in
-    let at-if2 = at-begins-with3 .before .before in
-    let at-begins-with2 = at-if2 .before in
-    let at-if1 = at-begins-with2 .before .before in
-    let at-begins-with = at-if1 .before in
-    let start = at-begins-with .before .before .before in
+    let at-begins-with3 = c .before .before .before .before in
+    let at-if1 = at-begins-with3 .before .before .before .before .before in
+    let start = at-if1 .before .before .before .before in
     let a = start .args in
-    let e = sym (at-begins-with .begins-with .ensures) ∙ at-if1 .if1 .left in
-    let f = sym (at-begins-with2 .begins-with2 .ensures) ∙ at-if2 .if2 .left in
-    let g = sym (at-begins-with3 .begins-with3 .ensures) ∙ at-if3 .if3 .left in
+    let e = sym (at-if1 .before .begins-with .ensures) ∙ at-if1 .if1 .left in
+    let f = sym (at-begins-with3 .before .before .before .begins-with2 .ensures) ∙ at-begins-with3 .before .before .if2 .left in
+    let g = sym (at-begins-with3 .begins-with3 .ensures) ∙ c .before .before .before .if3 .left in
     sym (is-byte (a .x) (a .s .now) e f g (sym (c .before .begins-with4 .ensures) ∙ c .if4 .left))
 
 pub mark-at-spec : {M : Type 1} → statement M

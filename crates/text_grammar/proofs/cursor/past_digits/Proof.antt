@@ -39,9 +39,8 @@ loop-again c =
 
 returns-2 : tie.Need-returns-2 Inv-loop μ-loop
 returns-2 c =
-    let at-loop = c .before in
-    let start = at-loop .before .before in
-    sym (at-loop .loop .inv ∙ run-end (start .args .s .now) (at-loop .loop .at) (omega arith))
+    let start = c .before .before .before in
+    sym (c .before .loop .inv ∙ run-end (start .args .s .now) (c .before .loop .at) (omega arith))
 
 pub past-digits-spec : {M : Type 1} → statement M
 past-digits-spec =

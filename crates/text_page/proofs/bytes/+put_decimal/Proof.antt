@@ -52,13 +52,12 @@ module _ (t : ℕ) where
 
   returns : put-decimal-lts.Need-returns (called t) (put-decimal-at t) put-decimal.Post
   returns c =
-      let at-put = c .before .before in
-      let at-digit = at-put .before in
-      let at-if1 = at-digit .before .before in
+      let at-if1 = c .before .before .before .before .before in
       let start = at-if1 .before .before in
       let a = start .args in
       let big : a .n < 18446744073709551616 = search needs in
-      let w = writes-as (writes-byte (at-put .put .ensures) (at-digit .digit .ensures)) (sym (decimal-one (a .n) (at-if1 .if1 .taken))) in
+      let w = writes-as (writes-byte (c .before .before .put .ensures) (c .before .before .before .digit .ensures))
+      (sym (decimal-one (a .n) (at-if1 .if1 .taken))) in
       (w, omega (arith, w .moved, decimal-most (a .n) big))
 
   put-decimal-requires : put-decimal-lts.Need-put-decimal-requires (called t) (put-decimal-at t) put-decimal.Post
@@ -72,27 +71,23 @@ module _ (t : ℕ) where
   put-requires-2 : put-decimal-lts.Need-put-requires-2 (called t) (put-decimal-at t) put-decimal.Post
   put-requires-2 c κs =
       let at-put-decimal = c .before .before .before .before in
-      let at-if1 = at-put-decimal .before .before in
-      let start = at-if1 .before .before in
+      let start = at-put-decimal .before .before .before .before in
       let a = start .args in
       let w = at-put-decimal .put-decimal .ensures .0 in
-      record { fits = omega (arith, decimal-longer (a .n) (at-if1 .if1 .left), w .moved, start .pre .1 .fits) }
+      record { fits = omega (arith, decimal-longer (a .n) (at-put-decimal .before .before .if1 .left), w .moved, start .pre .1 .fits) }
 
   same-length-2 : put-decimal-lts.Need-same-length-2 (called t) (put-decimal-at t) put-decimal.Post
   same-length-2 c = search needs
 
   returns-2 : put-decimal-lts.Need-returns-2 (called t) (put-decimal-at t) put-decimal.Post
   returns-2 c =
-      let at-put2 = c .before .before in
-      let at-digit2 = at-put2 .before in
-      let at-put-decimal = at-digit2 .before .before .before .before in
-      let at-if1 = at-put-decimal .before .before in
-      let start = at-if1 .before .before in
+      let at-put-decimal = c .before .before .before .before .before .before .before in
+      let start = at-put-decimal .before .before .before .before in
       let a = start .args in
       let big : a .n < 18446744073709551616 = search needs in
       let w = writes-as (writes-join (at-put-decimal .put-decimal .ensures .0)
-      (writes-byte (at-put2 .put2 .ensures) (at-digit2 .digit2 .ensures)))
-      (sym (decimal-more (a .n) (at-if1 .if1 .left))) in
+      (writes-byte (c .before .before .put2 .ensures) (c .before .before .before .digit2 .ensures)))
+      (sym (decimal-more (a .n) (at-put-decimal .before .before .if1 .left))) in
       (w, omega (arith, w .moved, decimal-most (a .n) big))
 
 pub +put-decimal-spec : {M : Type 1} → statement M

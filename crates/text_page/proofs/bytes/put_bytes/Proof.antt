@@ -21,20 +21,18 @@ loop-holds c = start _ _ _
 
 put-requires : tie.Need-put-requires Inv-loop μ-loop
 put-requires c κs =
-    let at-loop = c .before .before .before in
-    let start = at-loop .before .before .before in
+    let start = c .before .before .before .before .before .before in
     let a = start .args in
-    let l = at-loop .loop in
+    let l = c .before .before .before .loop in
     room-next _ _ (start .pre) (l .inv) (drop-cons (a .bytes .now) (l .i) 0 (search needs))
 
 loop-again : tie.Need-loop-again Inv-loop μ-loop
 loop-again c =
-    let at-put = c .before .before in
-    let at-loop = at-put .before .before .before .before in
+    let at-loop = c .before .before .before .before .before .before in
     let start = at-loop .before .before .before in
     let a = start .args in
     let l = at-loop .loop in
-    rw (add-one (l .i)) (step (again (l .inv) (drop-cons (a .bytes .now) (l .i) 0 (search needs))) (at-put .put .ensures))
+    rw (add-one (l .i)) (step (again (l .inv) (drop-cons (a .bytes .now) (l .i) 0 (search needs))) (c .before .before .put .ensures))
 
 same-length : tie.Need-same-length Inv-loop μ-loop
 same-length c = same-size (c .before .loop .inv)

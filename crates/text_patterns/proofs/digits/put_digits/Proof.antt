@@ -26,44 +26,39 @@ same-length c = c .before .before .loop .inv .0
 
 returns : tie.Need-returns Inv-loop μ-loop
 returns c =
-    let at-loop = c .before .before in
-    let begin = at-loop .before in
-    let l = at-loop .loop in
+    let begin = c .before .before .before in
+    let l = c .before .before .loop in
     digits-all (begin .args .digits .now) (run (drop (begin .args .from) (begin .args .s .now))) (l .digits) (l .i)
     (l .inv .1) (omega (arith, begin .pre))
 
 add-k : tie.Need-add-k Inv-loop μ-loop
 add-k c =
-    let at-loop = c .before .before in
-    let begin = at-loop .before in
-    let l = at-loop .loop in
+    let begin = c .before .before .before in
+    let l = c .before .before .loop in
     let a = begin .args in
     let h : l .i < length (run (drop (a .from) (a .s .now))) = omega (arith, begin .pre) in
     omega (arith, digits-in (a .s .now) (a .from) (l .i) h .2)
 
 shared-slice-read-digits : tie.Need-shared-slice-read-digits Inv-loop μ-loop
 shared-slice-read-digits c =
-    let at-loop = c .before .before .before in
-    let begin = at-loop .before in
-    let l = at-loop .loop in
+    let begin = c .before .before .before .before in
+    let l = c .before .before .before .loop in
     let a = begin .args in
     let h : l .i < length (run (drop (a .from) (a .s .now))) = omega (arith, begin .pre) in
     digits-in (a .s .now) (a .from) (l .i) h .2
 
 sub-digits : tie.Need-sub-digits Inv-loop μ-loop
 sub-digits c =
-    let at-loop = c .before .before .before in
-    let begin = at-loop .before in
-    let l = at-loop .loop in
+    let begin = c .before .before .before .before in
+    let l = c .before .before .before .loop in
     let a = begin .args in
     let h : l .i < length (run (drop (a .from) (a .s .now))) = omega (arith, begin .pre) in
     digits-in (a .s .now) (a .from) (l .i) h .1
 
 loop-again : tie.Need-loop-again Inv-loop μ-loop
 loop-again c =
-    let at-loop = c .before .before .before in
-    let begin = at-loop .before in
-    let l = at-loop .loop in
+    let begin = c .before .before .before .before in
+    let l = c .before .before .before .loop in
     let a = begin .args in
     let h : l .i < length (run (drop (a .from) (a .s .now))) = omega (arith, begin .pre) in
     let value = getD (a .s .now) (a .from + l .i) 0 - 48 in (

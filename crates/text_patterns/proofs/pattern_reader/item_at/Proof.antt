@@ -16,14 +16,13 @@ returns c =
 
 returns-2 : tie.Need-returns-2
 returns-2 c =
-    let at-is-byte = c .before .before in
-    let step = at-is-byte .before .before in
+    let step = c .before .before .before .before in
     let p = step .before .before .before .before .before in
     let begin = p .before .before in
     item-read (begin .args .s .now) (begin .args .c) (p .pattern-at .result) (p .pattern-at .ensures)
     (not-false _ (step .before .before .if1 .left))
     (step .step .result) (step .step .ensures) (c .turn-of .result)
-    (c .turn-of .ensures ∙ ap₂ turnOf (at-is-byte .is-byte .ensures) (c .before .is-byte2 .ensures))
+    (c .turn-of .ensures ∙ ap₂ turnOf (c .before .before .is-byte .ensures) (c .before .is-byte2 .ensures))
 
 pub item-at-spec : {M : Type 1} → statement M
 item-at-spec =

@@ -18,19 +18,16 @@ abbrev μ-loop : tie.MeasureT-loop
 
 loop-holds : tie.Need-loop-holds Inv-loop μ-loop
 loop-holds c =
-    let at-no-patterns = c .before in
-    let begin = at-no-patterns .before .before in
-    start-read (begin .args .s .now) (begin .args .c .at) (begin .pre) (at-no-patterns .no-patterns .result)
-    (at-no-patterns .no-patterns .ensures)
+    let begin = c .before .before .before in
+    start-read (begin .args .s .now) (begin .args .c .at) (begin .pre) (c .before .no-patterns .result)
+    (c .before .no-patterns .ensures)
 
 returns : tie.Need-returns Inv-loop μ-loop
 returns c =
-    let at-goes-on = c .before .before in
-    let at-loop = at-goes-on .before in
-    let begin = at-loop .before .before .before .before in
-    let l = at-loop .loop in
+    let begin = c .before .before .before .before .before .before .before in
+    let l = c .before .before .before .loop in
     at-last (begin .args .s .now) (begin .args .c .at) (made (l .items) (l .count)) (l .turn) (l .next)
-    (sym (at-goes-on .goes-on .ensures) ∙ not-true _ (c .before .if1 .taken)) (l .inv) (c .is-done .result) (c .is-done .ensures)
+    (sym (c .before .before .goes-on .ensures) ∙ not-true _ (c .before .if1 .taken)) (l .inv) (c .is-done .result) (c .is-done .ensures)
 
 add-count : tie.Need-add-count Inv-loop μ-loop
 add-count c =

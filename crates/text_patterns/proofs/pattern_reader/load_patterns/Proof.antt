@@ -16,22 +16,20 @@ returns c =
 
 returns-2 : tie.Need-returns-2
 returns-2 c =
-    let at-is-end = c .before .before in
-    let step = at-is-end .before in
+    let step = c .before .before .before in
     let set = step .before .before .before .before in
     text-more (set .before .before .args .s .now) (set .set-at .result) (set .set-at .ensures)
     (not-false _ (step .before .before .if1 .left)) (step .step .result) (step .step .ensures)
-    (sym (at-is-end .is-end .ensures) ∙ not-true _ (c .before .if2 .taken))
+    (sym (c .before .before .is-end .ensures) ∙ not-true _ (c .before .if2 .taken))
     (c .misspelt2 .result) (c .misspelt2 .ensures)
 
 returns-3 : tie.Need-returns-3
 returns-3 c =
-    let at-is-end = c .before .before in
-    let step = at-is-end .before in
+    let step = c .before .before .before in
     let set = step .before .before .before .before in
     text-end (set .before .before .args .s .now) (set .set-at .result) (set .set-at .ensures)
     (not-false _ (step .before .before .if1 .left)) (step .step .result) (step .step .ensures)
-    (sym (at-is-end .is-end .ensures) ∙ not-false _ (c .before .if2 .left))
+    (sym (c .before .before .is-end .ensures) ∙ not-false _ (c .before .if2 .left))
 
 pub load-patterns-spec : {M : Type 1} → statement M
 load-patterns-spec =

@@ -10,28 +10,24 @@ use Rattle.text_patterns.proofs.pattern_reader.pattern_at.Tie as tie
 
 digits-at-requires : tie.Need-digits-at-requires
 digits-at-requires c κs =
-    let at-is-digits = c .before .before in
-    let step = at-is-digits .before .before in
+    let step = c .before .before .before .before in
     let begin = step .before .before in
     run-length (begin .args .s .now) (begin .args .c .at) (step .step .result) (step .step .ensures)
-    (sym (at-is-digits .is-digits .ensures) ∙ c .before .if1 .taken)
+    (sym (c .before .before .is-digits .ensures) ∙ c .before .if1 .taken)
 
 returns : tie.Need-returns
 returns c =
-    let at-if1 = c .before .before in
-    let at-is-digits = at-if1 .before in
-    let step = at-is-digits .before .before in
+    let step = c .before .before .before .before .before in
     let begin = step .before .before in
     pattern-run (begin .args .s .now) (begin .args .c .at) (step .step .result) (step .step .ensures)
-    (sym (at-is-digits .is-digits .ensures) ∙ at-if1 .if1 .taken) (c .digits-at .result) (c .digits-at .ensures)
+    (sym (c .before .before .before .is-digits .ensures) ∙ c .before .before .if1 .taken) (c .digits-at .result) (c .digits-at .ensures)
 
 returns-2 : tie.Need-returns-2
 returns-2 c =
-    let at-is-digits = c .before .before in
-    let step = at-is-digits .before .before in
+    let step = c .before .before .before .before in
     let begin = step .before .before in
     pattern-other (begin .args .s .now) (begin .args .c .at) (step .step .result) (step .step .ensures)
-    (sym (at-is-digits .is-digits .ensures) ∙ c .before .if1 .left) (c .is-epsilon .result) (c .is-epsilon .ensures)
+    (sym (c .before .before .is-digits .ensures) ∙ c .before .if1 .left) (c .is-epsilon .result) (c .is-epsilon .ensures)
 
 pub pattern-at-spec : {M : Type 1} → statement M
 pattern-at-spec =

@@ -10,22 +10,19 @@ use Rattle.text_patterns.proofs.pattern_reader.set_at.Tie as tie
 
 returns : tie.Need-returns
 returns c =
-    let at-is-empty = c .before .before in
-    let step = at-is-empty .before .before in
+    let step = c .before .before .before .before in
     let begin = step .before .before in
     set-empty (begin .args .s .now) (begin .args .c .at) (step .step .result) (step .step .ensures)
-    (sym (at-is-empty .is-empty .ensures) ∙ c .before .if1 .taken) (c .no-patterns .result) (c .no-patterns .ensures)
+    (sym (c .before .before .is-empty .ensures) ∙ c .before .if1 .taken) (c .no-patterns .result) (c .no-patterns .ensures)
 
 returns-2 : tie.Need-returns-2
 returns-2 c =
-    let at-is-byte = c .before .before in
-    let at-if1 = at-is-byte .before in
-    let at-is-empty = at-if1 .before in
+    let at-is-empty = c .before .before .before .before in
     let step = at-is-empty .before .before in
     let begin = step .before .before in
     set-none (begin .args .s .now) (begin .args .c .at) (step .step .result) (step .step .ensures)
-    (sym (at-is-empty .is-empty .ensures) ∙ at-if1 .if1 .left)
-    (sym (at-is-byte .is-byte .ensures) ∙ not-true _ (c .before .if2 .taken))
+    (sym (at-is-empty .is-empty .ensures) ∙ c .before .before .before .if1 .left)
+    (sym (c .before .before .is-byte .ensures) ∙ not-true _ (c .before .if2 .taken))
     (c .no-patterns2 .result)
 
 items-at-requires : tie.Need-items-at-requires
@@ -37,11 +34,10 @@ items-at-requires c κs =
 
 returns-3 : tie.Need-returns-3
 returns-3 c =
-    let at-is-byte = c .before .before in
-    let step = at-is-byte .before .before .before .before in
+    let step = c .before .before .before .before .before .before in
     let begin = step .before .before in
     set-items (begin .args .s .now) (begin .args .c .at) (step .step .result) (step .step .ensures)
-    (sym (at-is-byte .is-byte .ensures) ∙ not-false _ (c .before .if2 .left)) (c .items-at .result) (c .items-at .ensures)
+    (sym (c .before .before .is-byte .ensures) ∙ not-false _ (c .before .if2 .left)) (c .items-at .result) (c .items-at .ensures)
 
 pub set-at-spec : {M : Type 1} → statement M
 set-at-spec =

@@ -19,10 +19,9 @@ abbrev μ-loop : tie.MeasureT-loop
 
 loop-holds : tie.Need-loop-holds Inv-loop μ-loop
 loop-holds c =
-    let made = c .before in
-    let start = made .before .before in
-    start-read (start .args .s .now) (start .args .mark) (start .pre) (made .no-entries .result) (c .goes-on .result)
-    (made .no-entries .ensures) (c .goes-on .ensures)
+    let start = c .before .before .before in
+    start-read (start .args .s .now) (start .args .mark) (start .pre) (c .before .no-entries .result) (c .goes-on .result)
+    (c .before .no-entries .ensures) (c .goes-on .ensures)
 
 sub-item-at : tie.Need-sub-item-at Inv-loop μ-loop
 sub-item-at c = c .before .loop .inv .inside
@@ -87,15 +86,14 @@ loop-again-2 c =
 
 returns : tie.Need-returns Inv-loop μ-loop
 returns c =
-    let both = c .before in
-    let end = both .before in
+    let end = c .before .before in
     let step = end .before in
     let last = step .before in
     let l = last .before .loop in
     let s = last .before .before .before .before .before .args .s .now in
     whole-text s _ _
-    (text-spelt s (l .scheme) (l .at) (l .spelt) (step .step .result) (step .step .ensures) (end .is-end .result) (both .both .result)
-    (end .is-end .ensures) (both .both .ensures) (c .if2 .taken))
+    (text-spelt s (l .scheme) (l .at) (l .spelt) (step .step .result) (step .step .ensures) (end .is-end .result) (c .before .both .result)
+    (end .is-end .ensures) (c .before .both .ensures) (c .if2 .taken))
     (at-last s (l .scheme) (l .at) (l .more) (l .spelt) (last .loop-test .left) (l .inv))
 
 returns-2 : tie.Need-returns-2 Inv-loop μ-loop

@@ -15,45 +15,41 @@ part-middle-at-start c = search (needs, head-inside (c .before .before .args .s 
 
 add-b : tie.Need-add-b
 add-b c =
-    let at-middle-at = c .before in
-    let at-head-at = at-middle-at .before .before in
+    let at-head-at = c .before .before .before in
     let start = at-head-at .before .before in
     omega (
       arith,
       middle-inside (start .args .s .now) (at-head-at .head-at .result)
-          (at-middle-at .middle-at .result) (at-head-at .head-at .ensures) (at-middle-at .middle-at .ensures),
+          (c .before .middle-at .result) (at-head-at .head-at .ensures) (c .before .middle-at .ensures),
     )
 
 sub-tail-at : tie.Need-sub-tail-at
 sub-tail-at c =
-    let at-middle-at = c .before in
-    let at-head-at = at-middle-at .before .before in
+    let at-head-at = c .before .before .before in
     let start = at-head-at .before .before in
-    middle-inside (start .args .s .now) (at-head-at .head-at .result) (at-middle-at .middle-at .result)
-    (at-head-at .head-at .ensures) (at-middle-at .middle-at .ensures)
+    middle-inside (start .args .s .now) (at-head-at .head-at .result) (c .before .middle-at .result)
+    (at-head-at .head-at .ensures) (c .before .middle-at .ensures)
 
 part-tail-at-start : tie.Need-part-tail-at-start
 part-tail-at-start c =
-    let at-middle-at = c .before in
-    let at-head-at = at-middle-at .before .before in
+    let at-head-at = c .before .before .before in
     let start = at-head-at .before .before in
     search (
       needs,
       middle-inside (start .args .s .now) (at-head-at .head-at .result)
-          (at-middle-at .middle-at .result) (at-head-at .head-at .ensures) (at-middle-at .middle-at .ensures),
+          (c .before .middle-at .result) (at-head-at .head-at .ensures) (c .before .middle-at .ensures),
     )
 
 add-at : tie.Need-add-at
 add-at c =
-    let at-tail-at = c .before in
-    let at-middle-at = at-tail-at .before .before .before in
+    let at-middle-at = c .before .before .before .before in
     let at-head-at = at-middle-at .before .before in
     let start = at-head-at .before .before in
     omega (
       arith,
       tail-inside (start .args .s .now) (at-head-at .head-at .result) (at-middle-at .middle-at .result)
-          (at-head-at .head-at .ensures) (at-middle-at .middle-at .ensures) (at-tail-at .tail-at .result)
-          (at-tail-at .tail-at .ensures),
+          (at-head-at .head-at .ensures) (at-middle-at .middle-at .ensures) (c .before .tail-at .result)
+          (c .before .tail-at .ensures),
     )
 
 returns : tie.Need-returns

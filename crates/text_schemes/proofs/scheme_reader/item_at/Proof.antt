@@ -7,16 +7,15 @@ use Rattle.text_schemes.proofs.scheme_reader.item_at.Tie as tie
 
 returns : tie.Need-returns
 returns c =
-    let at-both2 = c .before in
-    let at-both = at-both2 .before in
+    let at-both = c .before .before in
     let at-goes-on = at-both .before in
     let at-separator-at = at-goes-on .before in
     let at-entry-at = at-separator-at .before in
     let start = at-entry-at .before .before in
     item-read (start .args .s .now) (at-entry-at .entry-at .result) (at-entry-at .entry-at .ensures)
     (at-separator-at .separator-at .result) (at-separator-at .separator-at .ensures)
-    (at-goes-on .goes-on .result) (at-both .both .result) (at-both2 .both2 .result)
-    (at-goes-on .goes-on .ensures) (at-both .both .ensures) (at-both2 .both2 .ensures)
+    (at-goes-on .goes-on .result) (at-both .both .result) (c .before .both2 .result)
+    (at-goes-on .goes-on .ensures) (at-both .both .ensures) (c .before .both2 .ensures)
 
 pub item-at-spec : {M : Type 1} → statement M
 item-at-spec =

@@ -8,11 +8,10 @@ use Rattle.text_schemes.proofs.scheme_reader.opening_at.Tie as tie
 
 returns : tie.Need-returns
 returns c =
-    let at-is-empty = c .before in
-    let at-step = at-is-empty .before .before in
+    let at-step = c .before .before .before in
     let start = at-step .before .before in
     opened (start .args .s .now) (start .args .c .at) (at-step .step .result) (at-step .step .ensures)
-    (at-is-empty .is-empty .result) (at-is-empty .is-empty .ensures) (c .if1 .taken)
+    (c .before .is-empty .result) (c .before .is-empty .ensures) (c .if1 .taken)
 
 returns-2 : tie.Need-returns-2
 returns-2 c =

@@ -10,28 +10,24 @@ use Rattle.text_schemes.proofs.scheme_reader.prefix_at.Tie as tie
 
 digits-at-requires : tie.Need-digits-at-requires
 digits-at-requires c κs =
-    let at-is-digits = c .before .before in
-    let at-step = at-is-digits .before .before in
+    let at-step = c .before .before .before .before in
     let start = at-step .before .before in
     run-length (start .args .s .now) (start .args .c .at) (at-step .step .result) (at-step .step .ensures)
-    (sym (at-is-digits .is-digits .ensures) ∙ c .before .if1 .taken)
+    (sym (c .before .before .is-digits .ensures) ∙ c .before .if1 .taken)
 
 returns : tie.Need-returns
 returns c =
-    let at-if1 = c .before .before in
-    let at-is-digits = at-if1 .before in
-    let at-step = at-is-digits .before .before in
+    let at-step = c .before .before .before .before .before in
     let start = at-step .before .before in
     prefixed (start .args .s .now) (start .args .c .at) (at-step .step .result) (at-step .step .ensures)
-    (sym (at-is-digits .is-digits .ensures) ∙ at-if1 .if1 .taken) (c .digits-at .result) (c .digits-at .ensures)
+    (sym (c .before .before .before .is-digits .ensures) ∙ c .before .before .if1 .taken) (c .digits-at .result) (c .digits-at .ensures)
 
 returns-2 : tie.Need-returns-2
 returns-2 c =
-    let at-is-digits = c .before .before in
-    let at-step = at-is-digits .before .before in
+    let at-step = c .before .before .before .before in
     let start = at-step .before .before in
     prefixed-other (start .args .s .now) (start .args .c .at) (at-step .step .result) (at-step .step .ensures)
-    (sym (at-is-digits .is-digits .ensures) ∙ c .before .if1 .left) (c .is-epsilon .result)
+    (sym (c .before .before .is-digits .ensures) ∙ c .before .if1 .left) (c .is-epsilon .result)
     (c .is-epsilon .ensures)
 
 pub prefix-at-spec : {M : Type 1} → statement M

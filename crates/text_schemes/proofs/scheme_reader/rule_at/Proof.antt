@@ -14,18 +14,16 @@ returns c =
 
 returns-2 : tie.Need-returns-2
 returns-2 c =
-    let at-both2 = c .before in
-    let at-both = at-both2 .before in
+    let at-both = c .before .before in
     let at-byte-at = at-both .before in
     let at-number-at = at-byte-at .before in
-    let at-if1 = at-number-at .before in
-    let at-opening-at = at-if1 .before .before in
+    let at-opening-at = at-number-at .before .before .before in
     let start = at-opening-at .before .before in
     rule-other (start .args .s .now) (start .args .c .at) (at-opening-at .opening-at .result)
     (at-number-at .number-at .result) (at-byte-at .byte-at .result) (at-both .both .result)
-    (at-both2 .both2 .result)
-    (at-opening-at .opening-at .ensures) (at-if1 .if1 .left) (at-number-at .number-at .ensures)
-    (at-byte-at .byte-at .ensures) (at-both .both .ensures) (at-both2 .both2 .ensures)
+    (c .before .both2 .result)
+    (at-opening-at .opening-at .ensures) (at-number-at .before .if1 .left) (at-number-at .number-at .ensures)
+    (at-byte-at .byte-at .ensures) (at-both .both .ensures) (c .before .both2 .ensures)
 
 pub rule-at-spec : {M : Type 1} → statement M
 rule-at-spec =

@@ -8,11 +8,10 @@ use Rattle.text_schemes.proofs.scheme_reader.separator_at.Tie as tie
 
 returns : tie.Need-returns
 returns c =
-    let at-is-byte = c .before in
-    let at-step = at-is-byte .before .before in
+    let at-step = c .before .before .before in
     let start = at-step .before .before in
     closed (start .args .s .now) (start .args .c .at) (at-step .step .result) (at-step .step .ensures)
-    (at-is-byte .is-byte .result) (at-is-byte .is-byte .ensures) (c .if1 .taken)
+    (c .before .is-byte .result) (c .before .is-byte .ensures) (c .if1 .taken)
 
 returns-2 : tie.Need-returns-2
 returns-2 c =

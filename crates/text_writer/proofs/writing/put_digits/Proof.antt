@@ -25,27 +25,24 @@ loop-holds c =
 
 add-put : tie.Need-add-put Inv-loop μ-loop
 add-put c =
-    let at-loop = c .before .before .before in
-    let start = at-loop .before .before .before in
-    let i = at-loop .loop .i in
+    let start = c .before .before .before .before .before .before in
+    let i = c .before .before .before .loop .i in
     omega (arith, start .pre .0 .small i (search needs))
 
 put-requires : tie.Need-put-requires Inv-loop μ-loop
 put-requires c κs =
-    let at-loop = c .before .before .before in
-    let start = at-loop .before .before .before in
+    let start = c .before .before .before .before .before .before in
     let a = start .args in
-    let l = at-loop .loop in
+    let l = c .before .before .before .loop in
     room-next _ _ (start .pre .1) (l .inv) (shown-step (a .run .now) (l .i) (a .n) (search needs))
 
 loop-again : tie.Need-loop-again Inv-loop μ-loop
 loop-again c =
-    let at-put = c .before .before in
-    let at-loop = at-put .before .before .before .before in
+    let at-loop = c .before .before .before .before .before .before in
     let start = at-loop .before .before .before in
     let a = start .args in
     let l = at-loop .loop in
-    step (again (l .inv) (shown-step (a .run .now) (l .i) (a .n) (search needs))) (at-put .put .ensures)
+    step (again (l .inv) (shown-step (a .run .now) (l .i) (a .n) (search needs))) (c .before .before .put .ensures)
 
 same-length : tie.Need-same-length Inv-loop μ-loop
 same-length c = same-size (c .before .loop .inv)

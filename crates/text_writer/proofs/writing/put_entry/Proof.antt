@@ -23,18 +23,16 @@ put-permutation-requires c κs =
 
 put-requires-2 : tie.Need-put-requires-2
 put-requires-2 c κs =
-    let at-put-permutation = c .before .before .before in
-    let at-put = at-put-permutation .before .before .before .before .before in
+    let at-put = c .before .before .before .before .before .before .before .before in
     let start = at-put .before .before .before .before in
     let a = start .args in
     let h = start .pre in
     let whole = start-as _ _ (a .at) (a .page .now) (text-entry (entryIn (a .e))) in
-    room-next _ _ (h .1) (step (step whole (at-put .put .ensures)) (at-put-permutation .put-permutation .ensures)) refl
+    room-next _ _ (h .1) (step (step whole (at-put .put .ensures)) (c .before .before .before .put-permutation .ensures)) refl
 
 put-gaps-requires : tie.Need-put-gaps-requires
 put-gaps-requires c κs =
-    let at-put2 = c .before .before .before in
-    let at-put-permutation = at-put2 .before .before .before .before in
+    let at-put-permutation = c .before .before .before .before .before .before .before in
     let at-put = at-put-permutation .before .before .before .before .before in
     let start = at-put .before .before .before .before in
     let a = start .args in
@@ -43,13 +41,12 @@ put-gaps-requires c κs =
       h .0,
       room-next _ _ (h .1)
           (step (step (step whole (at-put .put .ensures)) (at-put-permutation .put-permutation .ensures))
-          (at-put2 .put2 .ensures)) refl,
+          (c .before .before .before .put2 .ensures)) refl,
     )
 
 put-requires-3 : tie.Need-put-requires-3
 put-requires-3 c κs =
-    let at-put-gaps = c .before .before .before in
-    let at-put2 = at-put-gaps .before .before .before .before in
+    let at-put2 = c .before .before .before .before .before .before .before in
     let at-put-permutation = at-put2 .before .before .before .before in
     let at-put = at-put-permutation .before .before .before .before .before in
     let start = at-put .before .before .before .before in
@@ -58,12 +55,11 @@ put-requires-3 c κs =
     let whole = start-as _ _ (a .at) (a .page .now) (text-entry (entryIn (a .e))) in
     room-next _ _ (h .1)
     (step (step (step (step whole (at-put .put .ensures)) (at-put-permutation .put-permutation .ensures))
-    (at-put2 .put2 .ensures)) (at-put-gaps .put-gaps .ensures)) refl
+    (at-put2 .put2 .ensures)) (c .before .before .before .put-gaps .ensures)) refl
 
 put-rule-requires : tie.Need-put-rule-requires
 put-rule-requires c κs =
-    let at-put3 = c .before .before .before in
-    let at-put-gaps = at-put3 .before .before .before .before in
+    let at-put-gaps = c .before .before .before .before .before .before .before in
     let at-put2 = at-put-gaps .before .before .before .before in
     let at-put-permutation = at-put2 .before .before .before .before in
     let at-put = at-put-permutation .before .before .before .before .before in
@@ -74,13 +70,12 @@ put-rule-requires c κs =
       h .0 .rule,
       room-next _ _ (h .1)
           (step (step (step (step (step whole (at-put .put .ensures)) (at-put-permutation .put-permutation .ensures))
-          (at-put2 .put2 .ensures)) (at-put-gaps .put-gaps .ensures)) (at-put3 .put3 .ensures)) refl,
+          (at-put2 .put2 .ensures)) (at-put-gaps .put-gaps .ensures)) (c .before .before .before .put3 .ensures)) refl,
     )
 
 put-requires-4 : tie.Need-put-requires-4
 put-requires-4 c κs =
-    let at-put-rule = c .before .before .before in
-    let at-put3 = at-put-rule .before .before .before .before in
+    let at-put3 = c .before .before .before .before .before .before .before in
     let at-put-gaps = at-put3 .before .before .before .before in
     let at-put2 = at-put-gaps .before .before .before .before in
     let at-put-permutation = at-put2 .before .before .before .before in
@@ -93,12 +88,11 @@ put-requires-4 c κs =
     (step (step (step
     (step (step (step whole (at-put .put .ensures)) (at-put-permutation .put-permutation .ensures))
     (at-put2 .put2 .ensures)) (at-put-gaps .put-gaps .ensures)) (at-put3 .put3 .ensures))
-    (at-put-rule .put-rule .ensures))
+    (c .before .before .before .put-rule .ensures))
 
 returns : tie.Need-returns
 returns c =
-    let at-put4 = c .before .before in
-    let at-put-rule = at-put4 .before .before .before .before in
+    let at-put-rule = c .before .before .before .before .before .before in
     let at-put3 = at-put-rule .before .before .before .before in
     let at-put-gaps = at-put3 .before .before .before .before in
     let at-put2 = at-put-gaps .before .before .before .before in
@@ -111,7 +105,7 @@ returns c =
     finish-by (step
     (step (step (step (step (step whole (at-put .put .ensures)) (at-put-permutation .put-permutation .ensures))
     (at-put2 .put2 .ensures)) (at-put-gaps .put-gaps .ensures)) (at-put3 .put3 .ensures))
-    (at-put-rule .put-rule .ensures)) (at-put4 .put4 .ensures)
+    (at-put-rule .put-rule .ensures)) (c .before .before .put4 .ensures)
 
 pub put-entry-spec : {M : Type 1} → statement M
 put-entry-spec =

@@ -25,21 +25,19 @@ loop-holds c =
 
 put-requires : tie.Need-put-requires Inv-loop μ-loop
 put-requires c κs =
-    let at-loop = c .before .before in
-    let start = at-loop .before .before .before .before in
+    let start = c .before .before .before .before .before .before in
     let s = start .args .s in
     let h = start .pre in
-    let l = at-loop .loop in
+    let l = c .before .before .loop in
     room-first (further-room (entryAt (s .entries)) (l .i) (s .count - 1 + 1) (l .inv) (search needs) (h .2))
 
 put-entry-requires : tie.Need-put-entry-requires Inv-loop μ-loop
 put-entry-requires c κs =
     let at-put = c .before .before .before .before in
-    let at-loop = at-put .before .before .before in
-    let start = at-loop .before .before .before .before in
+    let start = at-put .before .before .before .before .before .before .before in
     let s = start .args .s in
     let h = start .pre in
-    let l = at-loop .loop in (
+    let l = at-put .before .before .before .loop in (
       h .0 .fit (l .i) (search needs),
       room-rest (further-room (entryAt (s .entries)) (l .i) (s .count - 1 + 1)
           (l .inv) (search needs) (h .2)) (at-put .put .ensures),
@@ -47,14 +45,12 @@ put-entry-requires c κs =
 
 loop-again : tie.Need-loop-again Inv-loop μ-loop
 loop-again c =
-    let at-put-entry = c .before .before in
-    let at-put = at-put-entry .before .before .before .before .before in
-    let at-loop = at-put .before .before .before in
-    let start = at-loop .before .before .before .before in
+    let at-put = c .before .before .before .before .before .before .before in
+    let start = at-put .before .before .before .before .before .before .before in
     let s = start .args .s in
-    let l = at-loop .loop in
+    let l = at-put .before .before .before .loop in
     further-on (entryAt (s .entries)) (l .i) (s .count - 1 + 1) (l .inv) (search needs) (at-put .put .ensures)
-    (at-put-entry .put-entry .ensures)
+    (c .before .before .put-entry .ensures)
 
 same-length : tie.Need-same-length Inv-loop μ-loop
 same-length c = same-size (c .before .loop .inv)

@@ -21,32 +21,28 @@ loop-holds c = start _ _ _
 
 put-requires : tie.Need-put-requires Inv-loop μ-loop
 put-requires c κs =
-    let at-loop = c .before .before in
-    let start = at-loop .before .before .before in
+    let start = c .before .before .before .before .before in
     let s = start .args .g in
     let h = start .pre in
-    let l = at-loop .loop in
+    let l = c .before .before .loop in
     room-first (further-room (number (s .parts)) (l .i) (s .width) (l .inv) (search needs) (h .1))
 
 put-part-requires : tie.Need-put-part-requires Inv-loop μ-loop
 put-part-requires c κs =
-    let at-put = c .before .before .before in
-    let at-loop = at-put .before .before .before in
+    let at-loop = c .before .before .before .before .before .before in
     let start = at-loop .before .before .before in
     let s = start .args .g in
     let h = start .pre in
     let l = at-loop .loop in
-    room-rest (further-room (number (s .parts)) (l .i) (s .width) (l .inv) (search needs) (h .1)) (at-put .put .ensures)
+    room-rest (further-room (number (s .parts)) (l .i) (s .width) (l .inv) (search needs) (h .1)) (c .before .before .before .put .ensures)
 
 loop-again : tie.Need-loop-again Inv-loop μ-loop
 loop-again c =
-    let at-put-part = c .before .before in
-    let at-put = at-put-part .before .before .before .before in
-    let at-loop = at-put .before .before .before in
-    let start = at-loop .before .before .before in
+    let at-put = c .before .before .before .before .before .before in
+    let start = at-put .before .before .before .before .before .before in
     let s = start .args .g in
-    let l = at-loop .loop in
-    further-on (number (s .parts)) (l .i) (s .width) (l .inv) (search needs) (at-put .put .ensures) (at-put-part .put-part .ensures)
+    let l = at-put .before .before .before .loop in
+    further-on (number (s .parts)) (l .i) (s .width) (l .inv) (search needs) (at-put .put .ensures) (c .before .before .put-part .ensures)
 
 same-length : tie.Need-same-length Inv-loop μ-loop
 same-length c = same-size (c .before .loop .inv)

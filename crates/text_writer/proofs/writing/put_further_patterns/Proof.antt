@@ -25,21 +25,19 @@ loop-holds c =
 
 put-requires : tie.Need-put-requires Inv-loop μ-loop
 put-requires c κs =
-    let at-loop = c .before .before in
-    let start = at-loop .before .before .before .before in
+    let start = c .before .before .before .before .before .before in
     let s = start .args .s in
     let h = start .pre in
-    let l = at-loop .loop in
+    let l = c .before .before .loop in
     room-first (further-room (patternAt (s .items)) (l .i) (s .count - 1 + 1) (l .inv) (search needs) (h .2))
 
 put-pattern-requires : tie.Need-put-pattern-requires Inv-loop μ-loop
 put-pattern-requires c κs =
     let at-put = c .before .before .before .before in
-    let at-loop = at-put .before .before .before in
-    let start = at-loop .before .before .before .before in
+    let start = at-put .before .before .before .before .before .before .before in
     let s = start .args .s in
     let h = start .pre in
-    let l = at-loop .loop in (
+    let l = at-put .before .before .before .loop in (
       h .0 .fit (l .i) (search needs),
       room-rest (further-room (patternAt (s .items)) (l .i) (s .count - 1 + 1)
           (l .inv) (search needs) (h .2)) (at-put .put .ensures),
@@ -47,14 +45,12 @@ put-pattern-requires c κs =
 
 loop-again : tie.Need-loop-again Inv-loop μ-loop
 loop-again c =
-    let at-put-pattern = c .before .before in
-    let at-put = at-put-pattern .before .before .before .before .before in
-    let at-loop = at-put .before .before .before in
-    let start = at-loop .before .before .before .before in
+    let at-put = c .before .before .before .before .before .before .before in
+    let start = at-put .before .before .before .before .before .before .before in
     let s = start .args .s in
-    let l = at-loop .loop in
+    let l = at-put .before .before .before .loop in
     further-on (patternAt (s .items)) (l .i) (s .count - 1 + 1) (l .inv) (search needs) (at-put .put .ensures)
-    (at-put-pattern .put-pattern .ensures)
+    (c .before .before .put-pattern .ensures)
 
 same-length : tie.Need-same-length Inv-loop μ-loop
 same-length c = same-size (c .before .loop .inv)

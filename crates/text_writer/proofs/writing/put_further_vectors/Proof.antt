@@ -27,25 +27,23 @@ put-requires c κs =
 
 put-vector-at-requires : tie.Need-put-vector-at-requires Inv-loop μ-loop
 put-vector-at-requires c κs =
-    let after-put = c .before .before .before in
-    let at-loop = after-put .before .before .before in
+    let at-loop = c .before .before .before .before .before .before in
     let start-at = at-loop .before .before in
     let e = start-at .args .e in
     let h = start-at .pre in (
       h .0,
       search needs,
       room-rest (further-room (vectorAt e) (at-loop .loop .i) (e .«gap_count»)
-          (at-loop .loop .inv) (search needs) (h .1)) (after-put .put .ensures),
+          (at-loop .loop .inv) (search needs) (h .1)) (c .before .before .before .put .ensures),
     )
 
 loop-again : tie.Need-loop-again Inv-loop μ-loop
 loop-again c =
-    let after-vector = c .before .before in
-    let after-put = after-vector .before .before .before .before in
+    let after-put = c .before .before .before .before .before .before in
     let at-loop = after-put .before .before .before in
     let e = at-loop .before .before .args .e in
     further-on (vectorAt e) (at-loop .loop .i) (e .«gap_count») (at-loop .loop .inv) (search needs)
-    (after-put .put .ensures) (after-vector .put-vector-at .ensures)
+    (after-put .put .ensures) (c .before .before .put-vector-at .ensures)
 
 same-length : tie.Need-same-length Inv-loop μ-loop
 same-length c = same-size (c .before .loop .inv)

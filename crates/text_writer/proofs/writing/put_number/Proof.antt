@@ -14,10 +14,9 @@ put-decimal-requires c κs =
 
 returns : tie.Need-returns
 returns c =
-    let at-put-decimal = c .before .before in
-    let start = at-put-decimal .before .before .before in
+    let start = c .before .before .before .before .before in
     let h = start .pre in
-    writes-as (at-put-decimal .put-decimal .ensures .0) (sym (numeral-decimal (start .args .n) (h .0)))
+    writes-as (c .before .before .put-decimal .ensures .0) (sym (numeral-decimal (start .args .n) (h .0)))
 
 pub put-number-spec : {M : Type 1} → statement M
 put-number-spec = tie.close (tie.spec put-decimal-requires (λ c. search needs) returns)

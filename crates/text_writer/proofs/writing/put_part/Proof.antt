@@ -18,11 +18,9 @@ put-number-requires c κs =
 
 returns : tie.Need-returns
 returns c =
-    let at-put-number = c .before .before in
-    let at-wide = at-put-number .before in
-    let start = at-wide .before .before .before in
-    let same = ap (λ (n : ℕ). bytesOf (digits (numeral n))) (at-wide .wide .ensures .0) in
-    writes-as (at-put-number .put-number .ensures) (same ∙ sym (text-one (digits (numeral (start .args .x)))))
+    let start = c .before .before .before .before .before .before in
+    let same = ap (λ (n : ℕ). bytesOf (digits (numeral n))) (c .before .before .before .wide .ensures .0) in
+    writes-as (c .before .before .put-number .ensures) (same ∙ sym (text-one (digits (numeral (start .args .x)))))
 
 pub put-part-spec : {M : Type 1} → statement M
 put-part-spec = tie.close (tie.spec (λ c κs. search needs) put-number-requires (λ c. search needs) returns)

@@ -21,10 +21,9 @@ put-permutation-requires c κs =
 
 returns : tie.Need-returns
 returns c =
-    let at-put-permutation = c .before .before in
-    let start = at-put-permutation .before .before .before .before .before in
+    let start = c .before .before .before .before .before .before .before in
     let p = start .args .p in
-    writes-as (at-put-permutation .put-permutation .ensures) (sym (text-one (permPiece (patternIn p))))
+    writes-as (c .before .before .put-permutation .ensures) (sym (text-one (permPiece (patternIn p))))
 
 pub put-pattern-spec : {M : Type 1} → statement M
 put-pattern-spec =

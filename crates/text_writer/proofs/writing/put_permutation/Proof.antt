@@ -10,17 +10,15 @@ use Rattle.text_writer.proofs.writing.put_permutation.Tie as tie
 
 put-bytes-requires : tie.Need-put-bytes-requires
 put-bytes-requires c κs =
-    let at-if1 = c .before .before in
-    let start = at-if1 .before .before .before in
+    let start = c .before .before .before .before .before in
     let a = start .args in
-    room-as (start .pre .1) (perm-none (a .n) (a .run .now) (at-if1 .if1 .taken))
+    room-as (start .pre .1) (perm-none (a .n) (a .run .now) (c .before .before .if1 .taken))
 
 returns : tie.Need-returns
 returns c =
-    let at-put-bytes = c .before .before in
-    let start = at-put-bytes .before .before .before .before .before .before in
+    let start = c .before .before .before .before .before .before .before .before in
     let a = start .args in
-    writes-as (at-put-bytes .put-bytes .ensures) (sym (perm-none (a .n) (a .run .now) (search needs)))
+    writes-as (c .before .before .put-bytes .ensures) (sym (perm-none (a .n) (a .run .now) (search needs)))
 
 put-digits-requires : tie.Need-put-digits-requires
 put-digits-requires c κs =
@@ -31,11 +29,10 @@ put-digits-requires c κs =
 
 returns-2 : tie.Need-returns-2
 returns-2 c =
-    let at-put-digits = c .before .before in
-    let start = at-put-digits .before .before .before .before .before in
+    let start = c .before .before .before .before .before .before .before in
     let a = start .args in
     let p = start .pre in
-    writes-as (at-put-digits .put-digits .ensures) (sym (perm-some (a .n) (a .run .now) (p .0 .inside) (search needs)))
+    writes-as (c .before .before .put-digits .ensures) (sym (perm-some (a .n) (a .run .now) (p .0 .inside) (search needs)))
 
 pub put-permutation-spec : {M : Type 1} → statement M
 put-permutation-spec =

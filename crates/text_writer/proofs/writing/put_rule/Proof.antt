@@ -15,28 +15,25 @@ enum-told c = search needs
 
 put-bytes-requires : tie.Need-put-bytes-requires
 put-bytes-requires c κs =
-    let at-enum-told = c .before .before in
-    let start = at-enum-told .before .before .before in
-    room-as (start .pre .1) (ap (λ (r : Rule). text (rulePieces (doesOf r))) (at-enum-told .enum-told .given .1))
+    let start = c .before .before .before .before .before in
+    room-as (start .pre .1) (ap (λ (r : Rule). text (rulePieces (doesOf r))) (c .before .before .enum-told .given .1))
 
 put-deleted-requires : tie.Need-put-deleted-requires
 put-deleted-requires c κs =
-    let at-rule = c .before .before in
-    let start = at-rule .before .before .before in
-    let told = at-rule .rule .given in
+    let start = c .before .before .before .before .before in
+    let told = c .before .before .rule .given in
     (start .pre .0 .short (told .0 .0) (told .1), room-as (start .pre .1) (ap (λ (r : Rule). text (rulePieces (doesOf r))) (told .1)))
 
 returns : tie.Need-returns
 returns c =
-    let at-put-bytes = c .before .before in
-    let at-enum-told = at-put-bytes .before .before .before in
-    writes-as (at-put-bytes .put-bytes .ensures) (sym (ap (λ (r : Rule). text (rulePieces (doesOf r))) (at-enum-told .enum-told .given .1)))
+    let at-enum-told = c .before .before .before .before .before in
+    writes-as (c .before .before .put-bytes .ensures)
+    (sym (ap (λ (r : Rule). text (rulePieces (doesOf r))) (at-enum-told .enum-told .given .1)))
 
 returns-2 : tie.Need-returns-2
 returns-2 c =
-    let at-put-deleted = c .before .before in
-    let at-rule = at-put-deleted .before .before .before in
-    writes-as (at-put-deleted .put-deleted .ensures) (sym (ap (λ (r : Rule). text (rulePieces (doesOf r))) (at-rule .rule .given .1)))
+    let at-rule = c .before .before .before .before .before in
+    writes-as (c .before .before .put-deleted .ensures) (sym (ap (λ (r : Rule). text (rulePieces (doesOf r))) (at-rule .rule .given .1)))
 
 pub put-rule-spec : {M : Type 1} → statement M
 put-rule-spec =

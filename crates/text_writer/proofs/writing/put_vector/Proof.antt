@@ -16,24 +16,22 @@ seven-parts start = (let o = start .good in search needs)
 
 put-part-requires : tie.Need-put-part-requires
 put-part-requires c κs =
-    let at-put-bytes = c .before .before .before in
-    let start = at-put-bytes .before .before .before .before .before in
+    let start = c .before .before .before .before .before .before .before .before in
     let a = start .args in
     let h = start .pre in
     let seven = seven-parts start in
     let whole = start-as _ _ (a .at) (a .page .now) (text-vector (a .g .width) (a .g .parts) (h .0 .some) (omega arith)) in
-    room-next _ _ (h .1) (step whole (at-put-bytes .put-bytes .ensures)) refl
+    room-next _ _ (h .1) (step whole (c .before .before .before .put-bytes .ensures)) refl
 
 put-further-parts-requires : tie.Need-put-further-parts-requires
 put-further-parts-requires c κs =
-    let at-put-part = c .before .before .before in
-    let at-put-bytes = at-put-part .before .before .before .before in
+    let at-put-bytes = c .before .before .before .before .before .before .before in
     let start = at-put-bytes .before .before .before .before .before in
     let a = start .args in
     let h = start .pre in
     let seven = seven-parts start in
     let whole = start-as _ _ (a .at) (a .page .now) (text-vector (a .g .width) (a .g .parts) (h .0 .some) (omega arith)) in
-    (h .0, room-next _ _ (h .1) (step (step whole (at-put-bytes .put-bytes .ensures)) (at-put-part .put-part .ensures)) refl)
+    (h .0, room-next _ _ (h .1) (step (step whole (at-put-bytes .put-bytes .ensures)) (c .before .before .before .put-part .ensures)) refl)
 
 put-bytes-requires-2 : tie.Need-put-bytes-requires-2
 put-bytes-requires-2 c κs =
@@ -50,8 +48,7 @@ put-bytes-requires-2 c κs =
 
 returns : tie.Need-returns
 returns c =
-    let at-put-bytes2 = c .before .before in
-    let at-put-further-parts = at-put-bytes2 .before .before .before .before .before in
+    let at-put-further-parts = c .before .before .before .before .before .before .before in
     let at-put-part = at-put-further-parts .before .before .before .before in
     let at-put-bytes = at-put-part .before .before .before .before in
     let start = at-put-bytes .before .before .before .before .before in
@@ -60,7 +57,7 @@ returns c =
     let seven = seven-parts start in
     let whole = start-as _ _ (a .at) (a .page .now) (text-vector (a .g .width) (a .g .parts) (h .0 .some) (omega arith)) in
     finish-by (step (step (step whole (at-put-bytes .put-bytes .ensures)) (at-put-part .put-part .ensures))
-    (at-put-further-parts .put-further-parts .ensures)) (at-put-bytes2 .put-bytes2 .ensures)
+    (at-put-further-parts .put-further-parts .ensures)) (c .before .before .put-bytes2 .ensures)
 
 pub put-vector-spec : {M : Type 1} → statement M
 put-vector-spec =

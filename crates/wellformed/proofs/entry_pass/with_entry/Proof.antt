@@ -11,22 +11,19 @@ use Rattle.wellformed.proofs.entry_pass.with_entry.Tie as tie
 
 returns : tie.Need-returns
 returns c =
-    let d = c .before in
-    let c3 = d .before in
-    let w = c3 .before in
-    let b2 = w .before in
-    let t = b2 .before in
-    let a1 = t .before in
-    let p = a1 .before in
+    let b2 = c .before .before .before .before in
+    let p = b2 .before .before .before in
     let a = p .before .before .args in
     let e = a .e in
     record {
-      none = a1 .noted .ensures ∙ ap (λ (x : Bool). orElse (a .found .none) (faultIf (not x) NoPermutation (a .i)))
+      none = b2 .before .before .noted .ensures ∙ ap (λ (x : Bool). orElse (a .found .none) (faultIf (not x) NoPermutation (a .i)))
           (p .is-permuted .ensures);
-      twin = b2 .noted2 .ensures ∙ ap (λ (x : Bool). orElse (a .found .twin) (faultIf x Repeated (a .i))) (t .is-twin .ensures);
-      width = c3 .noted3 .ensures ∙ ap (λ (x : Bool). orElse (a .found .width) (faultIf x Width (a .i))) (w .wrong-width .ensures);
+      twin = b2 .noted2 .ensures ∙ ap (λ (x : Bool). orElse (a .found .twin) (faultIf x Repeated (a .i))) (b2 .before .is-twin .ensures);
+      width = c .before .before .noted3 .ensures ∙
+          ap (λ (x : Bool). orElse (a .found .width) (faultIf x Width (a .i)))
+          (c .before .before .before .wrong-width .ensures);
       position = c .noted4 .ensures ∙ ap (λ (x : Bool). orElse (a .found .position) (faultIf x NoPosition (a .i)))
-          (d .is-outside .ensures ∙ sym (outside-length (e .length) (e .prefix) (doesOf (e .rule))));
+          (c .before .is-outside .ensures ∙ sym (outside-length (e .length) (e .prefix) (doesOf (e .rule))));
     }
 
 pub with-entry-spec : {M : Type 1} → statement M

@@ -27,35 +27,32 @@ loop-holds c = (omega arith, repeats-start (gapAt (c .args .e)) (c .args .e .«g
 
 stands-from-requires : tie.Need-stands-from-requires Inv-loop μ-loop
 stands-from-requires c κs =
-    let at-loop = c .before .before in
-    let begin = at-loop .before in
-    let l = at-loop .loop in
+    let begin = c .before .before .before in
+    let l = c .before .before .loop in
     let width = ap (λ (g : Gap). g .width) (c .entry-gap .ensures) in
     (begin .pre, omega arith, omega (arith, width, begin .pre .narrow (l .j) (omega arith)))
 
 returns : tie.Need-returns Inv-loop μ-loop
 returns c =
-    let at-entry-gap = c .before .before in
-    let at-loop = at-entry-gap .before .before in
+    let at-loop = c .before .before .before .before in
     let start = at-loop .before in
     let e = start .args .e in
     let l = at-loop .loop in
     let later = map (gapAt e) (row (l .j + 1) (e .«gap_count» - (l .j + 1))) in
     let stands =
-    c .before .stands-from .ensures ∙ ap (λ (g : Gap). listed later (gapIn g)) (at-entry-gap .entry-gap .ensures)
+    c .before .stands-from .ensures ∙ ap (λ (g : Gap). listed later (gapIn g)) (c .before .before .entry-gap .ensures)
     ∙ ap (any (same (gapAt e (l .j)))) (from-at (gapAt e) (e .«gap_count») (l .j + 1)) in
     sym (l .inv .1 ∙ repeats-here (gapAt e) (e .«gap_count») (l .j) (omega arith) (sym stands ∙ c .if1 .taken))
 
 loop-again : tie.Need-loop-again Inv-loop μ-loop
 loop-again c =
-    let at-entry-gap = c .before .before in
-    let at-loop = at-entry-gap .before .before in
+    let at-loop = c .before .before .before .before in
     let start = at-loop .before in
     let e = start .args .e in
     let l = at-loop .loop in
     let later = map (gapAt e) (row (l .j + 1) (e .«gap_count» - (l .j + 1))) in
     let stands =
-    c .before .stands-from .ensures ∙ ap (λ (g : Gap). listed later (gapIn g)) (at-entry-gap .entry-gap .ensures)
+    c .before .stands-from .ensures ∙ ap (λ (g : Gap). listed later (gapIn g)) (c .before .before .entry-gap .ensures)
     ∙ ap (any (same (gapAt e (l .j)))) (from-at (gapAt e) (e .«gap_count») (l .j + 1)) in
     (omega arith, l .inv .1 ∙ repeats-later (gapAt e) (e .«gap_count») (l .j) (omega arith) (sym stands ∙ c .if1 .left))
 

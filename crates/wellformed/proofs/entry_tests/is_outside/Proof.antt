@@ -9,18 +9,16 @@ use Rattle.wellformed.proofs.entry_tests.is_outside.Tie as tie
 
 returns : tie.Need-returns
 returns c =
-    let at-rule = c .before .before in
-    let start = at-rule .before .before in
+    let start = c .before .before .before .before in
     let a = start .args in
-    let rule = at-rule .rule .given in
+    let rule = c .before .before .rule .given in
     sym (outside-none (a .k) (a .rule) (rule .0 .0) (rule .1) (omega arith))
 
 returns-3 : tie.Need-returns-3
 returns-3 c =
-    let at-rule = c .before .before in
-    let start = at-rule .before .before in
+    let start = c .before .before .before .before in
     let a = start .args in
-    let rule = at-rule .rule .given in
+    let rule = c .before .before .rule .given in
     sym (outside-above (a .k) (a .rule) (rule .0 .0) (rule .1) (omega arith))
 
 pub is-outside-spec : {M : Type 1} → statement M

@@ -33,22 +33,20 @@ loop-holds c = (omega arith, c .if2 .left, entry-by-gaps (c .before .before .arg
 
 returns-3 : tie.Need-returns-3 Inv-loop μ-loop
 returns-3 c =
-    let at-entry-gap = c .before .before in
-    let at-loop = at-entry-gap .before .before in
+    let at-loop = c .before .before .before .before in
     let start = at-loop .before .before .before in
     let e = start .args .e in
     let l = at-loop .loop in
-    let large = c .before .large-gap .ensures ∙ ap (λ (g : Gap). largeGap (gapIn g)) (at-entry-gap .entry-gap .ensures) in
+    let large = c .before .large-gap .ensures ∙ ap (λ (g : Gap). largeGap (gapIn g)) (c .before .before .entry-gap .ensures) in
     sym (l .inv .2 ∙ any-here largeGap (gapAt e) (e .«gap_count») (l .j) (omega arith) (sym large ∙ c .if3 .taken))
 
 loop-again : tie.Need-loop-again Inv-loop μ-loop
 loop-again c =
-    let at-entry-gap = c .before .before in
-    let at-loop = at-entry-gap .before .before in
+    let at-loop = c .before .before .before .before in
     let start = at-loop .before .before .before in
     let e = start .args .e in
     let l = at-loop .loop in
-    let large = c .before .large-gap .ensures ∙ ap (λ (g : Gap). largeGap (gapIn g)) (at-entry-gap .entry-gap .ensures) in
+    let large = c .before .large-gap .ensures ∙ ap (λ (g : Gap). largeGap (gapIn g)) (c .before .before .entry-gap .ensures) in
     (omega arith, l .inv .1, l .inv .2 ∙ any-later largeGap (gapAt e) (e .«gap_count») (l .j) (omega arith) (sym large ∙ c .if3 .left))
 
 returns-4 : tie.Need-returns-4 Inv-loop μ-loop

@@ -44,16 +44,15 @@ returns-2 c =
 
 loop-again : tie.Need-loop-again Inv-loop μ-loop
 loop-again c =
-    let at-wide = c .before in
-    let at-loop = at-wide .before .before .before in
+    let at-loop = c .before .before .before .before in
     let start = at-loop .before .before in
     let b = start .args .t1 in
     let l = at-loop .loop in
     let seven : length (b .parts) ≡ COMPONENTS = search needs in
     let more = total-more (b .parts) (b .width) (omega arith) (l .i) (omega arith) in
     let added : l .sum + total (drop (l .i) (gapIn b)) ≡
-    l .sum + at-wide .wide .result + total (drop (l .i + 1) (gapIn b)) =
-    omega (arith, more, at-wide .wide .ensures .0) in
+    l .sum + c .before .wide .result + total (drop (l .i + 1) (gapIn b)) =
+    omega (arith, more, c .before .wide .ensures .0) in
     (omega arith, omega arith, l .inv .2, refl, l .inv .4 ∙ ap (ltb TOTAL) added)
 
 returns-3 : tie.Need-returns-3 Inv-loop μ-loop

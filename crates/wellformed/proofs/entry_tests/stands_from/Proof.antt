@@ -22,33 +22,30 @@ abbrev μ-loop : tie.MeasureT-loop
 
 same-gap-requires : tie.Need-same-gap-requires Inv-loop μ-loop
 same-gap-requires c κs =
-    let at-loop = c .before .before in
-    let begin = at-loop .before in
-    let l = at-loop .loop in
+    let begin = c .before .before .before in
+    let l = c .before .before .loop in
     let width = ap (λ (g : Gap). g .width) (c .entry-gap .ensures) in
     (begin .pre .2, omega (arith, width, begin .pre .0 .narrow (l .j) (omega arith)))
 
 returns : tie.Need-returns Inv-loop μ-loop
 returns c =
-    let at-entry-gap = c .before .before in
-    let at-loop = at-entry-gap .before .before in
+    let at-loop = c .before .before .before .before in
     let start = at-loop .before in
     let e = start .args .e in
     let b = start .args .b in
     let l = at-loop .loop in
-    let alike = c .before .same-gap .ensures ∙ ap (λ (g : Gap). same (gapIn b) (gapIn g)) (at-entry-gap .entry-gap .ensures) in
+    let alike = c .before .same-gap .ensures ∙ ap (λ (g : Gap). same (gapIn b) (gapIn g)) (c .before .before .entry-gap .ensures) in
     let here = any-here (same (gapIn b)) (gapAt e) (e .«gap_count») (l .j) (omega arith) (sym alike ∙ c .if1 .taken) in
     sym (ap (any (same (gapIn b))) (from-at (gapAt e) (e .«gap_count») (start .args .start)) ∙ l .inv .1 ∙ here)
 
 loop-again : tie.Need-loop-again Inv-loop μ-loop
 loop-again c =
-    let at-entry-gap = c .before .before in
-    let at-loop = at-entry-gap .before .before in
+    let at-loop = c .before .before .before .before in
     let start = at-loop .before in
     let e = start .args .e in
     let b = start .args .b in
     let l = at-loop .loop in
-    let alike = c .before .same-gap .ensures ∙ ap (λ (g : Gap). same (gapIn b) (gapIn g)) (at-entry-gap .entry-gap .ensures) in
+    let alike = c .before .same-gap .ensures ∙ ap (λ (g : Gap). same (gapIn b) (gapIn g)) (c .before .before .entry-gap .ensures) in
     (omega arith, l .inv .1 ∙ any-later (same (gapIn b)) (gapAt e) (e .«gap_count») (l .j) (omega arith) (sym alike ∙ c .if1 .left))
 
 returns-2 : tie.Need-returns-2 Inv-loop μ-loop

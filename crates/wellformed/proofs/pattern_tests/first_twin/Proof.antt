@@ -35,26 +35,22 @@ loop-holds c = let s = c .args .s in twin-start listed (placeIn s) (s .count)
 
 returns : tie.Need-returns Inv-loop μ-loop
 returns c =
-    let at-earlier-twin = c .before in
-    let at-loop = at-earlier-twin .before .before in
-    let start = at-loop .before in
+    let start = c .before .before .before .before in
     let s = start .args .s in
-    let l = at-loop .loop in
-    let t = sym (nearest s (l .i) (at-earlier-twin .earlier-twin .result)
-    (at-earlier-twin .earlier-twin .ensures)) ∙
-    lt-ltb (at-earlier-twin .earlier-twin .result) (l .i) (c .if1 .taken) in
+    let l = c .before .before .before .loop in
+    let t = sym (nearest s (l .i) (c .before .earlier-twin .result)
+    (c .before .earlier-twin .ensures)) ∙
+    lt-ltb (c .before .earlier-twin .result) (l .i) (c .if1 .taken) in
     ap faultOf (sym (l .inv ∙ twin-here listed (placeIn s) (s .count) (l .i) (omega arith) t))
 
 loop-again : tie.Need-loop-again Inv-loop μ-loop
 loop-again c =
-    let at-earlier-twin = c .before in
-    let at-loop = at-earlier-twin .before .before in
-    let start = at-loop .before in
+    let start = c .before .before .before .before in
     let s = start .args .s in
-    let l = at-loop .loop in
-    let t = sym (nearest s (l .i) (at-earlier-twin .earlier-twin .result)
-    (at-earlier-twin .earlier-twin .ensures)) ∙
-    le-ltb (at-earlier-twin .earlier-twin .result) (l .i) (c .if1 .left) in
+    let l = c .before .before .before .loop in
+    let t = sym (nearest s (l .i) (c .before .earlier-twin .result)
+    (c .before .earlier-twin .ensures)) ∙
+    le-ltb (c .before .earlier-twin .result) (l .i) (c .if1 .left) in
     l .inv ∙ twin-later listed (placeIn s) (s .count) (l .i) (omega arith) t
 
 returns-2 : tie.Need-returns-2 Inv-loop μ-loop

@@ -37,10 +37,9 @@ slice-aggregate-is-permutation c =
 
 returns-3 : tie.Need-returns-3
 returns-3 c =
-    let place = c .before .before in
-    let start = place .before .before .before in
+    let start = c .before .before .before .before .before in
     let p = start .args .p in
-    let eight : length (p .digits) ≡ DIGITS = (let o = place in search needs) in
+    let eight : length (p .digits) ≡ DIGITS = (let o = (c .before .before) in search needs) in
     ap not (c .is-permutation .ensures ∙ sym (pattern-within (p .digits) (p .length) (omega arith) (omega arith)))
 
 pub no-pattern-spec : {M : Type 1} → statement M

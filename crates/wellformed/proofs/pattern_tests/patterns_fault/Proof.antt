@@ -13,14 +13,12 @@ returns c = let s = c .before .before .args .s in sym (many-patterns s (c .if1 .
 
 returns-2 : tie.Need-returns-2
 returns-2 c =
-    let at-first-twin = c .before .before in
-    let at-first-none = at-first-twin .before in
-    let at-first-long = at-first-none .before in
-    let at-if1 = at-first-long .before in
-    let start = at-if1 .before .before in
+    let at-first-long = c .before .before .before .before in
+    let start = at-first-long .before .before .before in
     let s = start .args .s in
-    let later = c .before .earlier .ensures ∙ ap₂ orElse (at-first-none .first-none .ensures) (at-first-twin .first-twin .ensures) in
-    c .earlier2 .ensures ∙ ap₂ orElse (at-first-long .first-long .ensures) later ∙ sym (few-patterns s (at-if1 .if1 .left))
+    let later = c .before .earlier .ensures ∙
+    ap₂ orElse (c .before .before .before .first-none .ensures) (c .before .before .first-twin .ensures) in
+    c .earlier2 .ensures ∙ ap₂ orElse (at-first-long .first-long .ensures) later ∙ sym (few-patterns s (at-first-long .before .if1 .left))
 
 pub patterns-fault-spec : {M : Type 1} → statement M
 patterns-fault-spec =

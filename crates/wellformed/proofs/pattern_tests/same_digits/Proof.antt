@@ -55,8 +55,7 @@ slice-aggregate-same-bytes-2 c =
 
 returns-2 : tie.Need-returns-2
 returns-2 c =
-    let short = c .before .before .before in
-    let o = short .before in
+    let o = c .before .before .before .before in
     let a = o .before .before .before .before .args in
     let n = a .p .length in
     c .same-bytes .ensures ∙
@@ -66,8 +65,7 @@ returns-2 c =
 
 returns-3 : tie.Need-returns-3
 returns-3 c =
-    let long = c .before .before .before in
-    let o = long .before in
+    let o = c .before .before .before .before in
     let a = o .before .before .before .before .args in
     let (first, second) = all-digits o in
     c .same-bytes2 .ensures ∙ sym (same-padded (a .p .length) (a .p .digits) (a .q .digits) (first ∙ sym second) (omega (arith, first))) ∙

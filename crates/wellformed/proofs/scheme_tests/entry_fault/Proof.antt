@@ -8,14 +8,12 @@ use Rattle.wellformed.proofs.scheme_tests.entry_fault.Tie as tie
 
 returns : tie.Need-returns
 returns c =
-    let third = c .before in
-    let second = third .before in
-    let first = second .before in
-    let root = first .before in
+    let root = c .before .before .before .before in
     let f = root .before .before .args .found in
     λ ps w.
-    c .earlier4 .ensures ∙ ap (orElse (f .none)) (third .earlier3 .ensures ∙ ap (orElse (f .twin)) (second .earlier2 .ensures ∙
-    ap₂ orElse (root .root-fault .ensures ps w) (first .earlier .ensures)))
+    c .earlier4 .ensures ∙ ap (orElse (f .none)) (c .before .earlier3 .ensures ∙ ap (orElse (f .twin))
+    (c .before .before .earlier2 .ensures ∙
+    ap₂ orElse (root .root-fault .ensures ps w) (c .before .before .before .earlier .ensures)))
 
 pub entry-fault-spec : {M : Type 1} → statement M
 entry-fault-spec =

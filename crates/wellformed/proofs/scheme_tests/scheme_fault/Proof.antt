@@ -43,12 +43,11 @@ element-copy-out-e c = let few = c .before .loop .inv .few in omega arith
 
 returns-2 : tie.Need-returns-2 Inv-loop μ-loop
 returns-2 c =
-    let test = c .before in
-    let turn = test .before .before in
+    let turn = c .before .before .before in
     let l = turn .before .loop in
     let s = turn .before .before .before .before .args .t1 in
     let large = ap faultOf (pass-large s (l .found) (l .codes) (l .i) (l .inv) (turn .loop-test .taken)
-    (sym (test .large-entry .ensures) ∙ c .if2 .taken)) in
+    (sym (c .before .large-entry .ensures) ∙ c .if2 .taken)) in
     large ∙ sym (scheme-by-size (schemeIn s) (At Oversize (l .i)) large refl)
 
 entry-code-requires : tie.Need-entry-code-requires Inv-loop μ-loop
@@ -128,8 +127,7 @@ array-share-prefix-codes c = room c
 
 slice-aggregate-entry-fault : tie.Need-slice-aggregate-entry-fault Inv-loop μ-loop
 slice-aggregate-entry-fault c =
-    let o = c .before in
-    sym (length-take-le (o .before .before .before .before .args .t1 .count) (o .before .loop .codes) (room o))
+    sym (length-take-le (c .before .before .before .before .before .args .t1 .count) (c .before .before .loop .codes) (room (c .before)))
 
 returns-3 : tie.Need-returns-3 Inv-loop μ-loop
 returns-3 c =
@@ -151,22 +149,20 @@ slice-aggregate-link-faults c =
 
 link-faults-requires : tie.Need-link-faults-requires Inv-loop μ-loop
 link-faults-requires c κs =
-    let q = c .before in
-    let f = q .before .before in
+    let f = c .before .before .before in
     let o = f .before .before in
     let s = o .before .before .before .before .args .t1 in
-    let clean = not-faulty (f .entry-fault .result) (sym (q .before .is-fault .ensures) ∙ q .if3 .left) in
+    let clean = not-faulty (f .entry-fault .result) (sym (c .before .before .is-fault .ensures) ∙ c .before .if3 .left) in
     (linked-of-clean s (sized-of-clean s (size-clean o)) (sym (size-clean o)) (sym (entries f) ∙ clean), codes o)
 
 returns-4 : tie.Need-returns-4 Inv-loop μ-loop
 returns-4 c =
-    let links = c .before in
-    let q = links .before .before in
+    let q = c .before .before .before in
     let f = q .before .before in
     let o = f .before .before in
     let E = schemeIn (o .before .before .before .before .args .t1) in
     let clean = sym (q .before .is-fault .ensures) ∙ q .if3 .left in
-    c .link-fault .ensures ∙ ap₂ orElse (links .link-faults .ensures .0) (links .link-faults .ensures .1) ∙
+    c .link-fault .ensures ∙ ap₂ orElse (c .before .link-faults .ensures .0) (c .before .link-faults .ensures .1) ∙
     sym (two-faults (childTest E) (targetTest E)) ∙
     sym (scheme-by-links E Clean (size-clean o) refl (f .entry-fault .result) (entries f) clean)
 

@@ -34,34 +34,31 @@ returns c =
 
 returns-2 : tie.Need-returns-2 Inv-loop μ-loop
 returns-2 c =
-    let at-first-copy = c .before in
-    let at-loop = at-first-copy .before .before .before .before in
+    let at-loop = c .before .before .before .before .before in
     let start = at-loop .before .before in
     let a = start .args in
     let l = at-loop .loop in
     let copy = found-contains (take (getD (a .t2) (l .i) 0) (getD (a .t1) (l .i) [])) (a .w .now)
-    (at-first-copy .first-copy .result) (at-first-copy .first-copy .ensures) in
+    (c .before .first-copy .result) (c .before .first-copy .ensures) in
     sym (l .inv ∙ some-here (a .t1) (a .t2) (a .count) (a .w .now) (l .i) (search needs) (search needs)
     (omega arith) (sym copy ∙ c .if2 .taken))
 
 loop-again : tie.Need-loop-again Inv-loop μ-loop
 loop-again c =
-    let at-first-copy = c .before in
-    let at-loop = at-first-copy .before .before .before .before in
+    let at-loop = c .before .before .before .before .before in
     let start = at-loop .before .before in
     let a = start .args in
     let l = at-loop .loop in
     let copy = found-contains (take (getD (a .t2) (l .i) 0) (getD (a .t1) (l .i) [])) (a .w .now)
-    (at-first-copy .first-copy .result) (at-first-copy .first-copy .ensures) in
+    (c .before .first-copy .result) (c .before .first-copy .ensures) in
     l .inv ∙ some-later (a .t1) (a .t2) (a .count) (a .w .now) (l .i) (search needs) (search needs) (omega arith) (sym copy ∙ c .if2 .left)
 
 returns-3 : tie.Need-returns-3 Inv-loop μ-loop
 returns-3 c =
-    let at-loop = c .before in
-    let start = at-loop .before .before in
+    let start = c .before .before .before in
     let a = start .args in
     let rows : length (a .t1) ≡ 24 = search needs in
-    sym (at-loop .loop .inv ∙ some-end (a .t1) (a .t2) (a .count) (a .w .now) (at-loop .loop .i) (omega arith))
+    sym (c .before .loop .inv ∙ some-end (a .t1) (a .t2) (a .count) (a .w .now) (c .before .loop .i) (omega arith))
 
 pub any-in-spec : {M : Type 1} → statement M
 any-in-spec =

@@ -34,40 +34,33 @@ returns-2 c =
 
 returns-3 : tie.Need-returns-3
 returns-3 c =
-    let at-if2 = c .before .before in
-    let at-if1 = at-if2 .before in
-    let start = at-if1 .before .before .before in
+    let start = c .before .before .before .before .before .before in
     let a = start .args in
     let p : isPerm (a .pattern .now) ≡ false = sym (c .before .is-permutation .ensures) ∙ not-true _ (c .if3 .taken) in
     decides (a .pattern .now) (a .permutation .now) _ (sym
-    (no-pattern (a .pattern .now) (a .permutation .now) (at-if1 .if1 .left) (at-if2 .if2 .left) p))
+    (no-pattern (a .pattern .now) (a .permutation .now) (c .before .before .before .if1 .left) (c .before .before .if2 .left) p))
 
 returns-4 : tie.Need-returns-4
 returns-4 c =
-    let at-is-permutation = c .before .before in
-    let at-if2 = at-is-permutation .before in
-    let at-if1 = at-if2 .before in
+    let at-if1 = c .before .before .before .before in
     let start = at-if1 .before .before .before in
     let a = start .args in
-    let p : isPerm (a .pattern .now) ≡ true = sym (at-is-permutation .is-permutation .ensures) ∙ not-false _ (c .before .if3 .left) in
+    let p : isPerm (a .pattern .now) ≡ true = sym (c .before .before .is-permutation .ensures) ∙ not-false _ (c .before .if3 .left) in
     decides (a .pattern .now) (a .permutation .now) _ (sym
-    (long-word (a .pattern .now) (a .permutation .now) (at-if1 .if1 .left) (at-if2 .if2 .left) p
+    (long-word (a .pattern .now) (a .permutation .now) (at-if1 .if1 .left) (c .before .before .before .if2 .left) p
     (c .if4 .taken)))
 
 returns-5 : tie.Need-returns-5
 returns-5 c =
-    let at-if4 = c .before .before in
-    let at-if3 = at-if4 .before in
-    let at-is-permutation = at-if3 .before in
-    let at-if2 = at-is-permutation .before in
-    let at-if1 = at-if2 .before in
-    let start = at-if1 .before .before .before in
+    let at-is-permutation = c .before .before .before .before in
+    let start = at-is-permutation .before .before .before .before .before in
     let a = start .args in
-    let p : isPerm (a .pattern .now) ≡ true = sym (at-is-permutation .is-permutation .ensures) ∙ not-false _ (at-if3 .if3 .left) in
+    let p : isPerm (a .pattern .now) ≡ true = sym (at-is-permutation .is-permutation .ensures) ∙
+    not-false _ (c .before .before .before .if3 .left) in
     let w : isPerm (a .permutation .now) ≡ false = sym (c .before .is-permutation2 .ensures) ∙ not-true _ (c .if5 .taken) in
     decides (a .pattern .now) (a .permutation .now) _ (sym
-    (no-word (a .pattern .now) (a .permutation .now) (at-if1 .if1 .left) (at-if2 .if2 .left) p
-    (at-if4 .if4 .left) w))
+    (no-word (a .pattern .now) (a .permutation .now) (at-is-permutation .before .before .if1 .left) (at-is-permutation .before .if2 .left) p
+    (c .before .before .if4 .left) w))
 
 -- past the tests the answer is whether a copy was found
 searched :
@@ -76,23 +69,20 @@ searched :
     (c .before .before .before .before .before .before .before .before .before .before .before .args .permutation .now) ≡
     cond (c .first-copy .result .found) Yes No
 searched c =
-    let at-digits-of = c .before in
-    let at-if5 = at-digits-of .before in
-    let at-is-permutation2 = at-if5 .before in
-    let at-if4 = at-is-permutation2 .before in
-    let at-if3 = at-if4 .before in
-    let at-is-permutation = at-if3 .before in
-    let at-if2 = at-is-permutation .before in
-    let at-if1 = at-if2 .before in
+    let at-if4 = c .before .before .before .before in
+    let at-if1 = at-if4 .before .before .before .before in
     let start = at-if1 .before .before .before in
     let a = start .args in
-    let p : isPerm (a .pattern .now) ≡ true = sym (at-is-permutation .is-permutation .ensures) ∙ not-false _ (at-if3 .if3 .left) in
-    let w : isPerm (a .permutation .now) ≡ true = sym (at-is-permutation2 .is-permutation2 .ensures) ∙ not-false _ (at-if5 .if5 .left) in
-    let same : take (length (a .pattern .now)) (at-digits-of .digits-of .result) ≡ a .pattern .now =
-    at-digits-of .digits-of .ensures ∙ take-all 8 (a .pattern .now) (at-if1 .if1 .left) in
-    let copy = found-contains (take (length (a .pattern .now)) (at-digits-of .digits-of .result))
+    let p : isPerm (a .pattern .now) ≡ true = sym (at-if4 .before .before .is-permutation .ensures) ∙
+    not-false _ (at-if4 .before .if3 .left) in
+    let w : isPerm (a .permutation .now) ≡ true = sym (c .before .before .before .is-permutation2 .ensures) ∙
+    not-false _ (c .before .before .if5 .left) in
+    let same : take (length (a .pattern .now)) (c .before .digits-of .result) ≡ a .pattern .now =
+    c .before .digits-of .ensures ∙ take-all 8 (a .pattern .now) (at-if1 .if1 .left) in
+    let copy = found-contains (take (length (a .pattern .now)) (c .before .digits-of .result))
     (a .permutation .now) (c .first-copy .result) (c .first-copy .ensures) in
-    answered (a .pattern .now) (a .permutation .now) (at-if1 .if1 .left) (at-if2 .if2 .left) p (at-if4 .if4 .left) w ∙
+    answered (a .pattern .now) (a .permutation .now) (at-if1 .if1 .left) (at-if4 .before .before .before .if2 .left)
+    p (at-if4 .if4 .left) w ∙
     ap {B = Contained} (λ (b : Bool). cond b Yes No) (sym (copy ∙ ap (λ (β : List ℕ). contains β (a .permutation .now)) same))
 
 returns-6 : tie.Need-returns-6

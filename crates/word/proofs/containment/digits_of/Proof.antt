@@ -18,9 +18,8 @@ abbrev μ-loop : tie.MeasureT-loop
 
 returns : tie.Need-returns Inv-loop μ-loop
 returns c =
-    let at-loop = c .before .before in
-    let start = at-loop .before in
-    let l = at-loop .loop in
+    let start = c .before .before .before in
+    let l = c .before .before .loop in
     let s = start .args .s .now in
     let whole : l .i ≡ length s = omega arith in
     let eight : length s ≤ 8 = omega arith in
@@ -28,9 +27,8 @@ returns c =
 
 loop-again : tie.Need-loop-again Inv-loop μ-loop
 loop-again c =
-    let at-loop = c .before .before .before in
-    let start = at-loop .before in
-    let l = at-loop .loop in
+    let start = c .before .before .before .before in
+    let l = c .before .before .before .loop in
     let s = start .args .s .now in
     let more : l .i < length s = omega arith in
     let room : l .i < length (l .digits) = omega arith in (

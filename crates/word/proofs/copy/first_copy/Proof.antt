@@ -46,21 +46,19 @@ capped-requires c κs = search needs
 
 returns : tie.Need-returns Inv-pairs μ-pairs Inv-positions μ-positions Inv-copy μ-copy
 returns c =
-    let at-capped = c .before in
-    let start = at-capped .before .before in
+    let start = c .before .before .before in
     let a = start .args in
     let eight : length (a .t1) ≡ 8 = search needs in
     sym (empty-copy (take (a .len) (a .t1)) (a .w .now)
-    (length-cut (a .t1) (a .w .now) (a .len) (at-capped .capped .result) eight (at-capped .capped .ensures) ∙
+    (length-cut (a .t1) (a .w .now) (a .len) (c .before .capped .result) eight (c .before .capped .ensures) ∙
     c .if1 .taken))
 
 copy-holds : tie.Need-copy-holds Inv-pairs μ-pairs Inv-positions μ-positions Inv-copy μ-copy
 copy-holds c =
-    let at-capped = c .before in
-    let start = at-capped .before .before in
+    let start = c .before .before .before in
     let a = start .args in
     let eight : length (a .t1) ≡ 8 = search needs in
-    walk-start (a .t1) (a .w .now) (a .len) (at-capped .capped .result) eight (at-capped .capped .ensures) (c .if1 .left)
+    walk-start (a .t1) (a .w .now) (a .len) (c .before .capped .result) eight (c .before .capped .ensures) (c .if1 .left)
 
 positions-holds :
     tie.Need-positions-holds Inv-pairs μ-pairs Inv-positions μ-positions Inv-copy μ-copy
@@ -94,11 +92,10 @@ positions-again :
     tie.Need-positions-again Inv-pairs μ-pairs Inv-positions μ-positions Inv-copy μ-copy
 positions-again c =
     let at-pairs = c .before .before in
-    let at-positions = at-pairs .before .before .before in
-    let at-capped = at-positions .before .before .before in
+    let at-capped = at-pairs .before .before .before .before .before .before in
     let start = at-capped .before .before in
     let a = start .args in
-    let s = at-positions .positions in
+    let s = at-pairs .before .before .before .positions in
     let k = at-capped .capped in
     let W = s .inv .0 in
     let eight : length (a .t1) ≡ 8 = search needs in
@@ -115,11 +112,10 @@ positions-again c =
 pairs-again : tie.Need-pairs-again Inv-pairs μ-pairs Inv-positions μ-positions Inv-copy μ-copy
 pairs-again c =
     let at-pairs = c .before .before in
-    let at-positions = at-pairs .before .before .before in
-    let at-capped = at-positions .before .before .before in
+    let at-capped = at-pairs .before .before .before .before .before .before in
     let start = at-capped .before .before in
     let a = start .args in
-    let s = at-positions .positions in
+    let s = at-pairs .before .before .before .positions in
     let k = at-capped .capped in
     let W = s .inv .0 in
     let eight : length (a .t1) ≡ 8 = search needs in
@@ -145,27 +141,24 @@ passed :
     let s = c .before .before .before .before .positions in
     fits (take (s .d) (a .t1)) (getD (a .t1) (s .d) 0) (take (s .d) (s .entries)) (getD (a .w .now) (s .i) 0) ≡ true
 passed c =
-    let at-pairs = c .before in
-    let at-positions = at-pairs .before .before .before in
-    let at-capped = at-positions .before .before .before in
-    let start = at-capped .before .before in
+    let at-positions = c .before .before .before .before in
+    let start = at-positions .before .before .before .before .before in
     let a = start .args in
     let s = at-positions .positions in
-    let k = at-capped .capped in
+    let k = at-positions .before .before .before .capped in
     let W = s .inv .0 in
     let eight : length (a .t1) ≡ 8 = search needs in
-    at-pairs .pairs .inv .1 ∙
-    pairs-none (a .t1) (s .entries) (getD (a .t1) (s .d) 0) (getD (a .w .now) (s .i) 0) (s .d) (at-pairs .pairs .j)
+    c .before .pairs .inv .1 ∙
+    pairs-none (a .t1) (s .entries) (getD (a .t1) (s .d) 0) (getD (a .w .now) (s .i) 0) (s .d) (c .before .pairs .j)
     (omega (arith, W .inside, k .ensures)) (omega (arith, W .inside, W .values, k .ensures)) (omega arith)
 
 copy-less : tie.Need-copy-less Inv-pairs μ-pairs Inv-positions μ-positions Inv-copy μ-copy
 copy-less c =
     let at-positions = c .before .before .before .before .before in
-    let at-capped = at-positions .before .before .before in
-    let start = at-capped .before .before in
+    let start = at-positions .before .before .before .before .before in
     let a = start .args in
     let s = at-positions .positions in
-    let k = at-capped .capped in
+    let k = at-positions .before .before .before .capped in
     let W = s .inv .0 in
     let more : s .i < length (a .w .now) = omega arith in
     let less = weight-place (k .result) (length (a .w .now)) (s .at) (s .d) (s .i) (W .inside) more
@@ -175,11 +168,10 @@ copy-less c =
 copy-again : tie.Need-copy-again Inv-pairs μ-pairs Inv-positions μ-positions Inv-copy μ-copy
 copy-again c =
     let at-positions = c .before .before .before .before .before in
-    let at-capped = at-positions .before .before .before in
-    let start = at-capped .before .before in
+    let start = at-positions .before .before .before .before .before in
     let a = start .args in
     let s = at-positions .positions in
-    let k = at-capped .capped in
+    let k = at-positions .before .before .before .capped in
     let eight : length (a .t1) ≡ 8 = search needs in
     let more : s .i < length (a .w .now) = omega arith in
     walk-on (a .t1) (a .w .now) (a .len) (k .result) eight (k .ensures) (s .at) (s .entries) (s .d) (s .i)
@@ -187,11 +179,10 @@ copy-again c =
 
 returns-2 : tie.Need-returns-2 Inv-pairs μ-pairs Inv-positions μ-positions Inv-copy μ-copy
 returns-2 c =
-    let at-positions = c .before .before in
-    let at-capped = at-positions .before .before .before in
+    let at-capped = c .before .before .before .before .before in
     let start = at-capped .before .before in
     let a = start .args in
-    let s = at-positions .positions in
+    let s = c .before .before .positions in
     let k = at-capped .capped in
     let eight : length (a .t1) ≡ 8 = search needs in
     let none-left = walk-none (a .t1) (a .w .now) (a .len) (k .result) eight (k .ensures) (s .at) (s .entries)
@@ -200,20 +191,18 @@ returns-2 c =
 
 copy-less-2 : tie.Need-copy-less-2 Inv-pairs μ-pairs Inv-positions μ-positions Inv-copy μ-copy
 copy-less-2 c =
-    let at-positions = c .before .before in
-    let at-capped = at-positions .before .before .before in
+    let at-capped = c .before .before .before .before .before in
     let start = at-capped .before .before in
-    let s = at-positions .positions in
+    let s = c .before .before .positions in
     let back = weight-back (at-capped .capped .result) (length (start .args .w .now)) (s .at) (s .d) (s .i) (c .if4 .left) in
     omega (arith, s .inv .1, back)
 
 copy-again-2 : tie.Need-copy-again-2 Inv-pairs μ-pairs Inv-positions μ-positions Inv-copy μ-copy
 copy-again-2 c =
-    let at-positions = c .before .before in
-    let at-capped = at-positions .before .before .before in
+    let at-capped = c .before .before .before .before .before in
     let start = at-capped .before .before in
     let a = start .args in
-    let s = at-positions .positions in
+    let s = c .before .before .positions in
     let k = at-capped .capped in
     let eight : length (a .t1) ≡ 8 = search needs in
     walk-back (a .t1) (a .w .now) (a .len) (k .result) eight (k .ensures) (s .at) (s .entries) (s .d) (s .i)
@@ -222,11 +211,10 @@ copy-again-2 c =
 returns-3 : tie.Need-returns-3 Inv-pairs μ-pairs Inv-positions μ-positions Inv-copy μ-copy
 returns-3 c =
     let at-positions = c .before .before .before .before .before in
-    let at-capped = at-positions .before .before .before in
-    let start = at-capped .before .before in
+    let start = at-positions .before .before .before .before .before in
     let a = start .args in
     let s = at-positions .positions in
-    let k = at-capped .capped in
+    let k = at-positions .before .before .before .capped in
     let eight : length (a .t1) ≡ 8 = search needs in
     let more : s .i < length (a .w .now) = omega arith in
     walk-found (a .t1) (a .w .now) (a .len) (k .result) eight (k .ensures) (s .at) (s .entries) (s .d) (s .i)

@@ -22,10 +22,9 @@ loop-holds c = listed-whole (c .before .args .s .now)
 
 returns : tie.Need-returns Inv-loop μ-loop
 returns c =
-    let at-loop = c .before .before .before in
-    let start = at-loop .before .before in
+    let start = c .before .before .before .before .before in
     let s = start .args .s .now in
-    let l = at-loop .loop in
+    let l = c .before .before .before .loop in
     sym (l .inv ∙ listed-none (length s) s (l .i) (omega arith) (c .if1 .taken))
 
 returns-2 : tie.Need-returns-2 Inv-loop μ-loop
@@ -47,13 +46,11 @@ returns-3 c =
 
 loop-again : tie.Need-loop-again Inv-loop μ-loop
 loop-again c =
-    let at-wide = c .before .before .before in
-    let at-if1 = at-wide .before in
-    let at-loop = at-if1 .before .before .before in
-    let start = at-loop .before .before in
+    let at-if1 = c .before .before .before .before in
+    let start = at-if1 .before .before .before .before .before in
     let s = start .args .s .now in
-    let l = at-loop .loop in
-    let inside : getD s (l .i) 0 ≤ length s = omega (arith, at-wide .wide .ensures .0) in
+    let l = at-if1 .before .before .before .loop in
+    let inside : getD s (l .i) 0 ≤ length s = omega (arith, c .before .before .before .wide .ensures .0) in
     l .inv ∙ listed-next (length s) s (l .i) (omega arith) (at-if1 .if1 .left) inside (sym (c .before .stands-from .ensures) ∙ c .if3 .left)
 
 returns-4 : tie.Need-returns-4 Inv-loop μ-loop

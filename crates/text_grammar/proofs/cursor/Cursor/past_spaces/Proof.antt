@@ -22,16 +22,14 @@ loop-holds c = (refl, omega arith, λ h. h)
 
 returns : tie.Need-returns Inv-loop μ-loop
 returns c =
-    let at-loop = c .before .before .before in
-    let l = at-loop .loop .inv in
+    let l = c .before .before .before .loop .inv in
     record { same = l .0; onward = l .1; inside = l .2; stopped = λ _. c .if1 .taken }
 
 loop-again : tie.Need-loop-again Inv-loop μ-loop
 loop-again c =
-    let at-loop = c .before .before .before in
-    let start = at-loop .before in
+    let start = c .before .before .before .before in
     let s = start .args .s .now in
-    let l = at-loop .loop in
+    let l = c .before .before .before .loop in
     (l .inv .0 ∙ space-next s (l .at) (omega arith) (c .if1 .left), omega arith, λ h. omega arith)
 
 returns-2 : tie.Need-returns-2 Inv-loop μ-loop
