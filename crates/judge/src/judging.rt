@@ -1,10 +1,10 @@
 // Judging a set of patterns and a scheme: the tests 2 to 4 of the patterns, 2 to 9 of the scheme,
 // then 10 and 11.
-use crate::compared::compared_cells;
 use crate::deletions::irreversible_fault;
 use crate::live_gaps::live_fault;
 use candidate::basis::basis_of;
 use candidate::basis::longest_length;
+use claims::entries::compared_with;
 use forms::memory::Fault;
 use forms::memory::Patterns;
 use forms::memory::Scheme;
@@ -46,8 +46,8 @@ fn formed_fault(patterns: Patterns, scheme: Scheme) -> Fault
 }
 
 // Judges the claims of a well-formed scheme: test 10, then test 11, then the number of compared
-// cells. Patterns that contain another pattern of the set change no cell, so the tests run on the
-// others.
+// cells of all entries. Patterns that contain another pattern of the set change no cell, so the
+// tests run on the others.
 pub fn judge_claims(patterns: Patterns, scheme: Scheme) -> Verdict
     requires { ⌜ WellFormed (patternsIn patterns) (schemeIn scheme) ⌝ }
     ensures { λ r. ⌜ r ≡ answered (faultOf (firstFault (claimTests (patternsIn patterns) (schemeIn scheme))))
@@ -69,6 +69,13 @@ pub fn judge_claims(patterns: Patterns, scheme: Scheme) -> Verdict
         return answer(fault, 0);
     }
     let m = longest_length(rows, lengths, count);
-    let cells = compared_cells(m, scheme);
+    let last = scheme.count;
+    let mut cells: usize = 0;
+    let mut i: usize = 0;
+    while i < last {
+        let e = scheme.entries[i];
+        cells += compared_with(m, e);
+        i += 1;
+    }
     answer(fault, cells)
 }

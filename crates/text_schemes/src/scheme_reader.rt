@@ -311,12 +311,13 @@ fn item_at(s: &[u8]) -> ItemRead
     }
 }
 
-// The scheme that a text spells behind its first mark, where nothing comes after the last: the
-// entries are read up to one that is the last or misspelt. All are counted, the first 128 kept.
-fn all_entries(s: &[u8], mark: Choice) -> SchemeText
-    requires { ⌜ ChoiceAt empty (byte 0x7B) (now s) 0 mark ⌝ }
+// The scheme that a text spells, where nothing comes after it: the entries are read up to one that
+// is the last or misspelt. The count is the true number of entries; the first 128 are kept.
+pub fn load_scheme(s: &[u8]) -> SchemeText
     ensures { λ r. ⌜ r ≡ schemeText (readEntries (tokens (now (s .entry)))) ⌝ }
 {
+    let c = Cursor { at: 0 };
+    let mark = opening_at(s, c);
     let mut scheme = no_entries();
     let mut at = mark.next.at;
     let mut spelt = mark.spelt;
@@ -336,25 +337,15 @@ fn all_entries(s: &[u8], mark: Choice) -> SchemeText
     let behind = Cursor { at };
     let t = behind.step(s);
     let kind = t.kind;
-    if both(spelt, is_end(kind)) {
+    if !both(spelt, is_end(kind)) {
+        let nothing = no_entries();
         return SchemeText {
-            spelt: true,
-            scheme,
+            spelt: false,
+            scheme: nothing,
         };
     }
-    let nothing = no_entries();
     SchemeText {
-        spelt: false,
-        scheme: nothing,
+        spelt: true,
+        scheme,
     }
-}
-
-// The scheme that a text spells, where nothing comes after it. The count is the true number of
-// entries; the first 128 are kept.
-pub fn load_scheme(s: &[u8]) -> SchemeText
-    ensures { λ r. ⌜ r ≡ schemeText (readEntries (tokens (now (s .entry)))) ⌝ }
-{
-    let c = Cursor { at: 0 };
-    let open = opening_at(s, c);
-    all_entries(s, open)
 }

@@ -1,7 +1,8 @@
--- `judge::judging::judge_claims` meets its contract: the arrays hold the patterns, and the tests on
--- the basis are those on the set.
+-- `judge::judging::judge_claims` meets its contract: the arrays hold the patterns, the tests on the
+-- basis are those on the set, and what is added up and the entries from the index on are all
+-- compared cells.
 -- Assumes nothing.
-use Prim.Native.Nat.{ℕ}
+use Prim.Native.Nat.{ℕ, _+_, _-_, _*_, _≤_}
 use mathlib.Core.Path.{_≡_, sym, ap, _∙_}
 use mathlib.Core.Bool.{true, false}
 use mathlib.Core.List.{List}
@@ -22,173 +23,227 @@ use Rattle.judge.specs.SetLaws.{set-holds, proper-set}
 use Rattle.judge.proofs.JudgeLaws.{basis-proper, claims-live, claims-lost, claims-answer}
 use Rattle.judge.specs.JudgementLaws.{refused-answer}
 use borrow.Author.Needs.{needs}
+use Rattle.word.specs.Ceilings.{ENTRIES}
+use Rattle.cell.specs.Cell.{mOf}
+use Rattle.claims.specs.EntryMemory.{COMPARED}
+use Rattle.scheme.specs.ProperLaws.{proper-count, proper-at}
+use Rattle.scheme.specs.Proper.{Proper}
+use Rattle.forms.specs.declared.memory.Scheme.{Scheme}
+use Rattle.judge.proofs.EntryWalkLaws.{cellsFrom, cells-start, cells-next, cells-end}
+use native.Mathlib.Omega.{arith}
 use Rattle.judge.proofs.judging.judge_claims.Statement.{statement}
 use Rattle.judge.proofs.judging.judge_claims.Tie as tie
 
+abbrev Inv-loop : tie.InvT-loop
+Inv-loop scheme count n fault m last cells₀ i₀ cells i =
+    (last ≤ ENTRIES) × (i ≤ last) × (cells ≤ COMPARED * i) ×
+    ((P : List (List ℕ)) → mOf P ≡ m → comparedCells P (schemeIn scheme) ≡ cells + cellsFrom P scheme last i)
+
+abbrev μ-loop : tie.MeasureT-loop
+μ-loop scheme count n fault m last cells₀ i₀ cells i = last - i
+
+-- the places behind which the sets and the first finding are there
+abbrev Sets : Type 0
+Sets = tie.After-lengths-of2 Inv-loop μ-loop
+
+abbrev Live : Type 0
+Live = tie.After-live-fault Inv-loop μ-loop
+
+abbrev first : Sets → tie.Start Inv-loop μ-loop
+first c = c .before .before .before .before .before
+
+abbrev scheme : Sets → Scheme
+scheme c = first c .args .t2
+
 -- the set in memory, and its basis
-holds : (c : tie.After-lengths-of2) → patternsOf (c .before .before .before .before .rows-of .result)
-    (c .before .before .before .lengths-of .result)
-    (c .before .before .before .before .before .args .patterns .count) ≡
-    patternsIn (c .before .before .before .before .before .args .patterns)
+abbrev set : Sets → List (List ℕ)
+set c =
+    patternsOf (c .before .before .before .before .rows-of .result) (c .before .before .before .lengths-of .result)
+    (first c .args .patterns .count)
+
+abbrev basis : Sets → List (List ℕ)
+basis c =
+    patternsOf (c .before .rows-of2 .result) (c .lengths-of2 .result) (c .before .before .basis-of .result .count)
+
+proper-entries : (c : Sets) → Proper (schemeIn (scheme c))
+proper-entries c = proper-scheme (schemeIn (scheme c)) (first c .pre .scheme)
+
+-- the arrays have all their places
+all-rows : (c : Sets) → length (c .before .before .before .before .rows-of .result) ≡ PATTERNS
+all-rows c = (let o = c .before .before .before .before .rows-of .ok in search needs)
+
+all-lengths : (c : Sets) → length (c .before .before .before .lengths-of .result) ≡ PATTERNS
+all-lengths c = (let o = c .before .before .before .lengths-of .ok in search needs)
+
+basis-rows : (c : Sets) → length (c .before .rows-of2 .result) ≡ PATTERNS
+basis-rows c = (let o = c .before .rows-of2 .ok in search needs)
+
+basis-lengths : (c : Sets) → length (c .lengths-of2 .result) ≡ PATTERNS
+basis-lengths c = (let o = c .lengths-of2 .ok in search needs)
+
+holds : (c : Sets) → set c ≡ patternsIn (first c .args .patterns)
 holds c =
-    let at-rows-of = c .before .before .before .before in
-    let start = at-rows-of .before in
-    let r = at-rows-of .rows-of in
+    let r = c .before .before .before .before .rows-of in
     let k = c .before .before .before .lengths-of in
-    let hr : length (r .result) ≡ PATTERNS = search needs in
-    let hk : length (k .result) ≡ PATTERNS = search needs in
-    set-holds (start .args .patterns) (start .pre .patterns) (r .result) (k .result) hr hk (r .ensures) (k .ensures)
+    set-holds (first c .args .patterns) (first c .pre .patterns) (r .result) (k .result) (all-rows c) (all-lengths c)
+    (r .ensures) (k .ensures)
 
-proper : (c : tie.After-lengths-of2) → ProperSet (c .before .before .before .before .rows-of .result)
-    (c .before .before .before .lengths-of .result)
-    (c .before .before .before .before .before .args .patterns .count)
+proper : (c : Sets) → ProperSet (c .before .before .before .before .rows-of .result)
+    (c .before .before .before .lengths-of .result) (first c .args .patterns .count)
 proper c =
-    let at-rows-of = c .before .before .before .before in
-    let start = at-rows-of .before in
-    let r = at-rows-of .rows-of in
+    let r = c .before .before .before .before .rows-of in
     let k = c .before .before .before .lengths-of in
-    let hr : length (r .result) ≡ PATTERNS = search needs in
-    let hk : length (k .result) ≡ PATTERNS = search needs in
-    proper-set (start .args .patterns) (start .pre .patterns) (r .result) (k .result) hr hk (r .ensures) (k .ensures)
+    proper-set (first c .args .patterns) (first c .pre .patterns) (r .result) (k .result) (all-rows c) (all-lengths c)
+    (r .ensures) (k .ensures)
 
-small-proper : (c : tie.After-lengths-of2) →
+small-proper : (c : Sets) →
     ProperSet (c .before .rows-of2 .result) (c .lengths-of2 .result) (c .before .before .basis-of .result .count)
 small-proper c =
-    let at-rows-of = c .before .before .before .before in
-    let start = at-rows-of .before in
     let r = c .before .rows-of2 in
     let k = c .lengths-of2 in
     let b = c .before .before .basis-of in
-    let hr : length (r .result) ≡ PATTERNS = (let o = r .ok in search needs) in
-    let hk : length (k .result) ≡ PATTERNS = (let o = k .ok in search needs) in
-    basis-proper (at-rows-of .rows-of .result) (c .before .before .before .lengths-of .result) (start .args .patterns .count)
-    (proper c) (b .result) (b .ensures) (r .result) (k .result) hr hk (r .ensures) (k .ensures)
+    basis-proper (c .before .before .before .before .rows-of .result) (c .before .before .before .lengths-of .result)
+    (first c .args .patterns .count) (proper c) (b .result) (b .ensures) (r .result) (k .result) (basis-rows c)
+    (basis-lengths c) (r .ensures) (k .ensures)
 
 -- what the tests on the basis find is what those on the set find
-live-first : (c : tie.After-live-fault) → faulty (c .live-fault .result) ≡ true →
-    c .live-fault .result ≡
-    faultOf (firstFault
-    (claimTests (patternsOf (c .before .before .before .before .before .rows-of .result)
-    (c .before .before .before .before .lengths-of .result)
-    (c .before .before .before .before .before .before .args .patterns .count))
-    (schemeIn (c .before .before .before .before .before .before .args .scheme))))
-live-first c h =
-    let at-lengths-of = c .before .before .before .before in
-    let start = at-lengths-of .before .before in
-    let r = c .before .before .rows-of2 in
-    let k = c .before .lengths-of2 in
-    let b = c .before .before .before .basis-of in
-    let hr : length (r .result) ≡ PATTERNS = (let o = r .ok in search needs) in
-    let hk : length (k .result) ≡ PATTERNS = (let o = k .ok in search needs) in
-    claims-live (at-lengths-of .before .rows-of .result) (at-lengths-of .lengths-of .result) (start .args .patterns .count)
-    (proper (c .before)) (b .result) (b .ensures) (r .result) (k .result) hr hk (r .ensures) (k .ensures)
-    (start .args .scheme) (proper-scheme (schemeIn (start .args .scheme)) (start .pre .scheme))
-    (c .live-fault .result) (c .live-fault .ensures) h
+abbrev claimed : Sets → Fault
+claimed c = faultOf (firstFault (claimTests (set c) (schemeIn (scheme c))))
 
-lost-first : (c : tie.After-live-fault) (lost : Fault) →
-    lost ≡ faultOf
-    (firstAt Irreversible
-    (differingEntry (patternsOf (c .before .before .rows-of2 .result) (c .before .lengths-of2 .result)
-    (c .before .before .before .basis-of .result .count))) 0
-    (schemeIn (c .before .before .before .before .before .before .args .scheme))) →
-    faulty (c .live-fault .result) ≡ false →
-    lost ≡ faultOf
-    (firstFault (claimTests (patternsOf (c .before .before .before .before .before .rows-of .result)
-    (c .before .before .before .before .lengths-of .result)
-    (c .before .before .before .before .before .before .args .patterns .count))
-    (schemeIn (c .before .before .before .before .before .before .args .scheme))))
+live-first : (c : Live) → faulty (c .live-fault .result) ≡ true → c .live-fault .result ≡ claimed (c .before)
+live-first c h =
+    let o = c .before in
+    let r = o .before .rows-of2 in
+    let k = o .lengths-of2 in
+    let b = o .before .before .basis-of in
+    claims-live (o .before .before .before .before .rows-of .result) (o .before .before .before .lengths-of .result)
+    (first o .args .patterns .count) (proper o) (b .result) (b .ensures) (r .result) (k .result) (basis-rows o)
+    (basis-lengths o) (r .ensures) (k .ensures) (scheme o) (proper-entries o) (c .live-fault .result)
+    (c .live-fault .ensures) h
+
+lost-first : (c : Live) (lost : Fault) →
+    lost ≡ faultOf (firstAt Irreversible (differingEntry (basis (c .before))) 0 (schemeIn (scheme (c .before)))) →
+    faulty (c .live-fault .result) ≡ false → lost ≡ claimed (c .before)
 lost-first c lost e h =
-    let at-lengths-of = c .before .before .before .before in
-    let start = at-lengths-of .before .before in
-    let r = c .before .before .rows-of2 in
-    let k = c .before .lengths-of2 in
-    let b = c .before .before .before .basis-of in
-    let hr : length (r .result) ≡ PATTERNS = (let o = r .ok in search needs) in
-    let hk : length (k .result) ≡ PATTERNS = (let o = k .ok in search needs) in
-    claims-lost (at-lengths-of .before .rows-of .result) (at-lengths-of .lengths-of .result) (start .args .patterns .count)
-    (proper (c .before)) (b .result) (b .ensures) (r .result) (k .result) hr hk (r .ensures) (k .ensures)
-    (start .args .scheme) (proper-scheme (schemeIn (start .args .scheme)) (start .pre .scheme))
-    (c .live-fault .result) (c .live-fault .ensures) lost e h
+    let o = c .before in
+    let r = o .before .rows-of2 in
+    let k = o .lengths-of2 in
+    let b = o .before .before .basis-of in
+    claims-lost (o .before .before .before .before .rows-of .result) (o .before .before .before .lengths-of .result)
+    (first o .args .patterns .count) (proper o) (b .result) (b .ensures) (r .result) (k .result) (basis-rows o)
+    (basis-lengths o) (r .ensures) (k .ensures) (scheme o) (proper-entries o) (c .live-fault .result)
+    (c .live-fault .ensures) lost e h
 
 -- a fault that the tests find is the answer
-refused : (c : tie.After-lengths-of2) (f : Fault) (r : Verdict) → faulty f ≡ true →
-    f ≡ faultOf (firstFault
-    (claimTests (patternsOf (c .before .before .before .before .rows-of .result)
-    (c .before .before .before .lengths-of .result)
-    (c .before .before .before .before .before .args .patterns .count))
-    (schemeIn (c .before .before .before .before .before .args .scheme)))) →
-    r ≡ answered f 0 →
-    r ≡ answered
-    (faultOf (firstFault (claimTests (patternsIn (c .before .before .before .before .before .args .patterns))
-    (schemeIn (c .before .before .before .before .before .args .scheme)))))
-    (comparedCells (patternsIn (c .before .before .before .before .before .args .patterns))
-    (schemeIn (c .before .before .before .before .before .args .scheme)))
-refused c f r h first e =
-    let start = c .before .before .before .before .before in
-    let P = patternsIn (start .args .patterns) in
-    let E = schemeIn (start .args .scheme) in
+refused : (c : Sets) (f : Fault) (r : Verdict) → faulty f ≡ true → f ≡ claimed c → r ≡ answered f 0 →
+    let P = patternsIn (first c .args .patterns) in
+    let E = schemeIn (scheme c) in
+    r ≡ answered (faultOf (firstFault (claimTests P E))) (comparedCells P E)
+refused c f r h found e =
+    let P = patternsIn (first c .args .patterns) in
+    let E = schemeIn (scheme c) in
     e ∙ refused-answer f 0 (comparedCells P E) h ∙
-    ap (λ (x : Fault). answered x (comparedCells P E)) (first ∙ ap (λ (Q : List (List ℕ)). faultOf (firstFault (claimTests Q E))) (holds c))
+    ap (λ (x : Fault). answered x (comparedCells P E))
+    (found ∙ ap (λ (Q : List (List ℕ)). faultOf (firstFault (claimTests Q E))) (holds c))
 
-basis-of-requires : tie.Need-basis-of-requires
-basis-of-requires c κs = (proper-set (c .before .before .args .patterns) (c .before .before .pre .patterns)
-    (c .before .rows-of .result) (c .lengths-of .result) (search needs) (search needs) (c .before .rows-of .ensures)
-    (c .lengths-of .ensures)) .few
+basis-of-requires : tie.Need-basis-of-requires Inv-loop μ-loop
+basis-of-requires c κs =
+    let start = c .before .before in
+    let r = c .before .rows-of in
+    let k = c .lengths-of in
+    (proper-set (start .args .patterns) (start .pre .patterns) (r .result) (k .result) (search needs) (search needs)
+    (r .ensures) (k .ensures)) .few
 
-live-fault-requires : tie.Need-live-fault-requires
-live-fault-requires c κs =
-    let start = c .before .before .before .before .before in
-    proper-scheme (schemeIn (start .args .scheme)) (start .pre .scheme)
+live-fault-requires : tie.Need-live-fault-requires Inv-loop μ-loop
+live-fault-requires c κs = proper-entries c
 
-returns : tie.Need-returns
+returns : tie.Need-returns Inv-loop μ-loop
 returns c =
-    let at-is-fault = c .before .before in
-    let at-live-fault = at-is-fault .before in
-    let l = at-live-fault .live-fault in
-    refused (at-live-fault .before) (l .result) (c .answer .result) (sym (at-is-fault .is-fault .ensures) ∙ c .before .if1 .taken)
-    (live-first at-live-fault (sym (at-is-fault .is-fault .ensures) ∙ c .before .if1 .taken)) (c .answer .ensures)
+    let tested = c .before .before in
+    let at-live = tested .before in
+    let h = sym (tested .is-fault .ensures) ∙ c .before .if1 .taken in
+    refused (at-live .before) (at-live .live-fault .result) (c .answer .result) h (live-first at-live h) (c .answer .ensures)
 
-irreversible-fault-requires : tie.Need-irreversible-fault-requires
+irreversible-fault-requires : tie.Need-irreversible-fault-requires Inv-loop μ-loop
 irreversible-fault-requires c κs =
-    let at-sets = c .before .before .before in (
-      small-proper at-sets,
-      proper-scheme (schemeIn (at-sets .before .before .before .before .before .args .scheme))
-          (at-sets .before .before .before .before .before .pre .scheme),
+    let o = c .before .before .before in
+    (small-proper o, proper-entries o)
+
+-- what test 11 finds, where test 10 finds nothing
+lost : (o : tie.After-irreversible-fault Inv-loop μ-loop) →
+    o .irreversible-fault .result ≡ claimed (o .before .before .before .before)
+lost o =
+    let f = o .irreversible-fault in
+    let clean = o .before in
+    lost-first (clean .before .before) (f .result) (f .ensures) (sym (clean .before .is-fault .ensures) ∙ clean .if1 .left)
+
+returns-2 : tie.Need-returns-2 Inv-loop μ-loop
+returns-2 c =
+    let tested = c .before .before in
+    let at-lost = tested .before in
+    let h = sym (tested .is-fault2 .ensures) ∙ c .before .if2 .taken in
+    refused (at-lost .before .before .before .before) (at-lost .irreversible-fault .result) (c .answer2 .result) h
+    (lost at-lost) (c .answer2 .ensures)
+
+-- the sets, from the loop
+abbrev sets : tie.At-loop Inv-loop μ-loop → Sets
+sets o = o .before .before .before .before .before .before .before .before
+
+loop-holds : tie.Need-loop-holds Inv-loop μ-loop
+loop-holds c =
+    let o = c .before .before .before .before .before .before .before in
+    (proper-count (scheme o) (proper-entries o), omega arith, omega arith, λ P h. cells-start P (scheme o))
+
+element-copy-out-e : tie.Need-element-copy-out-e Inv-loop μ-loop
+element-copy-out-e c =
+    let few = c .before .loop .inv .0 in
+    omega arith
+
+compared-with-requires : tie.Need-compared-with-requires Inv-loop μ-loop
+compared-with-requires c κs =
+    let at-loop = c .before .before in
+    let o = sets at-loop in
+    (at-loop .before .longest-length .ensures .1, proper-at (scheme o) (proper-entries o) (at-loop .loop .i) (omega arith))
+
+add-cells : tie.Need-add-cells Inv-loop μ-loop
+add-cells c =
+    let l = c .before .before .before .loop in
+    let small = c .compared-with .ensures .small in
+    let low = l .inv .2 in
+    let few = l .inv .0 in
+    let under = l .inv .1 in
+    omega arith
+
+loop-again : tie.Need-loop-again Inv-loop μ-loop
+loop-again c =
+    let at-loop = c .before .before .before in
+    let l = at-loop .loop in
+    let w = c .compared-with .ensures in (
+      l .inv .0,
+      omega arith,
+      omega (arith, w .small, l .inv .2),
+      λ P h. cells-next P (scheme (sets at-loop)) (l .i) (l .cells) (c .compared-with .result) (omega arith) (l .inv .3 P h)
+          (w .compares P h),
     )
 
-returns-2 : tie.Need-returns-2
-returns-2 c =
-    let at-lost = c .before .before .before in
-    let clean = sym (at-lost .before .before .is-fault .ensures) ∙ at-lost .before .if1 .left in
-    let at-live = at-lost .before .before .before in
-    let f = at-lost .irreversible-fault in
-    let h = sym (c .before .before .is-fault2 .ensures) ∙ c .before .if2 .taken in
-    refused (at-live .before) (f .result) (c .answer2 .result) h (lost-first at-live (f .result) (f .ensures) clean) (c .answer2 .ensures)
-
-compared-cells-requires : tie.Need-compared-cells-requires
-compared-cells-requires c κs =
-    let start = c .before .before .before .before .before .before .before .before .before .before .before .before in
-    (c .longest-length .ensures .1, proper-scheme (schemeIn (start .args .scheme)) (start .pre .scheme))
-
-returns-3 : tie.Need-returns-3
+returns-3 : tie.Need-returns-3 Inv-loop μ-loop
 returns-3 c =
-    let at-lost = c .before .before .before .before .before in
-    let at-live = at-lost .before .before .before in
-    let clean = sym (at-lost .before .before .is-fault .ensures) ∙ at-lost .before .if1 .left in
-    let f = at-lost .irreversible-fault in
-    let m = c .before .before .longest-length in
-    let at-sets = at-live .before in
-    let a = at-sets .before .before .before .before .before .args in
+    let at-loop = c .before .before in
+    let l = at-loop .loop in
+    let m = at-loop .before .longest-length in
+    let at-lost = at-loop .before .before .before .before in
+    let o = sets at-loop in
     c .answer3 .ensures ∙
-    claims-answer (a .patterns) (a .scheme) (patternsOf (at-sets .before .before .before .before .rows-of .result)
-    (at-sets .before .before .before .lengths-of .result) (a .patterns .count)) (f .result) (m .result)
-    (c .before .compared-cells .result)
-    (holds at-sets) (lost-first at-live (f .result) (f .ensures) clean) (m .ensures .0) (c .before .compared-cells .ensures)
+    claims-answer (first o .args .patterns) (scheme o) (set o) (at-lost .irreversible-fault .result) (m .result)
+    (l .cells) (holds o) (lost at-lost) (m .ensures .0)
+    (λ P h. sym (l .inv .3 P h ∙ cells-end P (scheme o) (l .i) (l .cells) (omega arith)))
 
 pub judge-claims-spec : {M : Type 1} → statement M
 judge-claims-spec =
     tie.close
     (tie.spec
+    Inv-loop
+    μ-loop
     (λ c κs. search needs)
     (λ c κs. search needs)
     basis-of-requires
@@ -203,6 +258,13 @@ judge-claims-spec =
     (λ c κs. search needs)
     returns-2
     (λ c κs. search needs)
-    compared-cells-requires
+    loop-holds
+    (λ c. search needs)
+    element-copy-out-e
+    compared-with-requires
+    add-cells
+    (λ c. search needs)
+    (λ c. search needs)
+    loop-again
     (λ c κs. search needs)
     returns-3)
