@@ -2,7 +2,7 @@
 -- Assumes nothing.
 use Prim.Native.Nat.{ℕ, _≤_, _<_}
 use mathlib.Core.Path.{_≡_, refl, sym, ap, _∙_}
-use mathlib.Core.Bool.{true, false, not, true≢false}
+use mathlib.Core.Bool.{Bool, true, false, not, true≢false}
 use mathlib.Core.List.{List, [], map}
 use mathlib.Core.Option.{Option, none, some}
 use lib.ListN.{length}
@@ -23,10 +23,9 @@ use Rattle.text_grammar.specs.Spelling.{SpellsScheme, writtenScheme}
 use Rattle.notation.specs.Answers.{answerFrom}
 use Rattle.text_grammar.specs.Grammar.{readEntries}
 use Rattle.text_schemes.specs.SchemeLoaded.{loadedScheme}
-use Rattle.text_schemes.specs.SchemeReading.{schemeText}
+use Rattle.text_schemes.specs.SchemeReading.{loadedText}
 use Rattle.text_schemes.specs.SchemeLoading.{loaded-scheme-same, loaded-scheme-faults}
 use Rattle.text_grammar.specs.SpellingLaws.{scheme-sound, scheme-complete, scheme-unique, scheme-written-read}
-use Rattle.text_schemes.specs.declared.parts.SchemeText.{SchemeText}
 use Rattle.notation.specs.declared.schemes.SchemeRead.{SchemeRead}
 use Rattle.notation.specs.SchemeAnswers.{noScheme, refusedScheme, readSchemeOr, testedScheme, schemeAnswer, ReadsScheme}
 use Rattle.notation.proofs.ReadingFaultLaws.{notOne, test-not-one, first-not-one, twin-not-one, all-not-one}
@@ -57,28 +56,36 @@ pub or-refused : (f : Fault) (m : Scheme) → faulty f ≡ true → noScheme f �
 or-refused Clean m h = absurd (true≢false (sym h))
 or-refused (At r i) m h = refl
 
+-- whether a text spells a scheme, and the scheme
+abbrev isSome : Option Scheme → Bool
+isSome none = false
+isSome (some m) = true
+
+abbrev schemeOr : Scheme → Option Scheme → Scheme
+schemeOr d none = d
+schemeOr d (some m) = m
+
 -- the answer by the length of the text, by its spelling, by the tests
 module _ (s : List ℕ) where
   pub answer-long : SCHEME_TEXT < length s → refusedScheme Oversize 0 ≡ schemeAnswer s
   answer-long h = any.answer-long refusedScheme testedScheme SCHEME_TEXT readEntries s h
 
-  module _ (t : SchemeText) (h : length s ≤ SCHEME_TEXT) (e : t ≡ schemeText (readEntries (tokens s))) where
-    misspelt-from : (o : Option (List EntryList)) → t ≡ schemeText o → t .spelt ≡ false → refusedScheme Misspelt 0 ≡
-        answerFrom refusedScheme testedScheme o
-    misspelt-from none q k = refl
-    misspelt-from (some E) q k = absurd (true≢false (sym (ap (λ (x : SchemeText). x .spelt) q) ∙ k))
+  module _ (h : length s ≤ SCHEME_TEXT) where
+    misspelt-from : (o : Option (List EntryList)) → none ≡ loadedText o → refusedScheme Misspelt 0 ≡ answerFrom refusedScheme testedScheme o
+    misspelt-from none q = refl
+    misspelt-from (some E) q = absurd (true≢false (sym (ap isSome q)))
 
-    pub answer-misspelt : t .spelt ≡ false → refusedScheme Misspelt 0 ≡ schemeAnswer s
-    answer-misspelt k = misspelt-from (readEntries (tokens s)) e k ∙ any.answer-text refusedScheme testedScheme SCHEME_TEXT readEntries s h
+    pub answer-misspelt : none ≡ loadedText (readEntries (tokens s)) → refusedScheme Misspelt 0 ≡ schemeAnswer s
+    answer-misspelt e = misspelt-from (readEntries (tokens s)) e ∙ any.answer-text refusedScheme testedScheme SCHEME_TEXT readEntries s h
 
-    tested-from : (o : Option (List EntryList)) → t ≡ schemeText o → t .spelt ≡ true →
-        readSchemeOr (faultOf (firstFault (schemeTests (schemeIn (t .scheme))))) (t .scheme) ≡ answerFrom refusedScheme testedScheme o
-    tested-from none q k = absurd (true≢false (sym k ∙ ap (λ (x : SchemeText). x .spelt) q))
-    tested-from (some E) q k = rw (ap (λ (x : SchemeText). x .scheme) q, loaded-scheme-faults E) refl
+    tested-from : (m : Scheme) (o : Option (List EntryList)) → some m ≡ loadedText o →
+        readSchemeOr (faultOf (firstFault (schemeTests (schemeIn m)))) m ≡ answerFrom refusedScheme testedScheme o
+    tested-from m none q = absurd (true≢false (ap isSome q))
+    tested-from m (some E) q = rw (ap (schemeOr m) q, loaded-scheme-faults E) refl
 
-    pub answer-tested : t .spelt ≡ true →
-        readSchemeOr (faultOf (firstFault (schemeTests (schemeIn (t .scheme))))) (t .scheme) ≡ schemeAnswer s
-    answer-tested k = tested-from (readEntries (tokens s)) e k ∙ any.answer-text refusedScheme testedScheme SCHEME_TEXT readEntries s h
+    pub answer-tested : (m : Scheme) → some m ≡ loadedText (readEntries (tokens s)) →
+        readSchemeOr (faultOf (firstFault (schemeTests (schemeIn m)))) m ≡ schemeAnswer s
+    answer-tested m e = tested-from m (readEntries (tokens s)) e ∙ any.answer-text refusedScheme testedScheme SCHEME_TEXT readEntries s h
 
 -- the finding and the list in an answer
 or-fault : (x : Finding) (m : Scheme) → readSchemeOr (faultOf x) m .fault ≡ faultOf x

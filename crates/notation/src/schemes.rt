@@ -4,10 +4,16 @@ use crate::written::written_or;
 use forms::memory::Fault;
 use forms::memory::Scheme;
 use forms::order::is_fault;
-use text_schemes::scheme_reader::load_scheme;
+use text_grammar::cursor::Cursor;
+use text_schemes::scheme_reader::both;
+use text_schemes::scheme_reader::ends_at;
+use text_schemes::scheme_reader::goes_on;
+use text_schemes::scheme_reader::item_at;
 use text_schemes::scheme_reader::no_entries;
+use text_schemes::scheme_reader::opening_at;
 use text_writer::writing::put_scheme;
 use wellformed::scheme_tests::scheme_fault;
+use word::limits::ENTRIES;
 use word::limits::SCHEME_TEXT;
 use word::refusal::Refusal;
 ghost use mathlib.Core.Path.{_≡_};
@@ -22,18 +28,34 @@ pub struct SchemeRead {
 }
 
 // Reads a scheme. A text of more than 32,768 bytes is refused with 2, one that spells no scheme
-// with 1; then the tests 2 to 9.
+// with 1; then the tests 2 to 9. The entries are read up to one that is the last or misspelt; all
+// are counted, the first 128 kept.
 pub fn read_scheme(text: &[u8]) -> SchemeRead
     ensures { λ r. ⌜ (r ≡ schemeAnswer (now (text .entry))) × ReadsScheme (now (text .entry)) r ⌝ }
 {
     if SCHEME_TEXT < text.len() {
         return refused_scheme(Fault::At(Refusal::Oversize, 0));
     }
-    let found = load_scheme(text);
-    if !found.spelt {
+    let mark = opening_at(text, Cursor { at: 0 });
+    let mut scheme = no_entries();
+    let mut at = mark.next.at;
+    let mut spelt = mark.spelt;
+    let mut more = goes_on(mark);
+    while more {
+        let item = item_at(&text[at..]);
+        let entry = item.entry;
+        let count = scheme.count;
+        at += item.bytes;
+        spelt = item.spelt;
+        more = item.more;
+        scheme.count = count + 1;
+        if count < ENTRIES {
+            scheme.entries[count] = entry;
+        }
+    }
+    if !both(spelt, ends_at(text, Cursor { at })) {
         return refused_scheme(Fault::At(Refusal::Misspelt, 0));
     }
-    let scheme = found.scheme;
     let fault = scheme_fault(scheme);
     if is_fault(fault) {
         return refused_scheme(fault);

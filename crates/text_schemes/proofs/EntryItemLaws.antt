@@ -6,7 +6,7 @@ use native.Mathlib.Omega.{arith}
 use mathlib.Core.Path.{_≡_, refl, sym, ap, ap₂, _∙_, subst}
 use mathlib.Core.Bool.{Bool, true, false, _&&_, not, false≢true}
 use mathlib.Core.List.{List, [], _∷_, _++_}
-use mathlib.Core.Option.{none}
+use mathlib.Core.Option.{Option, none, some}
 use lib.ListN.{length, drop, take, set, length-drop, length-set}
 use lib.Seq.{drop-drop}
 use Rattle.word.specs.ListLaws.{and-left, and-right}
@@ -15,20 +15,18 @@ use Rattle.forms.specs.declared.memory.Entry.{Entry}
 use Rattle.forms.specs.declared.memory.Scheme.{Scheme}
 use Rattle.text_grammar.specs.declared.cursor.Kind.{Kind}
 use Rattle.text_grammar.specs.declared.cursor.Kind.the-variants.{End, Digits, Epsilon, Empty, Left, Right, Byte}
-use Rattle.text_grammar.specs.declared.cursor.Step.{Step}
 use Rattle.text_schemes.specs.declared.parts.EntryRead.{EntryRead}
 use Rattle.text_schemes.specs.declared.parts.ItemRead.{ItemRead}
-use Rattle.text_schemes.specs.declared.parts.SchemeText.{SchemeText}
 use Rattle.text_schemes.specs.declared.scheme_reader.Choice.{Choice}
 use Rattle.text_grammar.specs.Spelling.{Token, empty, byte, comma, entryPieces, writableEntry}
 use Rattle.text_grammar.specs.Tokens.{tokens}
-use Rattle.text_grammar.specs.Cursor.{Stepped, tokensBy}
+use Rattle.text_grammar.specs.Cursor.{tokensBy}
 use Rattle.text_grammar.specs.Grammar.{Read, misspelt, got, after, pick, follow, items, inBraces, readEntry, whole, readEntries}
 use Rattle.text_grammar.specs.GrammarLaws.{items-step, entry-read}
 use Rattle.text_schemes.specs.SchemeLoaded.{entryOf, plainEntry, loadedScheme}
 use Rattle.text_grammar.specs.ItemReading.{found, kept}
-use Rattle.text_schemes.specs.SchemeReading.{EntryAt, schemeText}
-use Rattle.text_schemes.specs.EntryReading.{ChoiceAt, storedEntry, onto, goingOn, ItemAt, schemeOf}
+use Rattle.text_schemes.specs.SchemeReading.{EntryAt, loadedText}
+use Rattle.text_schemes.specs.EntryReading.{ChoiceAt, storedEntry, onto, goingOn, ItemAt, noTokens, schemeOf}
 use Rattle.text_patterns.proofs.FilledLaws.{length-filled, length-more, filled-more}
 use Rattle.text_grammar.proofs.TextItemLaws.{added-whole}
 use Rattle.text_grammar.proofs.CursorLaws.{tail-is}
@@ -183,51 +181,30 @@ at-last s m at more spelt h w = sym (ap (λ (b : Bool). goingOn b spelt m (token
 
 -- nothing comes after what was read
 
-text-end : (b : Bool) (m : Scheme) (k : Kind) (t : List ℕ) (ts : List Token) → (b && isEnd k) ≡ true
-    → record { spelt = true; scheme = m } ≡ schemeOf (found b m (tokensBy k t ts))
-text-end false m k t ts h = absurd (false≢true h)
-text-end true m End t ts h = refl
-text-end true m Digits t ts h = absurd (false≢true h)
-text-end true m Epsilon t ts h = absurd (false≢true h)
-text-end true m Empty t ts h = absurd (false≢true h)
-text-end true m Left t ts h = absurd (false≢true h)
-text-end true m Right t ts h = absurd (false≢true h)
-text-end true m (Byte b) t ts h = absurd (false≢true h)
+-- the end of the text is seen by the kind of the next token
+pub end-seen : (k : Kind) (t : List ℕ) (ts : List Token) → isEnd k ≡ noTokens (tokensBy k t ts)
+end-seen End t ts = refl
+end-seen Digits t ts = refl
+end-seen Epsilon t ts = refl
+end-seen Empty t ts = refl
+end-seen Left t ts = refl
+end-seen Right t ts = refl
+end-seen (Byte b) t ts = refl
 
-text-more : (b : Bool) (m : Scheme) (k : Kind) (t : List ℕ) (ts : List Token) → (b && isEnd k) ≡ false
-    → schemeText none ≡ schemeOf (found b m (tokensBy k t ts))
-text-more false m k t ts h = refl
-text-more true m End t ts h = absurd (false≢true (sym h))
-text-more true m Digits t ts h = refl
-text-more true m Epsilon t ts h = refl
-text-more true m Empty t ts h = refl
-text-more true m Left t ts h = refl
-text-more true m Right t ts h = refl
-text-more true m (Byte b) t ts h = refl
+module _ (m : Scheme) where
+  pub text-spelt : (spelt : Bool) (ts : List Token) → (spelt && noTokens ts) ≡ true → some m ≡ schemeOf (found spelt m ts)
+  text-spelt false ts h = absurd (false≢true h)
+  text-spelt true [] h = refl
+  text-spelt true (t ∷ ts) h = absurd (false≢true h)
 
-abbrev text-with : Bool → Scheme → SchemeText
-text-with b m = record { spelt = b; scheme = m }
-
--- what was read up to the place `at`, behind which the token t comes
-module _ (s : List ℕ) (m : Scheme) (at : ℕ) (spelt : Bool) (t : Step) (w : Stepped s at t) (a b : Bool)
-    (e : a ≡ isEnd (t .kind)) (f : b ≡ (spelt && a)) where
-  ends : b ≡ (spelt && isEnd (t .kind))
-  ends = f ∙ ap (λ (x : Bool). spelt && x) e
-
-  pub text-spelt : b ≡ true → text-with true m ≡ schemeOf (found spelt m (tokens (drop at s)))
-  text-spelt h =
-      text-end spelt m (t .kind) (drop (t .from) s) (tokens (drop (t .next .at) s)) (sym ends ∙ h)
-      ∙ ap (λ (ts : List Token). schemeOf (found spelt m ts)) (sym (w .gives))
-
-  pub text-misspelt : (x : Scheme) → x ≡ loadedScheme [] → b ≡ false → text-with false x ≡ schemeOf (found spelt m (tokens (drop at s)))
-  text-misspelt x g h =
-      ap (text-with false) g
-      ∙ text-more spelt m (t .kind) (drop (t .from) s) (tokens (drop (t .next .at) s)) (sym ends ∙ h)
-      ∙ ap (λ (ts : List Token). schemeOf (found spelt m ts)) (sym (w .gives))
+  pub text-misspelt : (spelt : Bool) (ts : List Token) → (spelt && noTokens ts) ≡ false → none ≡ schemeOf (found spelt m ts)
+  text-misspelt false ts h = refl
+  text-misspelt true [] h = absurd (false≢true (sym h))
+  text-misspelt true (t ∷ ts) h = refl
 
 -- from the start
 
-text-whole : (m : Read (List EntryList)) → schemeOf (kept loadedScheme m) ≡ schemeText (whole m)
+text-whole : (m : Read (List EntryList)) → schemeOf (kept loadedScheme m) ≡ loadedText (whole m)
 text-whole misspelt = refl
 text-whole (got E []) = refl
 text-whole (got E (t ∷ r)) = refl
@@ -261,7 +238,7 @@ start-read s o w x b e f = rw (f, e)
         ∙ ap (λ (r : Read Bool). kept loadedScheme (after r (λ d q. pick d (got []) entries q))) (sym (w .gives))
         ∙ ap (kept loadedScheme) (sym (either-after empty (byte 0x7B) (got []) entries (tokens s)))
 
-pub whole-text : (s : List ℕ) (m : Read Scheme) (r : SchemeText) → r ≡ schemeOf m → m ≡ kept loadedScheme (inBraces readEntry (tokens s))
-    → r ≡ schemeText (readEntries (tokens s))
+pub whole-text : (s : List ℕ) (m : Read Scheme) (o : Option Scheme) → o ≡ schemeOf m →
+    m ≡ kept loadedScheme (inBraces readEntry (tokens s)) → o ≡ loadedText (readEntries (tokens s))
 unfolding readEntries
-whole-text s m r g h = g ∙ ap schemeOf h ∙ text-whole (inBraces readEntry (tokens s))
+whole-text s m o g h = g ∙ ap schemeOf h ∙ text-whole (inBraces readEntry (tokens s))

@@ -4,7 +4,7 @@ use Prim.Native.Nat.{ℕ, suc, _≤_, _<_}
 use mathlib.Core.Path.{_≡_}
 use mathlib.Core.Bool.{Bool, true, false}
 use mathlib.Core.List.{List, [], _∷_}
-use mathlib.Core.Option.{none}
+use mathlib.Core.Option.{Option, none, some}
 use lib.ListN.{length, drop, set}
 use Rattle.word.specs.Ceilings.{PREFIX}
 use Rattle.forms.specs.SchemeList.{Does, EntryList}
@@ -13,7 +13,6 @@ use Rattle.forms.specs.declared.memory.Scheme.{Scheme}
 use Rattle.text_gaps.specs.declared.parts.GapsRead.{GapsRead}
 use Rattle.text_schemes.specs.declared.parts.RuleRead.{RuleRead}
 use Rattle.text_schemes.specs.declared.parts.ItemRead.{ItemRead}
-use Rattle.text_schemes.specs.declared.parts.SchemeText.{SchemeText}
 use Rattle.text_schemes.specs.declared.scheme_reader.MarkRead.{MarkRead}
 use Rattle.text_schemes.specs.declared.scheme_reader.Choice.{Choice}
 use Rattle.text_schemes.specs.declared.scheme_reader.Prefix.{Prefix}
@@ -26,7 +25,6 @@ use Rattle.text_patterns.specs.PatternMemory.{filled}
 use Rattle.text_schemes.specs.SchemeLoaded.{ruleOf, entryOf}
 use Rattle.text_grammar.specs.ItemReading.{found, kept, Moved, added}
 use Rattle.text_gaps.specs.PartReading.{loadedGaps}
-use Rattle.text_schemes.specs.SchemeReading.{schemeText}
 
 -- marks
 
@@ -92,8 +90,13 @@ pub record ItemAt (s : List ℕ) (r : ItemRead) : Type 0 where
   pub onward : r .more ≡ true → 0 < r .bytes
   pub inside : r .bytes ≤ length s
 
+-- no token comes
+abbrev pub noTokens : List Token → Bool
+noTokens [] = true
+noTokens (t ∷ ts) = false
+
 -- what a text spells, where nothing comes after what was read
-abbrev pub schemeOf : Read Scheme → SchemeText
-schemeOf misspelt = schemeText none
-schemeOf (got m []) = record { spelt = true; scheme = m }
-schemeOf (got m (t ∷ r)) = schemeText none
+abbrev pub schemeOf : Read Scheme → Option Scheme
+schemeOf misspelt = none
+schemeOf (got m []) = some m
+schemeOf (got m (t ∷ r)) = none

@@ -2,8 +2,7 @@
 -- spells. Definitions only.
 use Prim.Native.Nat.{ℕ}
 use mathlib.Core.Path.{_≡_}
-use mathlib.Core.Bool.{true, false}
-use mathlib.Core.List.{List, []}
+use mathlib.Core.List.{List}
 use mathlib.Core.Option.{Option, none, some}
 use lib.ListN.{drop}
 use Rattle.forms.specs.SchemeList.{EntryList}
@@ -13,7 +12,7 @@ use Rattle.text_grammar.specs.ItemReading.{found, kept, Moved}
 use Rattle.text_schemes.specs.SchemeLoaded.{ruleOf, entryOf, loadedScheme}
 use Rattle.text_schemes.specs.declared.parts.RuleRead.{RuleRead}
 use Rattle.text_schemes.specs.declared.parts.EntryRead.{EntryRead}
-use Rattle.text_schemes.specs.declared.parts.SchemeText.{SchemeText}
+use Rattle.forms.specs.declared.memory.Scheme.{Scheme}
 
 pub record RuleAt (s : List ℕ) (at : ℕ) (r : RuleRead) : Type 0 where
   pub gives : kept ruleOf (readRule (tokens (drop at s))) ≡ found (r .spelt) (r .rule) (tokens (drop (r .next .at) s))
@@ -24,6 +23,6 @@ pub record EntryAt (s : List ℕ) (at : ℕ) (r : EntryRead) : Type 0 where
   pub moved : Moved s at (r .next .at) (r .spelt)
 
 -- what a text spells, in memory
-abbrev pub schemeText : Option (List EntryList) → SchemeText
-schemeText none = record { spelt = false; scheme = loadedScheme [] }
-schemeText (some E) = record { spelt = true; scheme = loadedScheme E }
+abbrev pub loadedText : Option (List EntryList) → Option Scheme
+loadedText none = none
+loadedText (some E) = some (loadedScheme E)

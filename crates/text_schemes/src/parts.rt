@@ -2,7 +2,6 @@
 // and the cursor behind it.
 use forms::memory::Entry;
 use forms::memory::Rule;
-use forms::memory::Scheme;
 use text_grammar::cursor::Cursor;
 
 // The third part of an entry.
@@ -26,10 +25,4 @@ pub struct ItemRead {
     pub spelt: bool,
     pub entry: Entry,
     pub bytes: usize,
-}
-
-// What a whole text spells: whether it spells a scheme, and the scheme.
-pub struct SchemeText {
-    pub spelt: bool,
-    pub scheme: Scheme,
 }

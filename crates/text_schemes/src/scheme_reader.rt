@@ -1,8 +1,7 @@
-// A scheme read from a text into memory, in one pass.
+// The parts of a scheme read from a text into memory: marks, prefixes, rules, entries.
 use crate::parts::EntryRead;
 use crate::parts::ItemRead;
 use crate::parts::RuleRead;
-use crate::parts::SchemeText;
 use forms::memory::Entry;
 use forms::memory::Rule;
 use forms::memory::Scheme;
@@ -27,12 +26,11 @@ ghost use lib.ListN.{length, drop};
 ghost use Rattle.word.specs.Ceilings.{PREFIX};
 ghost use Rattle.text_grammar.specs.Spelling.{empty, byte, comma};
 ghost use Rattle.text_grammar.specs.Tokens.{run, tokens};
-ghost use Rattle.text_grammar.specs.Grammar.{readEntries};
 ghost use Rattle.text_patterns.specs.PatternMemory.{filled};
 ghost use Rattle.text_schemes.specs.SchemeLoaded.{loadedScheme};
-ghost use Rattle.text_schemes.specs.SchemeReading.{RuleAt, EntryAt, schemeText};
+ghost use Rattle.text_schemes.specs.SchemeReading.{RuleAt, EntryAt};
 ghost use Rattle.text_schemes.specs.EntryReading.{MarkAt, ChoiceAt, PrefixAt, HeadAt, MiddleAt, TailAt};
-ghost use Rattle.text_schemes.specs.EntryReading.{ItemAt};
+ghost use Rattle.text_schemes.specs.EntryReading.{ItemAt, noTokens};
 
 // A mark that is due.
 pub struct MarkRead {
@@ -61,7 +59,7 @@ pub struct PrefixRead {
 }
 
 // Whether both hold.
-fn both(a: bool, b: bool) -> bool
+pub fn both(a: bool, b: bool) -> bool
     ensures { λ r. ⌜ r ≡ a && b ⌝ }
 {
     if a {
@@ -71,7 +69,7 @@ fn both(a: bool, b: bool) -> bool
 }
 
 // Whether a choice was made, and not of the first mark.
-fn goes_on(k: Choice) -> bool
+pub fn goes_on(k: Choice) -> bool
     ensures { λ r. ⌜ r ≡ (k .spelt && not (k .first)) ⌝ }
 {
     let first = k.first;
@@ -93,7 +91,7 @@ fn byte_at(s: &[u8], c: Cursor, b: u8) -> MarkRead
 }
 
 // ∅ or an opening brace, where one of them is due.
-fn opening_at(s: &[u8], c: Cursor) -> Choice
+pub fn opening_at(s: &[u8], c: Cursor) -> Choice
     ensures { λ r. ⌜ ChoiceAt empty (byte 0x7B) (now (s .entry)) (c .at) r ⌝ }
 {
     let t = c.step(s);
@@ -294,7 +292,7 @@ pub fn no_entries() -> Scheme
 }
 
 // The entry with which the text begins, and the mark behind it.
-fn item_at(s: &[u8]) -> ItemRead
+pub fn item_at(s: &[u8]) -> ItemRead
     ensures { λ r. ⌜ ItemAt (now (s .entry)) r ⌝ }
 {
     let e = entry_at(s);
@@ -311,41 +309,11 @@ fn item_at(s: &[u8]) -> ItemRead
     }
 }
 
-// The scheme that a text spells, where nothing comes after it: the entries are read up to one that
-// is the last or misspelt. The count is the true number of entries; the first 128 are kept.
-pub fn load_scheme(s: &[u8]) -> SchemeText
-    ensures { λ r. ⌜ r ≡ schemeText (readEntries (tokens (now (s .entry)))) ⌝ }
+// Whether nothing but spaces comes from a cursor on.
+pub fn ends_at(s: &[u8], c: Cursor) -> bool
+    ensures { λ r. ⌜ r ≡ noTokens (tokens (drop (c .at) (now (s .entry)))) ⌝ }
 {
-    let c = Cursor { at: 0 };
-    let mark = opening_at(s, c);
-    let mut scheme = no_entries();
-    let mut at = mark.next.at;
-    let mut spelt = mark.spelt;
-    let mut more = goes_on(mark);
-    while more {
-        let item = item_at(&s[at..]);
-        let entry = item.entry;
-        let count = scheme.count;
-        at += item.bytes;
-        spelt = item.spelt;
-        more = item.more;
-        scheme.count = count + 1;
-        if count < ENTRIES {
-            scheme.entries[count] = entry;
-        }
-    }
-    let behind = Cursor { at };
-    let t = behind.step(s);
+    let t = c.step(s);
     let kind = t.kind;
-    if !both(spelt, is_end(kind)) {
-        let nothing = no_entries();
-        return SchemeText {
-            spelt: false,
-            scheme: nothing,
-        };
-    }
-    SchemeText {
-        spelt: true,
-        scheme,
-    }
+    is_end(kind)
 }
