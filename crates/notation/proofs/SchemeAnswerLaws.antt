@@ -5,15 +5,16 @@ use mathlib.Core.Path.{_≡_, refl, sym, ap, _∙_}
 use mathlib.Core.Bool.{Bool, true, false, not, true≢false}
 use mathlib.Core.List.{List, [], map}
 use mathlib.Core.Option.{Option, none, some}
-use lib.ListN.{length}
+use lib.ListN.{length, replicate}
 use lib.Dec.{ltb}
-use Rattle.word.specs.Ceilings.{SCHEME_TEXT}
+use Rattle.word.specs.Ceilings.{ENTRIES, SCHEME_TEXT}
 use Rattle.word.specs.Finding.{Finding, clean, fault, firstFault}
 use Rattle.word.specs.declared.refusal.Refusal.the-variants.{Misspelt, Oversize, NoPermutation, Rootless, Width}
 use Rattle.word.specs.declared.refusal.Refusal.the-variants.{NoPosition, Childless, NoTarget}
 use Rattle.scheme.specs.WellFormed.{listed, largeEntry, twinEntry, wrongWidth, outside, lacksChild, lacksTarget, schemeTests}
 use Rattle.forms.specs.SchemeList.{EntryList}
 use Rattle.forms.specs.SchemeMemory.{schemeIn, faultOf, faulty}
+use Rattle.forms.specs.declared.memory.Entry.{Entry}
 use Rattle.forms.specs.declared.memory.Scheme.{Scheme}
 use Rattle.forms.specs.declared.memory.Fault.{Fault}
 use Rattle.forms.specs.declared.memory.Fault.the-variants.{Clean, At}
@@ -22,7 +23,7 @@ use Rattle.text_grammar.specs.Tokens.{tokens}
 use Rattle.text_grammar.specs.Spelling.{SpellsScheme, writtenScheme}
 use Rattle.notation.specs.Answers.{answerFrom}
 use Rattle.text_grammar.specs.Grammar.{readEntries}
-use Rattle.text_schemes.specs.SchemeLoaded.{loadedScheme}
+use Rattle.text_schemes.specs.SchemeLoaded.{entryOf, plainEntry, loadedScheme}
 use Rattle.text_schemes.specs.SchemeReading.{loadedText}
 use Rattle.text_schemes.specs.SchemeLoading.{loaded-scheme-same, loaded-scheme-faults}
 use Rattle.text_grammar.specs.SpellingLaws.{scheme-sound, scheme-complete, scheme-unique, scheme-written-read}
@@ -55,6 +56,11 @@ or-read (At r i) m h = absurd (true≢false h)
 pub or-refused : (f : Fault) (m : Scheme) → faulty f ≡ true → noScheme f ≡ readSchemeOr f m
 or-refused Clean m h = absurd (true≢false (sym h))
 or-refused (At r i) m h = refl
+
+-- an array of plain entries is a scheme without entries
+pub none-loaded : (e : Entry) → e ≡ entryOf plainEntry → record { entries = replicate ENTRIES e; count = 0 } ≡ loadedScheme []
+unfolding loadedScheme
+none-loaded e h = rw h refl
 
 -- whether a text spells a scheme, and the scheme
 abbrev isSome : Option Scheme → Bool

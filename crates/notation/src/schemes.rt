@@ -9,7 +9,7 @@ use text_schemes::scheme_reader::both;
 use text_schemes::scheme_reader::ends_at;
 use text_schemes::scheme_reader::goes_on;
 use text_schemes::scheme_reader::item_at;
-use text_schemes::scheme_reader::no_entries;
+use text_schemes::scheme_reader::no_entry;
 use text_schemes::scheme_reader::opening_at;
 use text_writer::writing::put_scheme;
 use wellformed::scheme_tests::scheme_fault;
@@ -37,7 +37,11 @@ pub fn read_scheme(text: &[u8]) -> SchemeRead
         return refused_scheme(Fault::At(Refusal::Oversize, 0));
     }
     let mark = opening_at(text, Cursor { at: 0 });
-    let mut scheme = no_entries();
+    let none = no_entry();
+    let mut scheme = Scheme {
+        entries: [none; ENTRIES],
+        count: 0,
+    };
     let mut at = mark.next.at;
     let mut spelt = mark.spelt;
     let mut more = goes_on(mark);
@@ -67,7 +71,11 @@ pub fn read_scheme(text: &[u8]) -> SchemeRead
 fn refused_scheme(fault: Fault) -> SchemeRead
     ensures { λ r. ⌜ r ≡ noScheme fault ⌝ }
 {
-    let scheme = no_entries();
+    let none = no_entry();
+    let scheme = Scheme {
+        entries: [none; ENTRIES],
+        count: 0,
+    };
     SchemeRead { fault, scheme }
 }
 

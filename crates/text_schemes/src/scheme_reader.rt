@@ -4,7 +4,6 @@ use crate::parts::ItemRead;
 use crate::parts::RuleRead;
 use forms::memory::Entry;
 use forms::memory::Rule;
-use forms::memory::Scheme;
 use text_gaps::gap_reader::gaps_at;
 use text_gaps::gap_reader::number_at;
 use text_gaps::parts::GapsRead;
@@ -15,19 +14,17 @@ use text_grammar::kinds::is_empty;
 use text_grammar::kinds::is_end;
 use text_grammar::kinds::is_epsilon;
 use text_patterns::digits::put_digits;
-use word::limits::ENTRIES;
 use word::limits::GAPS;
 use word::limits::PARTS;
 use word::limits::PREFIX;
 ghost use mathlib.Core.Path.{_≡_};
 ghost use mathlib.Core.Bool.{not, _&&_};
-ghost use mathlib.Core.List.{[]};
 ghost use lib.ListN.{length, drop};
 ghost use Rattle.word.specs.Ceilings.{PREFIX};
 ghost use Rattle.text_grammar.specs.Spelling.{empty, byte, comma};
 ghost use Rattle.text_grammar.specs.Tokens.{run, tokens};
 ghost use Rattle.text_patterns.specs.PatternMemory.{filled};
-ghost use Rattle.text_schemes.specs.SchemeLoaded.{loadedScheme};
+ghost use Rattle.text_schemes.specs.SchemeLoaded.{entryOf, plainEntry};
 ghost use Rattle.text_schemes.specs.SchemeReading.{RuleAt, EntryAt};
 ghost use Rattle.text_schemes.specs.EntryReading.{MarkAt, ChoiceAt, PrefixAt, HeadAt, MiddleAt, TailAt};
 ghost use Rattle.text_schemes.specs.EntryReading.{ItemAt, noTokens};
@@ -274,20 +271,17 @@ fn entry_at(s: &[u8]) -> EntryRead
     EntryRead { spelt, entry, next }
 }
 
-// No entries.
-pub fn no_entries() -> Scheme
-    ensures { λ r. ⌜ r ≡ loadedScheme [] ⌝ }
+// The entry at places behind the end: ε, no gap vectors, expanding.
+pub fn no_entry() -> Entry
+    ensures { λ r. ⌜ r ≡ entryOf plainEntry ⌝ }
 {
-    Scheme {
-        entries: [Entry {
-            prefix: [0u8; PREFIX],
-            length: 0,
-            gaps: [0u8; PARTS],
-            widths: [0u8; GAPS],
-            gap_count: 0,
-            rule: Rule::Expand,
-        }; ENTRIES],
-        count: 0,
+    Entry {
+        prefix: [0u8; PREFIX],
+        length: 0,
+        gaps: [0u8; PARTS],
+        widths: [0u8; GAPS],
+        gap_count: 0,
+        rule: Rule::Expand,
     }
 }
 

@@ -19,7 +19,7 @@ use Rattle.text_schemes.proofs.EntryItemLaws.{read-kept, read-counted, at-last}
 use Rattle.text_schemes.proofs.EntryItemLaws.{text-spelt, text-misspelt, whole-text}
 use Rattle.notation.specs.SchemeAnswers.{readSchemeOr, schemeAnswer}
 use Rattle.forms.specs.declared.memory.Fault.{Fault}
-use Rattle.notation.proofs.SchemeAnswerLaws.{answer-long, answer-misspelt, answer-tested, or-read, or-refused, answered}
+use Rattle.notation.proofs.SchemeAnswerLaws.{none-loaded, answer-long, answer-misspelt, answer-tested, or-read, or-refused, answered}
 use borrow.Author.Needs.{needs}
 use Rattle.notation.proofs.schemes.read_scheme.Statement.{statement}
 use Rattle.notation.proofs.schemes.read_scheme.Tie as tie
@@ -47,7 +47,7 @@ loop-holds c =
     let made = c .before in
     let mark = made .before in
     start-read (mark .before .before .before .args .text .now) (mark .opening-at .result) (mark .opening-at .ensures)
-    (made .no-entries .result) (c .goes-on .result) (made .no-entries .ensures) (c .goes-on .ensures)
+    _ (c .goes-on .result) (none-loaded (made .no-entry .result) (made .no-entry .ensures)) (c .goes-on .ensures)
 
 sub-item-at : tie.Need-sub-item-at Inv-loop μ-loop
 sub-item-at c = c .before .loop .inv .inside
