@@ -64,3 +64,10 @@ SCHEME_TEXT = 32768
 -- "It holds 4,096 cells"
 abbrev pub CELLS : ℕ
 CELLS = 4096
+
+-- "the judge's lent page of at least 32 bytes", "The first 16 bytes hold .." (02, order 1)
+abbrev pub PAGE : ℕ
+PAGE = 32
+
+abbrev pub HALF : ℕ
+HALF = 16

@@ -6,6 +6,7 @@ pub mod Vocabulary
 pub mod Refusal
 pub mod Finding
 pub mod Told
+pub mod Earliest
 pub mod Copy
 pub mod Containment
 pub mod ListLaws

@@ -38,3 +38,7 @@ pub const PATTERN_TEXT: usize = 1024;
 pub const SCHEME_TEXT: usize = 32768;
 // cells of the table program's table
 pub const CELLS: usize = 4096;
+
+// bytes of a witness: its permutation and its copy, each in one half
+pub const PAGE: usize = 32;
+pub const HALF: usize = 16;

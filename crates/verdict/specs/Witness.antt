@@ -1,0 +1,107 @@
+-- The witness of a refusal 11, in the words of order 1 of document 02. Definitions only.
+use Prim.Native.Nat.{ℕ, zero, suc, _+_, _-_}
+use mathlib.Core.Path.{_≡_}
+use mathlib.Core.Bool.{Bool, true, false, not, _&&_, cond}
+use mathlib.Core.List.{List, [], _∷_, _++_, List·Memᴰ}
+use mathlib.Core.Option.{Option, none, some}
+use lib.ListN.{length, take, replicate}
+use lib.Dec.{ltb, eqb}
+use Rattle.word.specs.Ceilings.{PAGE, HALF}
+use Rattle.word.specs.Lists.{first}
+use Rattle.word.specs.Word.{avoids, reduce, isPerm, perms, before}
+use Rattle.word.specs.Earliest.{earliest, stands, positionsOf}
+use Rattle.word.specs.Refusal.{numberOf}
+use Rattle.cell.specs.Cell.{same, total, spacing, cell, deleted, merged, compared}
+use Rattle.forms.specs.SchemeList.{Does, expands, deletes, EntryList}
+use Rattle.forms.specs.declared.memory.Fault.{Fault}
+use Rattle.forms.specs.declared.memory.Fault.the-variants.{Clean, At}
+use Rattle.scheme.specs.WellFormed.{listed}
+use Rattle.verdict.specs.Verdict.{sizesDiffer}
+
+-- "Some permutation of the shorter prefix's cell has no partner; with the deleted position put back
+-- it has the entry's prefix and spacing and contains a pattern" (02): w, the longer one, is lost at
+-- the spacing g of the prefix p with the deleted positions R
+unfoldable pub lost : List (List ℕ) → List ℕ → List ℕ → List ℕ → List ℕ → Bool
+unfolding same reduce spacing cell deleted merged avoids
+lost P p R g w =
+    (same (reduce (take (length p) w)) p && same (spacing (length w) (take (length p) w)) g) &&
+    (listed (cell P (deleted R p) (merged R p g)) (deleted R w) && not (avoids P w))
+
+-- "Among the compared spacings, the one shown has the least total of spacing, then the least
+-- spacing of the refused entry" (02): the compared spacings go by rising total and are
+-- lexicographic within a total
+unfoldable pub shownSpacing : List (List ℕ) → List ℕ → List (List ℕ) → List ℕ → Option (List ℕ)
+unfolding sizesDiffer compared
+shownSpacing P p B R = first (sizesDiffer P p R) (compared P (length p) B)
+
+-- "then the least permutation, both lexicographic" (02)
+unfoldable pub shownAt : List (List ℕ) → List ℕ → List ℕ → Option (List ℕ) → Option (List ℕ)
+unfolding lost perms total
+shownAt P p R none = none
+shownAt P p R (some g) = first (lost P p R g) (perms (length p + total g))
+
+unfoldable pub shownWord : List (List ℕ) → List ℕ → List (List ℕ) → List ℕ → Option (List ℕ)
+unfolding shownSpacing shownAt
+shownWord P p B R = shownAt P p R (shownSpacing P p B R)
+
+-- "The first 16 bytes hold its length, its entries and zeros; the next 16 hold the length of a copy
+-- in it, the copy's positions and zeros" (02)
+abbrev pub half : List ℕ → List ℕ
+half u = length u ∷ (u ++ replicate (HALF - 1 - length u) 0)
+
+abbrev pub witnessBytes : List (List ℕ) → Option (List ℕ) → List ℕ
+witnessBytes P none = []
+witnessBytes P (some w) = half w ++ half (positionsOf (earliest P w))
+
+-- the permutation that is shown for an entry; an expanding entry loses none
+abbrev pub ruleWord : List (List ℕ) → List ℕ → List (List ℕ) → Does → Option (List ℕ)
+ruleWord P p B expands = none
+ruleWord P p B (deletes r) = shownWord P p B (r ∷ [])
+
+-- the entry at an index, counted from 0
+abbrev pub entryAt : List EntryList → ℕ → Option EntryList
+entryAt [] i = none
+entryAt (e ∷ E) zero = some e
+entryAt (e ∷ E) (suc i) = entryAt E i
+
+abbrev pub entryWord : List (List ℕ) → Option EntryList → Option (List ℕ)
+entryWord P none = none
+entryWord P (some e) = ruleWord P (e .prefix) (e .gaps) (e .rule)
+
+-- "With refusal 11 the judge's lent page .. receives a witness for the refused entry" (02): the
+-- permutation that is shown with a finding; none without refusal 11
+abbrev pub wordShown : List (List ℕ) → List EntryList → Fault → Option (List ℕ)
+wordShown P E Clean = none
+wordShown P E (At r i) = cond (eqb (numberOf r) 11) (entryWord P (entryAt E i)) none
+
+-- the bytes that are written
+abbrev pub bytesShown : List (List ℕ) → List EntryList → Fault → List ℕ
+bytesShown P E f = witnessBytes P (wordShown P E f)
+
+-- The same as statements, for whoever reads a page.
+
+-- w is lost at the spacing g
+pub record IsLost (P : List (List ℕ)) (p R g w : List ℕ) : Type 0 where
+  pub perm : isPerm w ≡ true
+  pub prefix : reduce (take (length p) w) ≡ p
+  pub spaced : spacing (length w) (take (length p) w) ≡ g
+  pub shorter : List·Memᴰ (deleted R w) (cell P (deleted R p) (merged R p g))
+  pub contains-one : avoids P w ≡ false
+
+-- v at the spacing h comes before w at the spacing g: by the total, the spacing, the permutation
+abbrev pub earlier : List ℕ → List ℕ → List ℕ → List ℕ → Bool
+earlier h v g w =
+    cond (ltb (total h) (total g)) true (eqb (total h) (total g) && cond (before h g) true (same h g && before v w))
+
+-- the page begins with the least word that is lost at a compared spacing, and with the first copy
+-- of the earliest pattern in it
+pub record Witnesses (P : List (List ℕ)) (p : List ℕ) (B : List (List ℕ)) (R page : List ℕ) : Type 0 where
+  pub at : List ℕ
+  pub word : List ℕ
+  pub pattern : ℕ
+  pub copy : List ℕ
+  pub bytes : take PAGE page ≡ half word ++ half copy
+  pub at-compared : List·Memᴰ at (compared P (length p) B)
+  pub is-lost : IsLost P p R at word
+  pub copied : earliest P word ≡ stands pattern copy
+  pub least : (h v : List ℕ) → List·Memᴰ h (compared P (length p) B) → IsLost P p R h v → earlier h v at word ≡ false
