@@ -1,12 +1,13 @@
 -- The candidates for a violation of a deletion, one word for each pattern and spacing. Definitions
 -- only.
 use Prim.Native.Nat.{ℕ, _-_}
-use mathlib.Core.Bool.{Bool, false, _&&_, _||_}
+use mathlib.Core.Bool.{Bool, false, _&&_, _||_, cond}
 use mathlib.Core.List.{List, [], _∷_, _++_, map}
+use mathlib.Core.Option.{Option, none, some}
 use lib.ListN.{length, take, drop}
 use lib.Dec.{ltb, eqb}
-use Rattle.word.specs.Lists.{any}
-use Rattle.word.specs.Word.{avoids, under, reduce, has, entry}
+use Rattle.word.specs.Lists.{any, keep, first}
+use Rattle.word.specs.Word.{avoids, under, reduce, has, entry, before}
 use Rattle.word.specs.Vocabulary.{fits}
 use Rattle.cell.specs.Cell.{total, without, compared}
 use Rattle.cell.specs.Built.{level, built}
@@ -50,3 +51,38 @@ violated P p R g = any (violates P p R g) P
 unfoldable pub irreversible : List (List ℕ) → List ℕ → List (List ℕ) → List ℕ → Bool
 unfolding violated compared
 irreversible P p B R = any (violated P p R) (compared P (length p) B)
+
+-- the first compared spacing with a violation
+unfoldable pub violatedFirst : List (List ℕ) → List ℕ → List (List ℕ) → List ℕ → Option (List ℕ)
+unfolding violated compared
+violatedFirst P p B R = first (violated P p R) (compared P (length p) B)
+
+-- the rest that the pattern's last t entries make
+abbrev pub restOf : List ℕ → ℕ → List ℕ
+restOf β t = reduce (drop (headLength β t) β)
+
+-- the words of the patterns that violate at g, with the deleted positions put back
+unfoldable pub lostWords : List (List ℕ) → List ℕ → List ℕ → List ℕ → List (List ℕ)
+unfolding violates built reduce total
+lostWords P p R g = map (λ β. built p g (restOf β (total g))) (keep (violates P p R g) P)
+
+-- the lesser of two words in lexicographic order, the first of which may be missing
+abbrev pub lesser : Option (List ℕ) → List ℕ → Option (List ℕ)
+lesser none w = some w
+lesser (some v) w = cond (before w v) (some w) (some v)
+
+-- the least of a word that may be missing and of the words of a list
+unfoldable pub leastOf : Option (List ℕ) → List (List ℕ) → Option (List ℕ)
+leastOf v [] = v
+leastOf v (w ∷ l) = leastOf (lesser v w) l
+
+-- the least word of the candidates that violate at a spacing
+unfoldable pub leastAt : List (List ℕ) → List ℕ → List ℕ → Option (List ℕ) → Option (List ℕ)
+unfolding leastOf lostWords
+leastAt P p R none = none
+leastAt P p R (some g) = leastOf none (lostWords P p R g)
+
+-- what the candidate search shows of a deletion: the least word at the first violated spacing
+unfoldable pub leastCandidate : List (List ℕ) → List ℕ → List (List ℕ) → List ℕ → Option (List ℕ)
+unfolding leastAt violatedFirst
+leastCandidate P p B R = leastAt P p R (violatedFirst P p B R)
