@@ -1,6 +1,6 @@
 -- A cell is the list of the built words that avoid the patterns, one for each rest, in the order of
 -- the rests.
-use Prim.Native.Nat.{ℕ, suc, _+_, _≤_, _<_}
+use Prim.Native.Nat.{ℕ, suc, _+_, _≤_}
 use native.Mathlib.Omega.{arith}
 use mathlib.Core.Path.{_≡_, refl, sym, ap, ap₂, _∙_}
 use mathlib.Core.Logic.{_⊎_, inl, inr}
@@ -13,8 +13,9 @@ use lib.Dec.{eqb}
 use borrow.Author.Tests.{eqb-true, eq-eqb}
 use Rattle.word.specs.Lists.{all, keep}
 use Rattle.word.specs.Word.{avoids, reduce, isPerm, perms, before}
-use Rattle.word.specs.ListLaws.{and-left, and-right, and-in, all-out, keep-out, keep-in, below-or-not}
-use Rattle.word.specs.CopyLaws.{before-irrefl, before-cons, before-larger}
+use Rattle.word.specs.ListLaws.{and-left, and-right, and-in, all-out, keep-out, keep-in}
+use Rattle.word.specs.CopyLaws.{before-irrefl}
+use Rattle.word.specs.FirstLaws.{before-asym}
 use Rattle.word.specs.Vocabulary.{factorial}
 use Rattle.word.specs.PermLaws.{perms-are, perms-all, perm-reduce, length-perms}
 use Rattle.word.specs.AscendLaws.{ascends, ascends-map, ascends-keep, perms-ascend}
@@ -25,20 +26,6 @@ use Rattle.cell.specs.BuiltWords.{perm-parts, built-length, built-perm, 
 use Rattle.cell.specs.BuiltWords.{rest-perm, rest-length, built-onto, built-before}
 
 -- two ascending lists with the same members are the same
-
-before-asym : (u v : List ℕ) → before u v ≡ true → before v u ≡ true → ⊥
-unfolding before
-before-asym u [] h k = false≢true h
-before-asym [] (y ∷ v) h k = false≢true k
-before-asym (x ∷ u) (y ∷ v) h k = go (before-asym u v) (below-or-not x y) (below-or-not y x)
-  where
-    go : (before u v ≡ true → before v u ≡ true → ⊥) → (x < y) ⊎ (y ≤ x) → (y < x) ⊎ (x ≤ y) → ⊥
-    go ih (inl a) b = false≢true (sym (before-larger x y v u a) ∙ k)
-    go ih (inr a) (inl b) = false≢true (sym (before-larger y x u v b) ∙ h)
-    go ih (inr a) (inr b) =
-        let e : x ≡ y = omega arith in
-        ih (sym (before-cons y u v) ∙ ap (λ (z : ℕ). before (z ∷ u) (y ∷ v)) (sym e) ∙ h)
-        (sym (before-cons y v u) ∙ ap (λ (z : ℕ). before (y ∷ v) (z ∷ u)) (sym e) ∙ k)
 
 -- every later word of an ascending list comes after the first
 ascends-after : (u : List ℕ) (k : List (List ℕ)) {w : List ℕ} → ascends (u ∷ k) ≡ true → List·Memᴰ w k → before u w ≡ true

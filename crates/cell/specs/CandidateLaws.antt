@@ -19,7 +19,7 @@ use Rattle.word.specs.PermLaws.{has-out, has-in, perm-reduce, length-reduce}
 use Rattle.cell.specs.Cell.{total, without, mOf, compared}
 use Rattle.cell.specs.Claim.{DeletionClaim}
 use Rattle.cell.specs.Built.{level, built}
-use Rattle.cell.specs.Candidate.{place, hit, violates, violated, irreversible}
+use Rattle.cell.specs.Candidate.{place, hit, violates, violated, restOf, irreversible}
 use Rattle.cell.specs.SpacingWalk.{compared-are, compared-all}
 use Rattle.cell.specs.SublistLaws.{sublist-mem}
 use Rattle.cell.specs.RestLaws.{Within, built-sublist}
@@ -93,7 +93,7 @@ hit-out p R g β h =
           (and-right (ltb (total g) (length β)) found h) refl,
     )
 
-hit-in : (p R g β a σ : List ℕ) → Cut β a g σ → Sublistᴰ a p → any (gone p R) a ≡ true → hit p R g β ≡ true
+pub hit-in : (p R g β a σ : List ℕ) → Cut β a g σ → Sublistᴰ a p → any (gone p R) a ≡ true → hit p R g β ≡ true
 unfolding hit
 hit-in p R g β a σ c d e =
     and-in (ltb (total g) (length β)) (place (under (tailOf β (total g))) (level g) (gone p R) false [] [] (headOf β (total g)) p)
@@ -118,29 +118,35 @@ module _ (P : List (List ℕ)) (p R : List ℕ) (perm : isPerm p ≡ true) (apar
           (λ (x : ℕ) (n : List·Memᴰ x a). prefix-within p g perm size x (sublist-mem d n)) some i)
       go false e = avoids-not P (built (without R p) g σ) m (contains-in β (built-sublist g (sublist-kept R d e) (Sublistᴰ·refl σ)) i)
 
+  -- A pattern that violates: the rest that its last entries make avoids without the deleted
+  -- positions, and not with them.
+  pub violates-out : (β : List ℕ) → List·Memᴰ β P → violates P p R g β ≡ true →
+      (isPerm (restOf β (total g)) ≡ true) × (length (restOf β (total g)) ≡ total g) ×
+      (avoids P (built (without R p) g (restOf β (total g))) ≡ true) × (avoids P (built p g (restOf β (total g))) ≡ false)
+  unfolding violates
+  violates-out β m e =
+      let avoiding : Bool = avoids P (built (without R p) g rest) in
+      let (l, f) = hit-out p R g β (and-left (hit p R g β) avoiding e) in
+      let w : Within (f .at) g = λ (x : ℕ) (n : List·Memᴰ x (f .at)). prefix-within p g perm size x (sublist-mem (f .part) n) in
+      let i : iso β (built (f .at) g rest) ≡ true =
+      rw (cut-joined β (total g)) at (copy-in (headOf β (total g)) (tailOf β (total g)) (f .at) g w (f .copy) (f .levels)) in (
+        perm-reduce (tailOf β (total g)) (tail-distinct β (total g) (apart β m)),
+        length-reduce (tailOf β (total g)) ∙ tail-length β (total g) (omega arith),
+        and-right (hit p R g β) avoiding e,
+        avoids-not P (built p g rest) m (contains-in β (built-sublist g (f .part) (Sublistᴰ·refl rest)) i),
+      )
+    where
+      rest : List ℕ
+      rest = restOf β (total g)
+
   -- .. and if no rest is lost, there is no violation.
   pub candidates-of-agrees : Agrees P p (without R p) g → violated P p R g ≡ false
-  unfolding violated violates
+  unfolding violated
   candidates-of-agrees agree = none-any (violates P p R g) P (λ β m. go β m (violates P p R g β) refl)
     where
-      rest : List ℕ → List ℕ
-      rest β = reduce (tailOf β (total g))
-
-      no : (β : List ℕ) → List·Memᴰ β P → avoids P (built (without R p) g (rest β)) ≡ true → total g < length β →
-          Placed (under (tailOf β (total g))) (level g) (gone p R) false [] [] (headOf β (total g)) p → ⊥
-      no β m e l f =
-          let w : Within (f .at) g = λ (x : ℕ) (n : List·Memᴰ x (f .at)). prefix-within p g perm size x (sublist-mem (f .part) n) in
-          let i : iso β (built (f .at) g (rest β)) ≡ true =
-          rw (cut-joined β (total g)) at (copy-in (headOf β (total g)) (tailOf β (total g)) (f .at) g w (f .copy) (f .levels)) in
-          let k : length (rest β) ≡ total g = length-reduce (tailOf β (total g)) ∙ tail-length β (total g) (omega arith) in
-          true-not-false (sym (agree (rest β) (perm-reduce (tailOf β (total g)) (tail-distinct β (total g) (apart β m))) k e) ∙
-          avoids-not P (built p g (rest β)) m (contains-in β (built-sublist g (f .part) (Sublistᴰ·refl (rest β))) i))
-
       go : (β : List ℕ) → List·Memᴰ β P → (t : Bool) → violates P p R g β ≡ t → t ≡ false
       go β m true e =
-          let avoiding : Bool = avoids P (built (without R p) g (rest β)) in
-          let (l, f) = hit-out p R g β (and-left (hit p R g β) avoiding e) in
-          absurd (no β m (and-right (hit p R g β) avoiding e) l f)
+          let (s, l, a, n) = violates-out β m e in absurd (true-not-false (sym (agree (restOf β (total g)) s l a) ∙ n))
       go β m false e = refl
 
 -- The candidates find no violation at the compared spacings exactly if the deletion claim holds at

@@ -44,27 +44,27 @@ sublist-of-built p g σ d =
     (a, r, e ∙ ap₂ _++_ ea er, da, dr)
 
 -- at spacing g: a and a part r of the rest σ are a copy of β, and q with the rest σ avoids P
-record Copied (P : List (List ℕ)) (β q a g σ r : List ℕ) : Type 0 where
-  below-q : Within q g
-  below-a : Within a g
-  perm : isPerm σ ≡ true
-  size : length σ ≡ total g
-  part : Sublistᴰ r σ
-  copy : iso β (built a g r) ≡ true
-  avoiding : avoids P (built q g σ) ≡ true
+pub record Copied (P : List (List ℕ)) (β q a g σ r : List ℕ) : Type 0 where
+  pub below-q : Within q g
+  pub below-a : Within a g
+  pub perm : isPerm σ ≡ true
+  pub size : length σ ≡ total g
+  pub part : Sublistᴰ r σ
+  pub copy : iso β (built a g r) ≡ true
+  pub avoiding : avoids P (built q g σ) ≡ true
 
 -- a copy at a spacing that g is at least, with a rest of length n and a part of length k
-record Smaller (P : List (List ℕ)) (β q a g : List ℕ) (n k : ℕ) : Type 0 where
-  b : List ℕ
-  τ : List ℕ
-  t : List ℕ
-  at-most : atLeast g b ≡ true
-  rest-length : length τ ≡ n
-  part-length : length t ≡ k
-  copied : Copied P β q a b τ t
+pub record Smaller (P : List (List ℕ)) (β q a g : List ℕ) (n k : ℕ) : Type 0 where
+  pub b : List ℕ
+  pub τ : List ℕ
+  pub t : List ℕ
+  pub at-most : atLeast g b ≡ true
+  pub rest-length : length τ ≡ n
+  pub part-length : length t ≡ k
+  pub copied : Copied P β q a b τ t
 
 -- an entry of the rest that is not in r goes
-one-less : (P : List (List ℕ)) (β q a g σ r : List ℕ) (n : ℕ) → Copied P β q a g σ r → length σ ≡ suc n →
+pub one-less : (P : List (List ℕ)) (β q a g σ r : List ℕ) (n : ℕ) → Copied P β q a g σ r → length σ ≡ suc n →
     length r ≤ n → Smaller P β q a g n (length r)
 one-less P β q a g σ r n c k l = spare (sublist-spare (c .part) (omega arith))
   where

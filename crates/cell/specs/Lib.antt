@@ -27,3 +27,4 @@ pub mod ChildLaws
 pub mod BinomialLaws
 pub mod BasisLaws
 pub mod ListedLaws
+pub mod LeastLaws

@@ -16,3 +16,4 @@ pub mod CopyLaws
 pub mod BumpLaws
 pub mod PermLaws
 pub mod AscendLaws
+pub mod FirstLaws
