@@ -63,12 +63,12 @@ module _ (P : List (List ℕ)) (p R : List ℕ) (perm : isPerm p ≡ true) (insi
         (w ≡ built (deleted R p) (merged R p g) σ)
     shorter-out m = rw (merged-total R p g) at (cell-out P (deleted R p) (merged R p g) m)
 
-    shorter-in : (σ : List ℕ) → List·Memᴰ σ (perms (total g)) → avoids P (built (deleted R p) (merged R p g) σ) ≡ true →
+    pub shorter-in : (σ : List ℕ) → List·Memᴰ σ (perms (total g)) → avoids P (built (deleted R p) (merged R p g) σ) ≡ true →
         List·Memᴰ (built (deleted R p) (merged R p g) σ) (cell P (deleted R p) (merged R p g))
     shorter-in σ m a =
         cell-in P (deleted R p) (merged R p g) σ (deleted-perm R p perm) shorter-size (rw (← merged-total R p g) at m) a
 
-    removed : (σ : List ℕ) → List·Memᴰ σ (perms (total g)) → deleted R (built p g σ) ≡ built (deleted R p) (merged R p g) σ
+    pub removed : (σ : List ℕ) → List·Memᴰ σ (perms (total g)) → deleted R (built p g σ) ≡ built (deleted R p) (merged R p g) σ
     removed σ m =
         let (sp, sl) = perms-are (total g) m in
         deleted-built R p g perm size inside σ (built-perm p g σ perm size sp sl)

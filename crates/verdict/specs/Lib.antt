@@ -3,6 +3,7 @@ pub mod Verdict
 pub mod Truth
 pub mod Witness
 pub mod VerdictLaws
+pub mod WitnessLaws
 pub mod Value
 pub mod Size
 pub mod ValueLaws

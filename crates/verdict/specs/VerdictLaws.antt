@@ -42,15 +42,11 @@ live-law P p B perm = (
   λ h. none-in (λ (x : List ℕ). not (isEmpty (cell P p x))) B (λ b m. empty-in (cell P p b) (gap-law P p b perm .1 (h b m))),
 )
 
--- the sizes agree at all compared spacings
-sizes-agree : (P : List (List ℕ)) (p : List ℕ) (B : List (List ℕ)) (R : List ℕ) →
-    (any (sizesDiffer P p R) (compared P (length p) B) ≡ false) ↔ SizesAgree P p B R
+-- sizes that do not differ are the same
+pub sizes-same : (P : List (List ℕ)) (p R g : List ℕ) → sizesDiffer P p R g ≡ false →
+    length (cell P p g) ≡ length (cell P (deleted R p) (merged R p g))
 unfolding sizesDiffer
-sizes-agree P p B R = (
-  λ e g m. agree (length (cell P p g)) (length (cell P (deleted R p) (merged R p g))) (none-out (sizesDiffer P p R) e m),
-  λ h. none-in (sizesDiffer P p R) (compared P (length p) B)
-      (λ g m. ap not (eq-eqb (length (cell P p g)) (length (cell P (deleted R p) (merged R p g))) (h g m))),
-)
+sizes-same P p R g e = agree (length (cell P p g)) (length (cell P (deleted R p) (merged R p g))) e
   where
     agree : (a b : ℕ) → not (eqb a b) ≡ false → a ≡ b
     agree a b e = eqb-true a b (go (eqb a b) e)
@@ -58,6 +54,19 @@ sizes-agree P p B R = (
         go : (t : Bool) → not t ≡ false → t ≡ true
         go true h = refl
         go false h = sym h
+
+pub same-sizes : (P : List (List ℕ)) (p R g : List ℕ) → length (cell P p g) ≡ length (cell P (deleted R p) (merged R p g)) →
+    sizesDiffer P p R g ≡ false
+unfolding sizesDiffer
+same-sizes P p R g e = ap not (eq-eqb (length (cell P p g)) (length (cell P (deleted R p) (merged R p g))) e)
+
+-- the sizes agree at all compared spacings
+pub sizes-agree : (P : List (List ℕ)) (p : List ℕ) (B : List (List ℕ)) (R : List ℕ) →
+    (any (sizesDiffer P p R) (compared P (length p) B) ≡ false) ↔ SizesAgree P p B R
+sizes-agree P p B R = (
+  λ e g m. sizes-same P p R g (none-out (sizesDiffer P p R) e m),
+  λ h. none-in (sizesDiffer P p R) (compared P (length p) B) (λ g m. same-sizes P p R g (h g m)),
+)
 
 -- No compared sizes differ exactly if the claim of the rule is true.
 pub differs-law : (P : List (List ℕ)) (p : List ℕ) (B : List (List ℕ)) (rule : Does) → isPerm p ≡ true → outside (length p) rule ≡ false →

@@ -3,7 +3,7 @@ use Prim.Native.Nat.{ℕ, _<_, _≤_}
 use mathlib.Core.Path.{_≡_, refl, sym, ap, ap₂, _∙_}
 use mathlib.Core.Logic.{_⊎_, inl, inr}
 use mathlib.Core.Bool.{Bool, true, false, cond, _&&_, _||_, false≢true}
-use mathlib.Core.List.{List, [], _∷_, _++_, List·Memᴰ, List·Memᴰ·head, List·Memᴰ·tail, List·Memᴰ·not-nil, List·Memᴰ·cases-cons}
+use mathlib.Core.List.{List, [], _∷_, _++_, map, Memᴰ·map, List·Memᴰ, List·Memᴰ·head, List·Memᴰ·tail, List·Memᴰ·not-nil, List·Memᴰ·cases-cons}
 use mathlib.Core.Option.{Option, none, some}
 use native.Mathlib.Omega.{arith}
 use lib.Dec.{ltb, eqb}
@@ -11,7 +11,7 @@ use borrow.Author.Tests.{ltb-true, ltb-false, lt-ltb, le-ltb, eqb-true, eq-eqb}
 use Rattle.word.specs.Lists.{any, all, first}
 use Rattle.word.specs.Word.{before}
 use Rattle.word.specs.ListLaws.{true-not-false, and-left, and-right, all-out, below-or-not}
-use Rattle.word.specs.CopyLaws.{before-cons, before-larger, InOrder}
+use Rattle.word.specs.CopyLaws.{before-irrefl, before-cons, before-larger, InOrder}
 use Rattle.word.specs.AscendLaws.{ascends}
 
 module _ {A : Type 0} where
@@ -138,3 +138,34 @@ ascends-in-order (u ∷ l) a = (
     go : (v : List ℕ) (b : Bool) → before v u ≡ b → before u v ≡ true → b ≡ false
     go v true e h = absurd (before-asym u v h e)
     go v false e h = refl
+
+-- a word behind another in an ascending list comes after it, where the list ascends by a key
+pub ascends-behind : (key : List ℕ → List ℕ) (u : List (List ℕ)) (x : List ℕ) (v : List (List ℕ)) {y : List ℕ} →
+    ascends (map key (u ++ (x ∷ v))) ≡ true → List·Memᴰ y v → before (key x) (key y) ≡ true
+unfolding ascends
+ascends-behind key [] x v a m =
+    all-out (before (key x)) (Memᴰ·map key m) (and-left (all (before (key x)) (map key v)) (ascends (map key v)) a)
+ascends-behind key (z ∷ u) x v a m =
+    let l = map key (u ++ (x ∷ v)) in ascends-behind key u x v (and-right (all (before (key z)) l) (ascends l) a) m
+
+-- in such a list no element that passes the test comes before the first that does
+pub first-ordered : (key : List ℕ → List ℕ) (f : List ℕ → Bool) (l : List (List ℕ)) (u v : List ℕ) → ascends (map key l) ≡ true →
+    first f l ≡ some u → List·Memᴰ v l → f v ≡ true → before (key v) (key u) ≡ false
+unfolding ascends
+first-ordered key f [] u v a h m t = absurd (List·Memᴰ·not-nil m)
+first-ordered key f (s ∷ l) u v a h m t = go (f s) refl h (List·Memᴰ·cases-cons m) (λ k n. first-ordered key f l u v
+    (and-right (all (before (key s)) (map key l)) (ascends (map key l)) a) k n t)
+  where
+    after : List·Memᴰ v l → before (key s) (key v) ≡ true
+    after n = all-out (before (key s)) (Memᴰ·map key n) (and-left (all (before (key s)) (map key l)) (ascends (map key l)) a)
+
+    not-first : (b : Bool) → before (key v) (key s) ≡ b → List·Memᴰ v l → b ≡ false
+    not-first true e n = absurd (before-asym (key s) (key v) (after n) e)
+    not-first false e n = refl
+
+    go : (b : Bool) → f s ≡ b → cond b (some s) (first f l) ≡ some u → (v ≡ s) ⊎ List·Memᴰ v l →
+        (first f l ≡ some u → List·Memᴰ v l → before (key v) (key u) ≡ false) → before (key v) (key u) ≡ false
+    go true e k (inl q) below = let r : v ≡ u = cc in rw r (before-irrefl (key u))
+    go true e k (inr n) below = let r : u ≡ s = cc in rw r (not-first (before (key v) (key s)) refl n)
+    go false e k (inl q) below = absurd (true-not-false (sym t ∙ ap f q ∙ e))
+    go false e k (inr n) below = below k n
