@@ -334,3 +334,80 @@ module _ (P : List (List ℕ)) (each-perm : (β : List ℕ) → List·Memᴰ β 
       go : (o : Option (List ℕ)) → first (violated Q p R) (compared Q (length p) B) ≡ o → shownAt P p R o ≡ leastAt Q p R o
       go none e = refl
       go (some g) e = least-lost g e (lostWords Q p R g) refl
+
+-- a word that is there
+some-not-none : {A : Type 0} (x : A) → none ≡ some x → ⊥
+some-not-none x e = let z : _≡_ {A = ℕ} 0 1 = cc in absurd (omega arith)
+
+module _ (P : List (List ℕ)) (p R : List ℕ) (perm : isPerm p ≡ true) (inside : all (within (length p)) R ≡ true) (B : List (List ℕ)) where
+  -- what is shown is lost at a compared spacing, and no word that is lost at one comes before it
+  record Shown (w : List ℕ) : Type 0 where
+    at : List ℕ
+    at-compared : List·Memᴰ at (compared P (length p) B)
+    is-lost : IsLost P p R at w
+    least : (h v : List ℕ) → List·Memᴰ h (compared P (length p) B) → IsLost P p R h v → earlier h v at w ≡ false
+
+  -- the order of spacings and words
+  not-earlier : (h v g w : List ℕ) → before (totalled h) (totalled g) ≡ false → (h ≡ g → before v w ≡ false) → earlier h v g w ≡ false
+  unfolding before
+  not-earlier h v g w ordered last = go (ltb (total h) (total g)) ordered
+    where
+      same-place : (s : Bool) → same h g ≡ s → s && before v w ≡ false
+      same-place true e = last (same-out h g e)
+      same-place false e = refl
+
+      within-total : (t b : Bool) → t && b ≡ false → t && cond b true (same h g && before v w) ≡ false
+      within-total true true e = e
+      within-total true false e = same-place (same h g) refl
+      within-total false b e = refl
+
+      go : (t : Bool) → cond t true (eqb (total h) (total g) && before h g) ≡ false →
+          cond t true (eqb (total h) (total g) && cond (before h g) true (same h g && before v w)) ≡ false
+      go true e = e
+      go false e = within-total (eqb (total h) (total g)) (before h g) e
+
+  shown-at : (g w : List ℕ) → first (sizesDiffer P p R) (compared P (length p) B) ≡ some g →
+      first (lost P p R g) (perms (length p + total g)) ≡ some w → Shown w
+  shown-at g w s e =
+      let (m, d) = first-some (sizesDiffer P p R) (compared P (length p) B) g s in
+      let (n, l) = first-some (lost P p R g) (perms (length p + total g)) w e in
+      record {
+        at = g;
+        at-compared = m;
+        is-lost = lost-out P p R g w n l;
+        least = λ h v k i. not-earlier h v g w
+            (first-ordered totalled (sizesDiffer P p R) (compared P (length p) B) g h (compared-ascend P (length p) B) s k
+            (sizes-lost P p R perm inside h (compared-are P (length p) B k .0) .1 (v, i)))
+            (λ q. let (x, y) = lost-in P p R g v (rw q at i) in
+            first-least (lost P p R g) (perms (length p + total g)) w v
+            (ascends-in-order (perms (length p + total g)) (perms-ascend (length p + total g))) e x y);
+      }
+
+  shown-is : (w : List ℕ) → shownWord P p B R ≡ some w → Shown w
+  unfolding shownWord shownAt shownSpacing
+  shown-is w e = go (first (sizesDiffer P p R) (compared P (length p) B)) refl e
+    where
+      go : (o : Option (List ℕ)) → first (sizesDiffer P p R) (compared P (length p) B) ≡ o → shownAt P p R o ≡ some w → Shown w
+      go none s q = absurd (some-not-none w q)
+      go (some g) s q = shown-at g w s q
+
+  -- Where some compared sizes differ, a word is shown: the definition never shows nothing.
+  pub shown-there : any (sizesDiffer P p R) (compared P (length p) B) ≡ true → (w : List ℕ) × (shownWord P p B R ≡ some w)
+  unfolding shownWord shownAt shownSpacing
+  shown-there d = go (first (sizesDiffer P p R) (compared P (length p) B)) refl
+    where
+      lost-there : (g : List ℕ) (o : Option (List ℕ)) → first (lost P p R g) (perms (length p + total g)) ≡ o →
+          (w : List ℕ) × IsLost P p R g w → (w : List ℕ) × (first (lost P p R g) (perms (length p + total g)) ≡ some w)
+      lost-there g none e (w, i) =
+          let (m, l) = lost-in P p R g w i in
+          absurd (true-not-false (sym l ∙ none-first (lost P p R g) (perms (length p + total g)) e w m))
+      lost-there g (some w) e i = (w, e)
+
+      go : (o : Option (List ℕ)) → first (sizesDiffer P p R) (compared P (length p) B) ≡ o → (w : List ℕ) ×
+          (shownAt P p R (first (sizesDiffer P p R) (compared P (length p) B)) ≡ some w)
+      go none e = absurd (true-not-false (sym d ∙ sym (first-found (sizesDiffer P p R) (compared P (length p) B)) ∙ ap found e))
+      go (some g) e =
+          let (m, t) = first-some (sizesDiffer P p R) (compared P (length p) B) g e in
+          let (w, q) = lost-there g (first (lost P p R g) (perms (length p + total g))) refl
+          (sizes-lost P p R perm inside g (compared-are P (length p) B m .0) .0 t) in
+          (w, ap (shownAt P p R) e ∙ q)
