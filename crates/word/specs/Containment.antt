@@ -29,8 +29,8 @@ containmentTests β w =
     test Oversize (ltb DIGITS (length β)) ∷ test NoPermutation (not (isPattern β)) ∷
     test Oversize (ltb WORD (length w)) ∷ test NoPermutation (not (isPerm w)) ∷ []
 
--- "Containment now gives the positions of the copy that is lexicographically first, or says there is
--- none" (02, order 1)
+-- "Containment now gives the positions of the copy that is lexicographically first, or says there
+-- is none" (02, order 1)
 abbrev pub answerOf : Finding → Option (List ℕ) → CopyAnswer
 answerOf (fault r i) copy = record { contained = Refused r i; at = zeros }
 answerOf clean none = record { contained = No; at = zeros }

@@ -3,13 +3,12 @@
 -- copy.
 use Prim.Native.Nat.{ℕ, zero, suc, _+_, _≤_, _<_}
 use mathlib.Core.Path.{_≡_, refl, sym, ap, _∙_}
-use mathlib.Core.Bool.{Bool, true, false, not, _&&_}
+use mathlib.Core.Bool.{true, false, not, _&&_}
 use mathlib.Core.List.{List, [], _∷_, map, List·Memᴰ, List·Memᴰ·head, List·Memᴰ·tail}
-use mathlib.Core.List.{Sublistᴰ, Sublistᴰ·slnil, Sublistᴰ·cons, Sublistᴰ·cons-cons}
+use mathlib.Core.List.{Sublistᴰ, Sublistᴰ·cons, Sublistᴰ·cons-cons}
 use mathlib.Core.Option.{Option, none, some}
 use native.Mathlib.Omega.{arith}
 use lib.ListN.{length, getD, length-map}
-use Rattle.word.specs.Lists.{oneTo}
 use Rattle.word.specs.Word.{entry, contains, firstCopy, avoids}
 use Rattle.word.specs.Earliest.{Earliest, nowhere, stands, copyOr, earliestFrom, earliest, isNowhere, positionsOf}
 use Rattle.word.specs.Copy.{shownIn}

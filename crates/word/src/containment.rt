@@ -1,5 +1,5 @@
-// The public operation `contains`; whether a word contains a pattern of a set, and the earliest that
-// it contains.
+// The public operation `contains`; whether a word contains a pattern of a set, and the earliest
+// that it contains.
 use crate::copy::capped;
 use crate::copy::first_copy;
 use crate::limits::DIGITS;
@@ -33,8 +33,8 @@ pub struct CopyAnswer {
     pub at: [usize; DIGITS],
 }
 
-// Whether the permutation contains the pattern, and where. It is refused where one of the two passes
-// its ceiling (2) or is no permutation (3), the pattern tested first.
+// Whether the permutation contains the pattern, and where. It is refused where one of the two
+// passes its ceiling (2) or is no permutation (3), the pattern tested first.
 pub fn contains(pattern: &[u8], permutation: &[u8]) -> CopyAnswer
     ensures { λ r. ⌜ Decides (now (pattern .entry)) (now (permutation .entry)) r ⌝ }
 {

@@ -41,4 +41,5 @@ pub const CELLS: usize = 4096;
 
 // bytes of a witness: its permutation and its copy, each in one half
 pub const PAGE: usize = 32;
+
 pub const HALF: usize = 16;

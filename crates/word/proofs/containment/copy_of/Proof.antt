@@ -1,8 +1,7 @@
 -- `word::containment::copy_of` meets its contract: what is found is shown with the index, and with
 -- the length that a copy has.
 -- Assumes nothing.
-use Prim.Native.Nat.{_≤_, min}
-use mathlib.Core.Path.{_≡_, sym, _∙_}
+use mathlib.Core.Path.{_≡_, _∙_}
 use borrow.Author.Needs.{needs}
 use native.Mathlib.Omega.{arith}
 use lib.ListN.{length, take, length-take}
