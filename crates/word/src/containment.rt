@@ -137,8 +137,8 @@ pub fn earliest_in(
     ensures { λ r. ⌜ r ≡ shownIn (earliest (patternsOf set lengths count) (now (w .entry))) ⌝ }
 {
     let mut i: usize = 0;
-    while i < PATTERNS {
-        if count <= i {
+    while i < count {
+        if PATTERNS <= i {
             return no_copy();
         }
         let copy = copy_of(i, set[i], lengths[i] as usize, w);

@@ -32,9 +32,10 @@ returns c =
     let start = at-loop .before .before in
     let a = start .args in
     let i = at-loop .loop .i in
+    let rows : length (a .t1) ≡ 24 = search needs in
     c .no-copy .ensures ∙ ap {B = SetCopy} shownIn (sym
     (at-loop .loop .inv ∙ early-none i (from (a .t1) (a .t2) (a .count) i) (a .w .now)
-    (from-counted (a .t1) (a .t2) (a .count) i (omega arith))))
+    (from-end (a .t1) (a .t2) (a .count) i (omega arith))))
 
 returns-2 : tie.Need-returns-2 Inv-loop μ-loop
 returns-2 c =
@@ -60,10 +61,9 @@ returns-3 c =
     let start = at-loop .before .before in
     let a = start .args in
     let i = at-loop .loop .i in
-    let rows : length (a .t1) ≡ 24 = search needs in
     c .no-copy2 .ensures ∙ ap {B = SetCopy} shownIn (sym
     (at-loop .loop .inv ∙ early-none i (from (a .t1) (a .t2) (a .count) i) (a .w .now)
-    (from-end (a .t1) (a .t2) (a .count) i (omega arith))))
+    (from-counted (a .t1) (a .t2) (a .count) i (omega arith))))
 
 pub earliest-in-spec : {M : Type 1} → statement M
 earliest-in-spec =
