@@ -7,7 +7,7 @@ use mathlib.Core.List.{List, [], _∷_, map}
 use lib.ListN.{length}
 use lib.Dec.{eqb}
 use Rattle.word.specs.Lists.{all, keep, each, row}
-use Rattle.word.specs.Word.{contains, reduce, isPerm}
+use Rattle.word.specs.Word.{firstCopy, reduce, isPerm}
 use Rattle.word.specs.Told.{Told}
 use Rattle.word.specs.Containment.{containment}
 use Rattle.word.specs.declared.containment.Contained.{Contained}
@@ -81,10 +81,10 @@ abbrev toldAs : Told → Answer
 toldAs t = tells (t .number) (t .values)
 
 unfoldable pub answer : Question → Answer
-unfolding countOf contains isPerm reduce spacing shorterSize vectors free total children deleted merged cell
+unfolding countOf firstCopy isPerm reduce spacing shorterSize vectors free total children deleted merged cell
     compared comparedCells liveGap differs sizesDiffer comparedWith tokens tokensAfter tokenAt readPatterns
     readEntries itemsOf same loadedPatterns loadedScheme bytes partsOfAll widthsOf
-answer (containsPattern w β) = contained (containment β w)
+answer (containsPattern w β) = contained ((containment β w) .contained)
 answer (firstEntries n u) = prefixAndSpacing (reduce u) (spacing n u)
 answer (deletion R p g) = prefixAndSpacing (deleted R p) (merged R p g)
 answer (sizes P p R g) = sizesAre (length (cell P p g)) (shorterSize P p R g)

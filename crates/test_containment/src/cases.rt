@@ -11,7 +11,9 @@ use test_support::parts::byte_at;
 use test_support::parts::prefix;
 use test_support::print;
 use word::containment::Contained;
+use word::containment::CopyAnswer;
 use word::containment::contains;
+use word::limits::DIGITS;
 use word::limits::WORD;
 use word::refusal::number;
 
@@ -46,16 +48,39 @@ fn one(case: &[u8]) {
     print::end();
 }
 
-// Prints what `contains` answers.
-fn answer(contained: Contained) {
+// Prints what `contains` answers, and with a yes the positions of the copy.
+fn answer(r: CopyAnswer) {
+    let contained = r.contained;
+    let at = r.at;
     match contained {
-        Contained::Yes => print::text(b" yes"),
+        Contained::Yes => {
+            print::text(b" yes");
+            positions(at);
+        }
         Contained::No => print::text(b" no"),
         Contained::Refused(why, at) => {
             print::text(b" ");
             print::refused(number(why), at);
         }
     }
+}
+
+// Prints the positions up to the first 0 with commas between them.
+fn positions(at: [usize; DIGITS]) {
+    let mut i: usize = 0;
+    while i < DIGITS {
+        if at[i] == 0 {
+            return;
+        }
+        position(i, at[i]);
+        i += 1;
+    }
+}
+
+// Prints the position at the index i, behind a comma if it is not the first.
+fn position(i: usize, x: usize) {
+    print::either(i == 0, b" ", b",");
+    print::number(x as u64);
 }
 
 // The entries that a word spells, in front.

@@ -1,5 +1,5 @@
 // Containment against the direct search on every short pair.
-use test_listing::direct::has_copy;
+use test_listing::direct::first_positions;
 use test_listing::permutations::LONGEST;
 use test_listing::permutations::count;
 use test_listing::permutations::permutation;
@@ -7,7 +7,9 @@ use test_support::counts::one_more_if;
 use test_support::parts::prefix;
 use test_support::print;
 use word::containment::Contained;
+use word::containment::CopyAnswer;
 use word::containment::contains;
+use word::limits::DIGITS;
 
 // the length of the longest patterns that are compared on every permutation
 const PATTERN: usize = 4;
@@ -27,7 +29,7 @@ struct Tally {
 
 // For each length of patterns and each length of permutations a line: the two lengths, how many
 // pairs `contains` says yes of, how many pairs there are, and on how many the direct search says
-// something else.
+// something else or has another first copy.
 pub fn lines() {
     let mut i: usize = 0;
     while i < LINES {
@@ -80,24 +82,41 @@ fn with_pair(t: Tally, p: [u8; LONGEST], k: usize, w: [u8; LONGEST], n: usize) -
     Tally {
         contained: one_more_if(is_yes(answer), t.contained),
         pairs: one_more_if(true, t.pairs),
-        disagreements: one_more_if(!agree(answer, has_copy(p, k, w, n)), t.disagreements),
+        disagreements: one_more_if(!agree(answer, first_positions(p, k, w, n)), t.disagreements),
     }
 }
 
 // Whether `contains` says yes.
-fn is_yes(answer: Contained) -> bool {
-    match answer {
+fn is_yes(answer: CopyAnswer) -> bool {
+    let contained = answer.contained;
+    match contained {
         Contained::Yes => true,
         Contained::No => false,
         Contained::Refused(_, _) => false,
     }
 }
 
-// Whether `contains` says what the direct search says. A refusal is a disagreement.
-fn agree(answer: Contained, direct: bool) -> bool {
-    match answer {
-        Contained::Yes => direct,
-        Contained::No => !direct,
+// Whether `contains` says what the direct search says, and gives its positions. A refusal is a
+// disagreement.
+fn agree(answer: CopyAnswer, direct: [u8; LONGEST]) -> bool {
+    let contained = answer.contained;
+    let at = answer.at;
+    let same = same_positions(at, direct);
+    match contained {
+        Contained::Yes => same && direct[0] != 0,
+        Contained::No => same && direct[0] == 0,
         Contained::Refused(_, _) => false,
     }
+}
+
+// Whether they are the same positions, zeros included.
+fn same_positions(at: [usize; DIGITS], direct: [u8; LONGEST]) -> bool {
+    let mut i: usize = 0;
+    while i < DIGITS {
+        if at[i] != direct[i] as usize {
+            return false;
+        }
+        i += 1;
+    }
+    true
 }

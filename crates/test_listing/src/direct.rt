@@ -1,5 +1,5 @@
-// Containment by trying every set of positions. It shares no code with the crate `word`, and never
-// goes back from a part of a copy.
+// Containment, and the first copy, by trying every set of positions. It shares no code with the
+// crate `word`, and never goes back from a part of a copy.
 use crate::permutations::LONGEST;
 use crate::permutations::entry;
 
@@ -18,6 +18,60 @@ pub fn has_copy(p: [u8; LONGEST], k: usize, w: [u8; LONGEST], n: usize) -> bool 
         subset += 1;
     }
     false
+}
+
+// The positions, counted from 1, of the lexicographically first of all such copies, and zeros after
+// them; only zeros where there is none. It compares every copy with the least so far.
+pub fn first_positions(p: [u8; LONGEST], k: usize, w: [u8; LONGEST], n: usize) -> [u8; LONGEST] {
+    let end = subsets(n);
+    let mut least = [0u8; LONGEST];
+    let mut subset: usize = 0;
+    while subset < end {
+        let next = with_set(least, p, k, w, subset);
+        least = next;
+        subset += 1;
+    }
+    least
+}
+
+// The lexicographically lesser of the positions so far and those of a set, if it is a copy.
+fn with_set(
+    least: [u8; LONGEST],
+    p: [u8; LONGEST],
+    k: usize,
+    w: [u8; LONGEST],
+    subset: usize,
+) -> [u8; LONGEST] {
+    if is_copy(p, k, w, subset) {
+        lesser(least, positions(subset))
+    } else {
+        least
+    }
+}
+
+// The lexicographically lesser of two lists of positions. Only zeros are no list.
+fn lesser(a: [u8; LONGEST], b: [u8; LONGEST]) -> [u8; LONGEST] {
+    if a[0] == 0 {
+        return b;
+    }
+    if comes_before(b, a) { b } else { a }
+}
+
+// Whether a comes before b where they first differ.
+fn comes_before(a: [u8; LONGEST], b: [u8; LONGEST]) -> bool {
+    let mut i: usize = 0;
+    while i < LONGEST {
+        if a[i] != b[i] {
+            return a[i] < b[i];
+        }
+        i += 1;
+    }
+    false
+}
+
+// The positions of a set, counted from 1: the entries of 12345678 there.
+fn positions(subset: usize) -> [u8; LONGEST] {
+    entries_at([1u8, 2, 3, 4, 5, 6, 7, 8], subset)
 }
 
 // How many sets of positions a permutation of length n, at most eight, has: 2 to the n.
@@ -52,19 +106,24 @@ fn size(subset: usize) -> usize {
     low + high
 }
 
-// The entries of w at the positions of a set, in front. What stands behind them is of no use.
+// The entries of w at the positions of a set, in front, and zeros after them.
 fn entries_at(w: [u8; LONGEST], subset: usize) -> [u8; LONGEST] {
     let mut entries = [0u8; LONGEST];
     let mut count: usize = 0;
     let mut rest = subset;
     let mut i: usize = 0;
     while i < LONGEST {
-        entries[count] = w[i];
+        entries[count] = if_odd(rest, w[i]);
         count += rest % 2;
         rest /= 2;
         i += 1;
     }
     entries
+}
+
+// The entry for an odd number, 0 for an even one.
+fn if_odd(rest: usize, entry: u8) -> u8 {
+    if rest % 2 == 1 { entry } else { 0 }
 }
 
 // Whether each two of the first k entries of a compare as those of b, both ways.

@@ -1,8 +1,8 @@
 -- The patterns of a set in memory from a place on, and what the search for a copy says of each.
 -- Assumes nothing.
 use Prim.Native.Nat.{ℕ, zero, suc, _+_, _-_, _≤_, _<_}
-use mathlib.Core.Path.{_≡_, refl, ap, _∙_}
-use mathlib.Core.Bool.{Bool, true, false, not, _&&_}
+use mathlib.Core.Path.{_≡_, refl, sym, ap, _∙_}
+use mathlib.Core.Bool.{true, false, not}
 use mathlib.Core.List.{List, [], _∷_}
 use mathlib.Core.Option.{Option, none, some}
 use native.Mathlib.Nat.{sub-zero}
@@ -11,10 +11,14 @@ use native.Mathlib.Omega.{arith}
 use lib.ListN.{length, getD, take, drop, drop-of-length-le}
 use lib.Seq.{drop-cons}
 use Rattle.word.specs.Word.{contains, avoids, firstCopy}
-use Rattle.word.specs.Copy.{shown}
+use Rattle.word.specs.Earliest.{nowhere, copyOr, earliestFrom, earliest}
+use Rattle.word.specs.Copy.{shown, shownIn}
 use Rattle.word.specs.Containment.{patternsOf}
+use Rattle.word.specs.ListLaws.{true-not-false}
 use Rattle.word.specs.CopyLaws.{found, copy-exactly}
+use Rattle.word.specs.EarliestLaws.{copy-length}
 use Rattle.word.specs.declared.copy.FirstCopy.{FirstCopy}
+use Rattle.word.specs.declared.containment.SetCopy.{SetCopy}
 
 shown-found : (o : Option (List ℕ)) → (shown o) .found ≡ found o
 shown-found none = refl
@@ -24,49 +28,101 @@ shown-found (some l) = refl
 pub found-contains : (β w : List ℕ) (r : FirstCopy) → r ≡ shown (firstCopy β w) → r .found ≡ contains β w
 found-contains β w r e = ap (λ (x : FirstCopy). x .found) e ∙ shown-found (firstCopy β w) ∙ copy-exactly β w
 
--- whether a pattern from place i on stands in w
-unfoldable pub some-from : List (List ℕ) → List ℕ → ℕ → List ℕ → ℕ → Bool
-some-from rows lengths n w i = not (avoids (patternsOf (drop i rows) (drop i lengths) (n - i)) w)
+-- the patterns from place i on
+unfoldable pub from : List (List ℕ) → List ℕ → ℕ → ℕ → List (List ℕ)
+from rows lengths n i = patternsOf (drop i rows) (drop i lengths) (n - i)
 
-pub some-start : (rows : List (List ℕ)) (lengths : List ℕ) (n : ℕ) (w : List ℕ) →
-    not (avoids (patternsOf rows lengths n) w) ≡ some-from rows lengths n w 0
-unfolding some-from
-some-start rows lengths n w = rw (sub-zero n) refl
+pub from-start : (rows : List (List ℕ)) (lengths : List ℕ) (n : ℕ) → patternsOf rows lengths n ≡ from rows lengths n 0
+unfolding from
+from-start rows lengths n = rw (sub-zero n) refl
 
-pub some-counted : (rows : List (List ℕ)) (lengths : List ℕ) (n : ℕ) (w : List ℕ) (i : ℕ) → n ≤ i → some-from rows lengths n w i ≡ false
-unfolding some-from avoids
-some-counted rows lengths n w i h = go (n - i) (omega arith)
+pub from-counted : (rows : List (List ℕ)) (lengths : List ℕ) (n i : ℕ) → n ≤ i → from rows lengths n i ≡ []
+unfolding from
+from-counted rows lengths n i h = go (n - i) (omega arith)
   where
-    go : (m : ℕ) → m ≡ 0 → not (avoids (patternsOf (drop i rows) (drop i lengths) m) w) ≡ false
+    go : (m : ℕ) → m ≡ 0 → patternsOf (drop i rows) (drop i lengths) m ≡ []
     go m e = rw e refl
 
-pub some-end : (rows : List (List ℕ)) (lengths : List ℕ) (n : ℕ) (w : List ℕ) (i : ℕ) → length rows ≤ i →
-    some-from rows lengths n w i ≡ false
-unfolding some-from avoids
-some-end rows lengths n w i h = rw (drop-of-length-le rows h) (go (n - i))
+pub from-end : (rows : List (List ℕ)) (lengths : List ℕ) (n i : ℕ) → length rows ≤ i → from rows lengths n i ≡ []
+unfolding from
+from-end rows lengths n i h = rw (drop-of-length-le rows h) (go (n - i))
   where
-    go : (m : ℕ) → not (avoids (patternsOf [] (drop i lengths) m) w) ≡ false
+    go : (m : ℕ) → patternsOf [] (drop i lengths) m ≡ []
     go zero = refl
     go (suc m) = refl
 
 module _ (rows : List (List ℕ)) (lengths : List ℕ) (n : ℕ) (w : List ℕ) (i : ℕ) (hr : i < length rows)
     (hl : i < length lengths) (hn : i < n) where
-  some-cons : some-from rows lengths n w i ≡
-      not (not (contains (take (getD lengths i 0) (getD rows i [])) w) && avoids
-      (patternsOf (drop (suc i) rows) (drop (suc i) lengths) (n - suc i)) w)
-  unfolding some-from avoids
-  some-cons = rw (drop-cons rows i [] hr, drop-cons lengths i 0 hl) (go (n - i) (n - suc i) (omega arith))
+  pub from-cons : from rows lengths n i ≡ take (getD lengths i 0) (getD rows i []) ∷ from rows lengths n (i + 1)
+  unfolding from
+  from-cons = rw (drop-cons rows i [] hr, drop-cons lengths i 0 hl, add-one i) (go (n - i) (n - suc i) (omega arith))
     where
       go : (m k : ℕ) → m ≡ suc k →
-          not (avoids (patternsOf (getD rows i [] ∷ drop (suc i) rows) (getD lengths i 0 ∷ drop (suc i) lengths) m) w) ≡
-          not (not (contains (take (getD lengths i 0) (getD rows i [])) w) && avoids
-          (patternsOf (drop (suc i) rows) (drop (suc i) lengths) k) w)
+          patternsOf (getD rows i [] ∷ drop (suc i) rows) (getD lengths i 0 ∷ drop (suc i) lengths) m ≡
+          take (getD lengths i 0) (getD rows i []) ∷ patternsOf (drop (suc i) rows) (drop (suc i) lengths) k
       go m k e = rw e refl
 
-  pub some-here : contains (take (getD lengths i 0) (getD rows i [])) w ≡ true → some-from rows lengths n w i ≡ true
-  some-here e = some-cons ∙ rw e refl
+  -- whether one of them stands in w
+  pub some-here : contains (take (getD lengths i 0) (getD rows i [])) w ≡ true → not (avoids (from rows lengths n i) w) ≡ true
+  unfolding avoids
+  some-here e = rw (from-cons, e) refl
 
-  pub some-later : contains (take (getD lengths i 0) (getD rows i [])) w ≡ false → some-from rows lengths n w i ≡
-      some-from rows lengths n w (i + 1)
-  unfolding some-from
-  some-later e = some-cons ∙ rw (e, add-one i) refl
+  pub some-later : contains (take (getD lengths i 0) (getD rows i [])) w ≡ false →
+      not (avoids (from rows lengths n i) w) ≡ not (avoids (from rows lengths n (i + 1)) w)
+  unfolding avoids
+  some-later e = rw (from-cons, e) refl
+
+  -- the earliest of them that has a copy, counted from i on
+  early-cons : earliestFrom i (from rows lengths n i) w ≡
+      copyOr i (firstCopy (take (getD lengths i 0) (getD rows i [])) w) (earliestFrom (i + 1) (from rows lengths n (i + 1)) w)
+  unfolding earliestFrom
+  early-cons = rw (from-cons, add-one i) refl
+
+  module _ (r : SetCopy) (e : r ≡ shownIn (copyOr i (firstCopy (take (getD lengths i 0) (getD rows i [])) w) nowhere)) where
+    pub early-here : r .found ≡ true → r ≡ shownIn (earliestFrom i (from rows lengths n i) w)
+    early-here h = rw early-cons (go (firstCopy (take (getD lengths i 0) (getD rows i [])) w) e)
+      where
+        go : (o : Option (List ℕ)) → r ≡ shownIn (copyOr i o nowhere) →
+            r ≡ shownIn (copyOr i o (earliestFrom (i + 1) (from rows lengths n (i + 1)) w))
+        go none q = absurd (true-not-false (sym h ∙ ap (λ (x : SetCopy). x .found) q))
+        go (some at) q = q
+
+    pub early-later : r .found ≡ false →
+        earliestFrom i (from rows lengths n i) w ≡ earliestFrom (i + 1) (from rows lengths n (i + 1)) w
+    early-later h = rw early-cons (go (firstCopy (take (getD lengths i 0) (getD rows i [])) w) e)
+      where
+        go : (o : Option (List ℕ)) → r ≡ shownIn (copyOr i o nowhere) →
+            copyOr i o (earliestFrom (i + 1) (from rows lengths n (i + 1)) w) ≡ earliestFrom (i + 1) (from rows lengths n (i + 1)) w
+        go none q = refl
+        go (some at) q = absurd (true-not-false (ap (λ (x : SetCopy). x .found) (sym q) ∙ h))
+
+-- behind the last of them nothing stands
+pub some-none : (P : List (List ℕ)) (w : List ℕ) → P ≡ [] → not (avoids P w) ≡ false
+unfolding avoids
+some-none P w e = rw e refl
+
+pub early-none : (i : ℕ) (P : List (List ℕ)) (w : List ℕ) → P ≡ [] → earliestFrom i P w ≡ nowhere
+unfolding earliestFrom
+early-none i P w e = rw e refl
+
+pub early-start : (P Q : List (List ℕ)) (w : List ℕ) → P ≡ Q → earliest P w ≡ earliestFrom 0 Q w
+unfolding earliest
+early-start P Q w e = rw e refl
+
+-- the copy of one pattern with the index i: what is shown of it
+module _ (i : ℕ) (β w : List ℕ) (r : FirstCopy) (e : r ≡ shown (firstCopy β w)) where
+  pub shown-here : (n : ℕ) → n ≡ length β → r .found ≡ true →
+      record { found = true; pattern = i; length = n; at = r .at } ≡ shownIn (copyOr i (firstCopy β w) nowhere)
+  shown-here n l h = go (firstCopy β w) refl e
+    where
+      go : (o : Option (List ℕ)) → firstCopy β w ≡ o → r ≡ shown o →
+          record { found = true; pattern = i; length = n; at = r .at } ≡ shownIn (copyOr i o nowhere)
+      go none s q = absurd (true-not-false (sym h ∙ ap (λ (x : FirstCopy). x .found) q))
+      go (some at) s q = let k : n ≡ length at = l ∙ sym (copy-length β w at s) in rw (q, k) refl
+
+  pub shown-nowhere : r .found ≡ false → shownIn nowhere ≡ shownIn (copyOr i (firstCopy β w) nowhere)
+  shown-nowhere h = go (firstCopy β w) e
+    where
+      go : (o : Option (List ℕ)) → r ≡ shown o → shownIn nowhere ≡ shownIn (copyOr i o nowhere)
+      go none q = refl
+      go (some at) q = absurd (true-not-false (ap (λ (x : FirstCopy). x .found) (sym q) ∙ h))

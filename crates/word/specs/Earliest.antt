@@ -1,5 +1,6 @@
 -- The earliest pattern of a list that has a copy in a word (02, order 1). Definitions only.
 use Prim.Native.Nat.{ℕ, suc}
+use mathlib.Core.Bool.{Bool, true, false}
 use mathlib.Core.List.{List, [], _∷_}
 use mathlib.Core.Option.{Option, none, some}
 use Rattle.word.specs.Word.{firstCopy}
@@ -23,6 +24,11 @@ earliestFrom i (β ∷ P) w = copyOr i (firstCopy β w) (earliestFrom (suc i) P 
 unfoldable pub earliest : List (List ℕ) → List ℕ → Earliest
 unfolding earliestFrom
 earliest P w = earliestFrom 0 P w
+
+-- no pattern has a copy
+abbrev pub isNowhere : Earliest → Bool
+isNowhere nowhere = true
+isNowhere (stands i at) = false
 
 -- the positions of the copy
 abbrev pub positionsOf : Earliest → List ℕ

@@ -13,6 +13,7 @@ pub mod ListLaws
 pub mod IsoLaws
 pub mod ContainsLaws
 pub mod CopyLaws
+pub mod EarliestLaws
 pub mod BumpLaws
 pub mod PermLaws
 pub mod AscendLaws

@@ -14,7 +14,7 @@ pub struct FirstCopy {
 }
 
 // How many digits a pattern of the length `len` has in memory.
-fn capped(len: usize) -> usize
+pub fn capped(len: usize) -> usize
     ensures { λ r. ⌜ r ≡ min len DIGITS ⌝ }
 {
     if len < DIGITS { len } else { DIGITS }

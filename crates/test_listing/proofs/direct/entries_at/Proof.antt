@@ -9,5 +9,5 @@ pub entries-at-spec : {M : Type 1} → statement M
 entries-at-spec = tie.close (tie.spec
     (λ subset w entries₀ count₀ rest₀ i₀ entries count rest i. count ≤ i)
     (λ subset w entries₀ count₀ rest₀ i₀ entries count rest i. 8 - i) (λ c. search needs)
-    (λ c. search needs) (λ c. search needs) (λ c. search needs) (λ c. search needs)
-    (λ c. search needs) (λ c. search needs) (λ c. search needs))
+    (λ c. search needs) (λ c κs. search needs) (λ c. search needs) (λ c. search needs)
+    (λ c. search needs) (λ c. search needs) (λ c. search needs) (λ c. search needs))

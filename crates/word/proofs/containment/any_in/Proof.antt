@@ -1,21 +1,21 @@
 -- `word::containment::any_in` meets its contract: a pattern of the set stands in the word if one
 -- from the index on does.
 -- Assumes nothing.
-use Prim.Native.Nat.{_-_}
-use mathlib.Core.Path.{_≡_, sym, _∙_}
+use Prim.Native.Nat.{ℕ, _-_}
+use mathlib.Core.Path.{_≡_, sym, ap, _∙_}
 use mathlib.Core.Bool.{not}
-use mathlib.Core.List.{[]}
+use mathlib.Core.List.{List, []}
 use borrow.Author.Needs.{needs}
 use native.Mathlib.Omega.{arith}
 use lib.ListN.{length, getD, take}
 use Rattle.word.specs.Word.{avoids}
 use Rattle.word.specs.Containment.{patternsOf}
-use Rattle.word.proofs.PatternSet.{found-contains, some-from, some-start, some-counted, some-end, some-here, some-later}
+use Rattle.word.proofs.PatternSet.{found-contains, from, from-start, from-counted, from-end, some-none, some-here, some-later}
 use Rattle.word.proofs.containment.any_in.Statement.{statement}
 use Rattle.word.proofs.containment.any_in.Tie as tie
 
 abbrev Inv-loop : tie.InvT-loop
-Inv-loop count w set lengths i₀ i = not (avoids (patternsOf set lengths count) w) ≡ some-from set lengths count w i
+Inv-loop count w set lengths i₀ i = not (avoids (patternsOf set lengths count) w) ≡ not (avoids (from set lengths count i) w)
 
 abbrev μ-loop : tie.MeasureT-loop
 μ-loop count w set lengths i₀ i = 24 - i
@@ -23,14 +23,15 @@ abbrev μ-loop : tie.MeasureT-loop
 loop-holds : tie.Need-loop-holds Inv-loop μ-loop
 loop-holds c =
     let a = c .before .args in
-    some-start (a .t1) (a .t2) (a .count) (a .w .now)
+    ap (λ (P : List (List ℕ)). not (avoids P (a .w .now))) (from-start (a .t1) (a .t2) (a .count))
 
 returns : tie.Need-returns Inv-loop μ-loop
 returns c =
     let at-loop = c .before .before in
     let start = at-loop .before .before in
     let a = start .args in
-    sym (at-loop .loop .inv ∙ some-counted (a .t1) (a .t2) (a .count) (a .w .now) (at-loop .loop .i) (omega arith))
+    sym (at-loop .loop .inv ∙ some-none _ (a .w .now)
+    (from-counted (a .t1) (a .t2) (a .count) (at-loop .loop .i) (omega arith)))
 
 returns-2 : tie.Need-returns-2 Inv-loop μ-loop
 returns-2 c =
@@ -58,7 +59,8 @@ returns-3 c =
     let start = c .before .before .before in
     let a = start .args in
     let rows : length (a .t1) ≡ 24 = search needs in
-    sym (c .before .loop .inv ∙ some-end (a .t1) (a .t2) (a .count) (a .w .now) (c .before .loop .i) (omega arith))
+    sym (c .before .loop .inv ∙ some-none _ (a .w .now)
+    (from-end (a .t1) (a .t2) (a .count) (c .before .loop .i) (omega arith)))
 
 pub any-in-spec : {M : Type 1} → statement M
 any-in-spec =
