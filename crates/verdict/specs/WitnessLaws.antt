@@ -118,15 +118,19 @@ module _ (P : List (List ℕ)) (p R : List ℕ) (perm : isPerm p ≡ true) (insi
       where
         go : (σ : List ℕ) → w ≡ built p g σ → isPerm σ ≡ true → length σ ≡ total g →
             (σ : List ℕ) × (w ≡ built p g σ) × LostRest P p R g σ
-        go σ e sp sl = (σ, e, record {
-          perm = sp;
-          size = sl;
-          avoiding =
-              sym (built-deleted-avoids R p g perm size inside σ P) ∙
-              ap (avoids P) (sym (removed P p R perm inside g size σ (perms-all (total g) σ sp sl)) ∙ ap (deleted R) (sym e)) ∙
-              cell-are P (deleted R p) (merged R p g) (i .shorter) .avoiding;
-          fails = ap (avoids P) (sym e) ∙ i .contains-one;
-        })
+        go σ e sp sl = (
+          σ,
+          e,
+          record {
+            perm = sp;
+            size = sl;
+            avoiding =
+                sym (built-deleted-avoids R p g perm size inside σ P) ∙
+                ap (avoids P) (sym (removed P p R perm inside g size σ (perms-all (total g) σ sp sl)) ∙ ap (deleted R) (sym e)) ∙
+                cell-are P (deleted R p) (merged R p g) (i .shorter) .avoiding;
+            fails = ap (avoids P) (sym e) ∙ i .contains-one;
+          },
+        )
 
     -- .. and a lost rest builds a lost word.
     pub lost-of-rest : (σ : List ℕ) → LostRest P p R g σ → IsLost P p R g (built p g σ)

@@ -1,0 +1,1 @@
+-- The crate witness has no definitions of its own: those of its contracts stand in verdict.
