@@ -1,15 +1,15 @@
 -- The witness of a refusal 11, in the words of order 1 of document 02. Definitions only.
-use Prim.Native.Nat.{ℕ, zero, suc, _+_, _-_}
+use Prim.Native.Nat.{ℕ, zero, suc, _+_, _-_, _<_}
 use mathlib.Core.Path.{_≡_}
 use mathlib.Core.Bool.{Bool, true, false, not, _&&_, cond}
 use mathlib.Core.List.{List, [], _∷_, _++_, List·Memᴰ}
 use mathlib.Core.Option.{Option, none, some}
-use lib.ListN.{length, take, replicate}
+use lib.ListN.{length, getD, take, replicate}
 use lib.Dec.{ltb, eqb}
 use Rattle.word.specs.Ceilings.{PAGE, HALF}
 use Rattle.word.specs.Lists.{first}
-use Rattle.word.specs.Word.{avoids, reduce, isPerm, perms, before}
-use Rattle.word.specs.Earliest.{earliest, stands, positionsOf}
+use Rattle.word.specs.Word.{contains, firstCopy, avoids, reduce, isPerm, perms, before}
+use Rattle.word.specs.Earliest.{earliest, positionsOf}
 use Rattle.word.specs.Refusal.{numberOf}
 use Rattle.cell.specs.Cell.{same, total, spacing, cell, deleted, merged, compared}
 use Rattle.forms.specs.SchemeList.{Does, expands, deletes, EntryList}
@@ -94,7 +94,7 @@ earlier h v g w =
     cond (ltb (total h) (total g)) true (eqb (total h) (total g) && cond (before h g) true (same h g && before v w))
 
 -- the page begins with the least word that is lost at a compared spacing, and with the first copy
--- of the earliest pattern in it
+-- of the earliest pattern that has one in it
 pub record Witnesses (P : List (List ℕ)) (p : List ℕ) (B : List (List ℕ)) (R page : List ℕ) : Type 0 where
   pub at : List ℕ
   pub word : List ℕ
@@ -103,5 +103,7 @@ pub record Witnesses (P : List (List ℕ)) (p : List ℕ) (B : List (List ℕ)) 
   pub bytes : take PAGE page ≡ half word ++ half copy
   pub at-compared : List·Memᴰ at (compared P (length p) B)
   pub is-lost : IsLost P p R at word
-  pub copied : earliest P word ≡ stands pattern copy
   pub least : (h v : List ℕ) → List·Memᴰ h (compared P (length p) B) → IsLost P p R h v → earlier h v at word ≡ false
+  pub in-set : pattern < length P
+  pub copied : firstCopy (getD P pattern []) word ≡ some copy
+  pub none-before : (j : ℕ) → j < pattern → contains (getD P j []) word ≡ false

@@ -20,6 +20,9 @@ use Rattle.word.specs.PermLaws.{perms-are, perms-all, perm-distinct, length-red
 use Rattle.word.specs.CopyLaws.{found, first-found, before-larger, first-least}
 use Rattle.word.specs.AscendLaws.{ascends, before-first, perms-ascend}
 use Rattle.word.specs.FirstLaws.{first-agree, first-append, first-none, none-first, first-is, first-ordered, ascends-behind, ascends-in-order}
+use Rattle.word.specs.Earliest.{Earliest, positionsOf}
+use Rattle.word.specs.EarliestLaws.{fails-stands, earliest-is}
+use Rattle.word.specs.Ceilings.{PAGE}
 use Rattle.cell.specs.Cell.{same, total, spacing, cell, without, deleted, merged, free, mOf, vectors, compared}
 use Rattle.cell.specs.Basis.{basis}
 use Rattle.cell.specs.Built.{built}
@@ -39,7 +42,8 @@ use Rattle.scheme.specs.FindingLaws.{same-failure, none-in}
 use Rattle.scheme.specs.WellFormed.{listed}
 use Rattle.verdict.specs.Verdict.{sizesDiffer}
 use Rattle.verdict.specs.VerdictLaws.{sizes-same, same-sizes, sizes-agree}
-use Rattle.verdict.specs.Witness.{lost, shownSpacing, shownAt, shownWord, IsLost, earlier}
+use Rattle.verdict.specs.Witness.{lost, shownSpacing, shownAt, shownWord, half, witnessBytes}
+use Rattle.verdict.specs.Witness.{IsLost, earlier, Witnesses}
 
 -- what stands in a list is listed
 listed-out : (l : List (List ℕ)) (x : List ℕ) → listed l x ≡ true → List·Memᴰ x l
@@ -415,3 +419,30 @@ module _ (P : List (List ℕ)) (p R : List ℕ) (perm : isPerm p ≡ true) (insi
           let (w, q) = lost-there g (first (lost P p R g) (perms (length p + total g))) refl
           (sizes-lost P p R perm inside g (compared-are P (length p) B m .0) .0 t) in
           (w, ap (shownAt P p R) e ∙ q)
+
+  -- A page that begins with the bytes of what is shown is a witness.
+  pub witnesses : (w page : List ℕ) → shownWord P p B R ≡ some w → take PAGE page ≡ witnessBytes P (some w) → Witnesses P p B R page
+  witnesses w page e q =
+      let s = shown-is w e in
+      let (i, copy, c) = fails-stands P w (s .is-lost .contains-one) in
+      let (inside, first, earlier-none) = earliest-is P w i copy c in
+      record {
+        at = s .at;
+        word = w;
+        pattern = i;
+        copy = copy;
+        bytes = q ∙ ap (λ (x : Earliest). half w ++ half (positionsOf x)) c;
+        at-compared = s .at-compared;
+        is-lost = s .is-lost;
+        least = s .least;
+        in-set = inside;
+        copied = first;
+        none-before = earlier-none;
+      }
+
+  -- what is shown is as long as its prefix and the total of a compared spacing
+  pub shown-length : (w : List ℕ) → shownWord P p B R ≡ some w → length w < length p + mOf P
+  shown-length w e =
+      let s = shown-is w e in
+      let (size, t, f) = compared-are P (length p) B (s .at-compared) in
+      omega (arith, lost-length P p R (s .at) w (s .is-lost), t)
