@@ -26,13 +26,13 @@ use Rattle.cell.specs.SpacingWalk.{compared-are}
 use Rattle.cell.specs.Built.{level, built}
 use Rattle.cell.specs.Candidate.{headLength, hit, violates, violated, irreversible, violatedFirst}
 use Rattle.candidate.specs.Lookup.{needAt, Says, Flags}
-use Rattle.candidate.specs.Ready.{Ready, patternAt, Needs, Given, FlaggedFor, FreeAnswer, FoundAt, TotalAnswer, EntryAnswer}
+use Rattle.candidate.specs.Ready.{Ready, patternAt, Needs, Given, Looked, FlaggedFor, FreeAnswer, FoundAt, TotalAnswer, EntryAnswer}
 use Rattle.candidate.specs.declared.search.Lost.{Lost}
 use Rattle.candidate.specs.BasisMemory.{pattern-member}
 use Rattle.spacing.specs.Following.{firstVector, later, Follows}
 use Rattle.spacing.specs.SpacingOrder.{vectors-first, first-length, first-total}
 use Rattle.candidate.proofs.HitLaws.{hit-short}
-use Rattle.candidate.proofs.BasisWalk.{take-again, from, from-start, from-counted, from-end, from-cons}
+use Rattle.candidate.proofs.BasisWalk.{take-again, from, from-start, from-counted, from-cons}
 
 -- what is looked up for the pattern at place i
 pub ready : (set : List (List ℕ)) (lengths : List ℕ) (count : ℕ) (p R g levels gone : List ℕ) (needs : List ℕ) (t i : ℕ) →
@@ -60,9 +60,6 @@ module _ (f : List ℕ → Bool) (set : List (List ℕ)) (lengths : List ℕ) (c
 
   pub some-counted : (i : ℕ) → count ≤ i → any f (from set lengths count i) ≡ false
   some-counted i h = ap (any f) (from-counted set lengths count i h)
-
-  pub some-end : (i : ℕ) → length set ≤ i → any f (from set lengths count i) ≡ false
-  some-end i h = ap (any f) (from-end set lengths count i h)
 
   module _ (i : ℕ) (hr : i < length set) (hl : i < length lengths) (hn : i < count) where
     pub some-here : f (patternAt set lengths i) ≡ true → any f (from set lengths count i) ≡ true
@@ -163,17 +160,42 @@ module _ (f : List ℕ → Bool) where
     pub totals-later : r .found ≡ false → from-total k m t ≡ from-total k m (t + 1)
     totals-later e = totals-cons k m t h ∙ found-later k (first f (vectors (suc k) t)) (from-total k m (t + 1)) r e here
 
--- what `spacing_violated` looks up, for the positions R and the spacing g
-pub record Looked (set : List (List ℕ)) (lengths : List ℕ) (count : ℕ) (needs : List ℕ) (p gone levels : List ℕ)
-    (t : ℕ) (R g : List ℕ) : Type 0 where
-  pub given : Given set lengths count p R
-  pub flags : Flags gone 9 (λ v. has v (map (entry p) R))
-  pub size : length g ≡ suc (length p)
-  pub whole : total g ≡ t
-  pub said : Says levels (suc (length p)) (level g)
-  pub needed : Needs set lengths count t needs
-
 module _ (set : List (List ℕ)) (lengths : List ℕ) (count : ℕ) (needs : List ℕ) (p gone levels : List ℕ) (t : ℕ) where
+  -- whether the pattern at place i violates at the spacing that the lists are of
+  abbrev pub Violates : ℕ → Bool → Type 0
+  Violates i b =
+      (R g : List ℕ) → Looked set lengths count needs p gone levels t R g →
+      violates (patternsOf set lengths count) p R g (patternAt set lengths i) ≡ b
+
+  module _ (i : ℕ) (hn : i < count) (eight : length (patternAt set lengths i) ≤ 8) where
+    look : (R g : List ℕ) → Looked set lengths count needs p gone levels t R g →
+        Ready p R g (patternAt set lengths i) levels gone (needAt needs t i)
+    look R g L = ready set lengths count p R g levels gone needs t i (L .given) (L .size) (L .whole) (L .said)
+        (L .flags) (L .needed) hn eight
+
+    -- a pattern that is not longer than the total
+    pub violates-short : length (patternAt set lengths i) ≤ t → Violates i false
+    violates-short h R g L =
+        violates-missed (patternsOf set lengths count) p R g (patternAt set lengths i)
+        (hit-short p R g (patternAt set lengths i) t (L .whole) h)
+
+    module _ (r : Bool) (hits : (R g : List ℕ) → Ready p R g (patternAt set lengths i) levels gone
+        (needAt needs t i) → total g ≡ t → r ≡ hit p R g (patternAt set lengths i)) where
+      -- one that does not hit
+      pub violates-not : r ≡ false → Violates i false
+      violates-not e R g L =
+          violates-missed (patternsOf set lengths count) p R g (patternAt set lengths i)
+          (sym (hits R g (look R g L) (L .whole)) ∙ e)
+
+      -- one that hits: whether its candidate avoids without the deleted positions
+      pub violates-by : r ≡ true → (w : List ℕ) →
+          ((R g : List ℕ) → Looked set lengths count needs p gone levels t R g →
+          w ≡ built (without R p) g (reduce (drop (headLength (patternAt set lengths i) (total g)) (patternAt set lengths i)))) →
+          (b : Bool) → avoids (patternsOf set lengths count) w ≡ b → Violates i b
+      violates-by e w word b a R g L =
+          violates-hit (patternsOf set lengths count) p R g (patternAt set lengths i) w
+          (sym (hits R g (look R g L) (L .whole)) ∙ e) (word R g L) ∙ a
+
   -- the patterns before place i do not violate
   abbrev pub Passed : ℕ → Type 0
   Passed i =
@@ -188,50 +210,14 @@ module _ (set : List (List ℕ)) (lengths : List ℕ) (count : ℕ) (needs : Lis
       false ≡ violated (patternsOf set lengths count) p R g
   passed-end i h I R g L = sym (I R g L ∙ some-counted (violates (patternsOf set lengths count) p R g) set lengths count i h)
 
-  module _ (i : ℕ) (hr : i < length set) (hl : i < length lengths) (hn : i < count)
-      (eight : length (patternAt set lengths i) ≤ 8) (I : Passed i) where
-    pub look : (R g : List ℕ) → Looked set lengths count needs p gone levels t R g →
-        Ready p R g (patternAt set lengths i) levels gone (needAt needs t i)
-    look R g L = ready set lengths count p R g levels gone needs t i (L .given) (L .size) (L .whole) (L .said)
-        (L .flags) (L .needed) hn eight
+  module _ (i : ℕ) (hr : i < length set) (hl : i < length lengths) (hn : i < count) (I : Passed i) where
+    pub passed-later : Violates i false → Passed (i + 1)
+    passed-later e R g L = I R g L ∙ some-later (violates (patternsOf set lengths count) p R g) set lengths count i hr hl hn (e R g L)
 
-    later-passed : ((R g : List ℕ) → Looked set lengths count needs p gone levels t R g → violates
-        (patternsOf set lengths count) p R g (patternAt set lengths i) ≡ false) → Passed (i + 1)
-    later-passed e R g L = I R g L ∙ some-later (violates (patternsOf set lengths count) p R g) set lengths count i hr hl hn (e R g L)
-
-    -- a pattern that is not longer than the total
-    pub passed-short : length (patternAt set lengths i) ≤ t → Passed (i + 1)
-    passed-short h =
-        later-passed (λ R g L. violates-missed (patternsOf set lengths count) p R g (patternAt set lengths i)
-        (hit-short p R g (patternAt set lengths i) t (L .whole) h))
-
-    module _ (r : Bool) (hits : (R g : List ℕ) → Ready p R g (patternAt set lengths i) levels gone
-        (needAt needs t i) → total g ≡ t → r ≡ hit p R g (patternAt set lengths i)) where
-      -- one that does not hit
-      pub passed-missed : r ≡ false → Passed (i + 1)
-      passed-missed e =
-          later-passed (λ R g L. violates-missed (patternsOf set lengths count) p R g (patternAt set lengths i)
-          (sym (hits R g (look R g L) (L .whole)) ∙ e))
-
-      module _ (e : r ≡ true) (w : List ℕ)
-          (word : (R g : List ℕ) → Looked set lengths count needs p gone levels t R g →
-          w ≡ built (without R p) g (reduce (drop (headLength (patternAt set lengths i) (total g)) (patternAt set lengths i)))) where
-        decides : (R g : List ℕ) → Looked set lengths count needs p gone levels t R g →
-            violates (patternsOf set lengths count) p R g (patternAt set lengths i) ≡ avoids (patternsOf set lengths count) w
-        decides R g L =
-            violates-hit (patternsOf set lengths count) p R g (patternAt set lengths i) w
-            (sym (hits R g (look R g L) (L .whole)) ∙ e) (word R g L)
-
-        -- one whose candidate contains a pattern without the deleted positions
-        pub passed-contained : avoids (patternsOf set lengths count) w ≡ false → Passed (i + 1)
-        passed-contained a = later-passed (λ R g L. decides R g L ∙ a)
-
-        -- one whose candidate avoids: a violation
-        pub violation : avoids (patternsOf set lengths count) w ≡ true → (R g : List ℕ) →
-            Looked set lengths count needs p gone levels t R g →
-            true ≡ violated (patternsOf set lengths count) p R g
-        violation a R g L =
-            sym (I R g L ∙ some-here (violates (patternsOf set lengths count) p R g) set lengths count i hr hl hn (decides R g L ∙ a))
+    pub violation : Violates i true → (R g : List ℕ) → Looked set lengths count needs p gone levels t R g →
+        true ≡ violated (patternsOf set lengths count) p R g
+    violation e R g L =
+        sym (I R g L ∙ some-here (violates (patternsOf set lengths count) p R g) set lengths count i hr hl hn (e R g L))
 
 -- the word that was made is the candidate
 module _ (set : List (List ℕ)) (lengths : List ℕ) (count : ℕ) (needs : List ℕ) (prefix gone levels : List ℕ)

@@ -16,6 +16,7 @@ use Rattle.cell.specs.Built.{level}
 use Rattle.cell.specs.Candidate.{headLength, violated, irreversible, violatedFirst}
 use Rattle.candidate.specs.Lookup.{VALUES, NEEDS, needAt, Says, Flags}
 use Rattle.candidate.specs.declared.search.Lost.{Lost}
+use Rattle.candidate.specs.declared.least.LostWord.{LostWord}
 
 -- of one prefix, its deleted positions, one spacing and one pattern
 pub record Ready (p R g β levels gone need : List ℕ) : Type 0 where
@@ -53,6 +54,16 @@ pub record Given (set : List (List ℕ)) (lengths : List ℕ) (count : ℕ) (p R
   pub short : length p ≤ PREFIX
   pub inside : all (within (length p)) R ≡ true
 
+-- what is looked up at one spacing g for every pattern, with the positions R
+pub record Looked (set : List (List ℕ)) (lengths : List ℕ) (count : ℕ) (needs : List ℕ) (p gone levels : List ℕ)
+    (t : ℕ) (R g : List ℕ) : Type 0 where
+  pub given : Given set lengths count p R
+  pub flags : Flags gone VALUES (λ v. has v (map (entry p) R))
+  pub size : length g ≡ suc (length p)
+  pub whole : total g ≡ t
+  pub said : Says levels (suc (length p)) (level g)
+  pub needed : Needs set lengths count t needs
+
 -- The answers, for every list of positions that the flags are of.
 
 abbrev pub FlaggedFor : List (List ℕ) → List ℕ → ℕ → List ℕ → List ℕ → List ℕ → Type 0
@@ -81,6 +92,11 @@ abbrev pub TotalAnswer : List (List ℕ) → List ℕ → ℕ → List ℕ → L
 TotalAnswer set lengths count p gone B k t r =
     (R : List ℕ) → FlaggedFor set lengths count p R gone → k ≡ length p →
     FoundAt k (first (λ g. free B g && violated (patternsOf set lengths count) p R g) (vectors (suc k) t)) r
+
+-- r shows the word that there is, or none; the word is short
+abbrev pub ShowsWord : Option (List ℕ) → LostWord → Type 0
+ShowsWord none r = r .found ≡ false
+ShowsWord (some w) r = (r .found ≡ true) × (take (r .length) (r .entries) ≡ w) × (r .length ≤ PREFIX + DIGITS)
 
 -- The answer on an entry: it is the definition's, it is no exactly if the deletion claim holds at
 -- every length, and it says where the first violation is.

@@ -88,7 +88,7 @@ fn nothing_lost() -> Lost
 
 // Whether the pattern's head can be placed in the prefix, a deleted value among its places, where
 // its last t entries are the rest.
-fn hits(
+pub fn hits(
     row: [u8; DIGITS],
     len: usize,
     t: usize,
@@ -115,7 +115,7 @@ fn hits(
 
 // Whether the first `len` entries of the word contain a pattern. The one at place i, of which the
 // word is made, is the likeliest, and is tried first.
-fn contained_by(
+pub fn contained_by(
     set: [[u8; DIGITS]; PATTERNS],
     lengths: [u8; PATTERNS],
     count: usize,
