@@ -3,32 +3,36 @@
 -- Assumes nothing.
 use Prim.Native.Nat.{ℕ, zero, suc, _+_, _-_, _≤_, _<_}
 use mathlib.Core.Path.{_≡_, refl, sym, ap, _∙_}
-use mathlib.Core.Bool.{Bool, true, false, cond, _&&_, _||_}
+use mathlib.Core.Bool.{Bool, true, false, cond, _&&_}
 use mathlib.Core.List.{List, [], _∷_, _++_, map, List·Memᴰ, List·Memᴰ·head, List·Memᴰ·tail, List·Memᴰ·not-nil}
 use mathlib.Core.Logic.{_↔_}
 use native.Mathlib.Nat.{sub-zero}
 use native.Mathlib.Numerals.{add-one}
 use native.Mathlib.Omega.{arith}
 use lib.ListN.{length, getD, take, drop}
-use Rattle.word.specs.Lists.{all, any, keep, each, row}
+use mathlib.Core.Option.{Option, none, some}
+use Rattle.word.specs.Lists.{all, any, keep, first, each, row}
 use Rattle.word.specs.Word.{contains, avoids, longest, under, reduce, has, distinct, entry, within, isPerm}
 use Rattle.word.specs.PermLaws.{perm-bounds, perm-distinct}
 use Rattle.cell.specs.Claim.{DeletionClaim}
 use Rattle.cell.specs.CandidateLaws.{irreversible-law}
 use Rattle.candidate.specs.Tabled.{Tabled, IsCandidate}
 use Rattle.word.specs.Containment.{patternsOf}
-use Rattle.word.specs.ListLaws.{true-not-false}
+use Rattle.word.specs.ListLaws.{true-not-false, first-some}
+use Rattle.word.specs.CopyLaws.{found, first-found}
 use Rattle.word.specs.ContainsLaws.{avoids-none}
-use Rattle.cell.specs.Cell.{total, without, free, vectors}
+use Rattle.cell.specs.Cell.{total, without, free, vectors, mOf, compared}
+use Rattle.cell.specs.SpacingWalk.{compared-are}
 use Rattle.cell.specs.Built.{level, built}
-use Rattle.cell.specs.Candidate.{headLength, hit, violates, violated, irreversible}
+use Rattle.cell.specs.Candidate.{headLength, hit, violates, violated, irreversible, violatedFirst}
 use Rattle.candidate.specs.Lookup.{needAt, Says, Flags}
-use Rattle.candidate.specs.Ready.{Ready, patternAt, Needs, Given, FlaggedFor, FreeAnswer, TotalAnswer, EntryAnswer}
+use Rattle.candidate.specs.Ready.{Ready, patternAt, Needs, Given, Looked, FlaggedFor, FreeAnswer, FoundAt, TotalAnswer, EntryAnswer}
+use Rattle.candidate.specs.declared.search.Lost.{Lost}
 use Rattle.candidate.specs.BasisMemory.{pattern-member}
 use Rattle.spacing.specs.Following.{firstVector, later, Follows}
 use Rattle.spacing.specs.SpacingOrder.{vectors-first, first-length, first-total}
 use Rattle.candidate.proofs.HitLaws.{hit-short}
-use Rattle.candidate.proofs.BasisWalk.{take-again, from, from-start, from-counted, from-end, from-cons}
+use Rattle.candidate.proofs.BasisWalk.{take-again, from, from-start, from-counted, from-cons}
 
 -- what is looked up for the pattern at place i
 pub ready : (set : List (List ℕ)) (lengths : List ℕ) (count : ℕ) (p R g levels gone : List ℕ) (needs : List ℕ) (t i : ℕ) →
@@ -57,9 +61,6 @@ module _ (f : List ℕ → Bool) (set : List (List ℕ)) (lengths : List ℕ) (c
   pub some-counted : (i : ℕ) → count ≤ i → any f (from set lengths count i) ≡ false
   some-counted i h = ap (any f) (from-counted set lengths count i h)
 
-  pub some-end : (i : ℕ) → length set ≤ i → any f (from set lengths count i) ≡ false
-  some-end i h = ap (any f) (from-end set lengths count i h)
-
   module _ (i : ℕ) (hr : i < length set) (hl : i < length lengths) (hn : i < count) where
     pub some-here : f (patternAt set lengths i) ≡ true → any f (from set lengths count i) ≡ true
     some-here e = ap (any f) (from-cons set lengths count i hr hl hn) ∙ rw e refl
@@ -80,76 +81,121 @@ violates-hit P p R g β w e q = rw (e, q) refl
 
 -- over the spacings of one total, in lexicographic order
 
-any-append : (f : List ℕ → Bool) (k l : List (List ℕ)) → any f (k ++ l) ≡ any f k || any f l
-any-append f [] l = refl
-any-append f (x ∷ k) l = go (f x) (any-append f k l)
+-- the first of two results
+abbrev or-else : Option (List ℕ) → Option (List ℕ) → Option (List ℕ)
+or-else none o = o
+or-else (some g) o = some g
+
+first-append : (f : List ℕ → Bool) (k l : List (List ℕ)) → first f (k ++ l) ≡ or-else (first f k) (first f l)
+first-append f [] l = refl
+first-append f (x ∷ k) l = go (f x) (first-append f k l)
   where
-    go : (c : Bool) → any f (k ++ l) ≡ any f k || any f l → c || any f (k ++ l) ≡ (c || any f k) || any f l
+    go : (c : Bool) → first f (k ++ l) ≡ or-else (first f k) (first f l) →
+        cond c (some x) (first f (k ++ l)) ≡ or-else (cond c (some x) (first f k)) (first f l)
     go true e = refl
     go false e = e
 
-pub any-keep : (h f : List ℕ → Bool) (l : List (List ℕ)) → any f (keep h l) ≡ any (λ x. h x && f x) l
-any-keep h f [] = refl
-any-keep h f (x ∷ l) = go (h x) (any-keep h f l)
+-- the first of those that pass h
+first-keep : (h f : List ℕ → Bool) (l : List (List ℕ)) → first f (keep h l) ≡ first (λ x. h x && f x) l
+first-keep h f [] = refl
+first-keep h f (x ∷ l) = go (h x) (first-keep h f l)
   where
-    go : (c : Bool) → any f (keep h l) ≡ any (λ x. h x && f x) l → any f (cond c (x ∷ keep h l) (keep h l)) ≡
-        (c && f x) || any (λ x. h x && f x) l
-    go true e = ap (λ (b : Bool). f x || b) e
+    go : (c : Bool) → first f (keep h l) ≡ first (λ x. h x && f x) l → first f (cond c (x ∷ keep h l) (keep h l)) ≡
+        cond (c && f x) (some x) (first (λ x. h x && f x) l)
+    go true e = ap (cond (f x) (some x)) e
     go false e = e
 
-module _ (f : List ℕ → Bool) where
-  pub walk-start : (k t : ℕ) → any f (vectors (suc k) t) ≡ any f (firstVector k t ∷ later (firstVector k t))
-  walk-start k t = ap (any f) (vectors-first k t)
+-- what is found in the first part is found, and else the second decides
+found-here : (k : ℕ) (a b : Option (List ℕ)) (r : Lost) → r .found ≡ true → FoundAt k a r → FoundAt k (or-else a b) r
+found-here k none b r h e = absurd (true-not-false (sym h ∙ e))
+found-here k (some g) b r h e = e
 
-  pub walk-here : (v : List ℕ) → f v ≡ true → any f (v ∷ later v) ≡ true
+found-later : (k : ℕ) (a b : Option (List ℕ)) (r : Lost) → r .found ≡ false → FoundAt k a r → or-else a b ≡ b
+found-later k none b r h e = refl
+found-later k (some g) b r h e = absurd (true-not-false (sym (e .0) ∙ h))
+
+module _ (f : List ℕ → Bool) where
+  walk-start : (k t : ℕ) → first f (vectors (suc k) t) ≡ first f (firstVector k t ∷ later (firstVector k t))
+  walk-start k t = ap (first f) (vectors-first k t)
+
+  walk-here : (v : List ℕ) → f v ≡ true → first f (v ∷ later v) ≡ some v
   walk-here v e = rw e refl
 
-  pub walk-last : (v n : List ℕ) (found : Bool) → Follows v found n → f v ≡ false → found ≡ false → any f (v ∷ later v) ≡ false
+  walk-last : (v n : List ℕ) (found : Bool) → Follows v found n → f v ≡ false → found ≡ false → first f (v ∷ later v) ≡ none
   walk-last v n found F e h = rw (e, F .rest, h) refl
 
-  pub walk-next : (v n : List ℕ) (found : Bool) → Follows v found n → f v ≡ false → found ≡ true → any f (v ∷ later v) ≡ any f (n ∷ later n)
+  walk-next : (v n : List ℕ) (found : Bool) → Follows v found n → f v ≡ false → found ≡ true →
+      first f (v ∷ later v) ≡ first f (n ∷ later n)
   walk-next v n found F e h = rw (e, F .rest, h) refl
 
   -- over the totals from t on
-  unfoldable pub from-total : ℕ → ℕ → ℕ → Bool
-  from-total k m t = any f (each (vectors (suc k)) (row t (m - t)))
+  unfoldable pub from-total : ℕ → ℕ → ℕ → Option (List ℕ)
+  from-total k m t = first f (each (vectors (suc k)) (row t (m - t)))
 
-  pub totals-start : (k m : ℕ) → any f (each (vectors (suc k)) (row 0 m)) ≡ from-total k m 0
+  pub totals-start : (k m : ℕ) → first f (each (vectors (suc k)) (row 0 m)) ≡ from-total k m 0
   unfolding from-total
   totals-start k m = rw (sub-zero m) refl
 
-  pub totals-end : (k m t : ℕ) → m ≤ t → from-total k m t ≡ false
+  pub totals-end : (k m t : ℕ) → m ≤ t → from-total k m t ≡ none
   unfolding from-total
   totals-end k m t h = go (m - t) (omega arith)
     where
-      go : (n : ℕ) → n ≡ 0 → any f (each (vectors (suc k)) (row t n)) ≡ false
+      go : (n : ℕ) → n ≡ 0 → first f (each (vectors (suc k)) (row t n)) ≡ none
       go n e = rw e refl
 
-  totals-cons : (k m t : ℕ) → t < m → from-total k m t ≡ any f (vectors (suc k) t) || from-total k m (t + 1)
+  totals-cons : (k m t : ℕ) → t < m → from-total k m t ≡ or-else (first f (vectors (suc k) t)) (from-total k m (t + 1))
   unfolding from-total
   totals-cons k m t h = rw (add-one t) (go (m - t) (m - suc t) (omega arith))
     where
       go : (n r : ℕ) → n ≡ suc r →
-          any f (each (vectors (suc k)) (row t n)) ≡ any f (vectors (suc k) t) || any f (each (vectors (suc k)) (row (suc t) r))
-      go n r e = rw e (any-append f (vectors (suc k) t) (each (vectors (suc k)) (row (suc t) r)))
+          first f (each (vectors (suc k)) (row t n)) ≡
+          or-else (first f (vectors (suc k) t)) (first f (each (vectors (suc k)) (row (suc t) r)))
+      go n r e = rw e (first-append f (vectors (suc k) t) (each (vectors (suc k)) (row (suc t) r)))
 
-  pub totals-here : (k m t : ℕ) → t < m → any f (vectors (suc k) t) ≡ true → from-total k m t ≡ true
-  totals-here k m t h e = totals-cons k m t h ∙ rw e refl
+  module _ (k m t : ℕ) (h : t < m) (r : Lost) (here : FoundAt k (first f (vectors (suc k) t)) r) where
+    pub totals-here : r .found ≡ true → FoundAt k (from-total k m t) r
+    totals-here e =
+        rw (totals-cons k m t h) (found-here k (first f (vectors (suc k) t)) (from-total k m (t + 1)) r e here)
 
-  pub totals-later : (k m t : ℕ) → t < m → any f (vectors (suc k) t) ≡ false → from-total k m t ≡ from-total k m (t + 1)
-  totals-later k m t h e = totals-cons k m t h ∙ rw e refl
-
--- what `spacing_violated` looks up, for the positions R and the spacing g
-pub record Looked (set : List (List ℕ)) (lengths : List ℕ) (count : ℕ) (needs : List ℕ) (p gone levels : List ℕ)
-    (t : ℕ) (R g : List ℕ) : Type 0 where
-  pub given : Given set lengths count p R
-  pub flags : Flags gone 9 (λ v. has v (map (entry p) R))
-  pub size : length g ≡ suc (length p)
-  pub whole : total g ≡ t
-  pub said : Says levels (suc (length p)) (level g)
-  pub needed : Needs set lengths count t needs
+    pub totals-later : r .found ≡ false → from-total k m t ≡ from-total k m (t + 1)
+    totals-later e = totals-cons k m t h ∙ found-later k (first f (vectors (suc k) t)) (from-total k m (t + 1)) r e here
 
 module _ (set : List (List ℕ)) (lengths : List ℕ) (count : ℕ) (needs : List ℕ) (p gone levels : List ℕ) (t : ℕ) where
+  -- whether the pattern at place i violates at the spacing that the lists are of
+  abbrev pub Violates : ℕ → Bool → Type 0
+  Violates i b =
+      (R g : List ℕ) → Looked set lengths count needs p gone levels t R g →
+      violates (patternsOf set lengths count) p R g (patternAt set lengths i) ≡ b
+
+  module _ (i : ℕ) (hn : i < count) (eight : length (patternAt set lengths i) ≤ 8) where
+    look : (R g : List ℕ) → Looked set lengths count needs p gone levels t R g →
+        Ready p R g (patternAt set lengths i) levels gone (needAt needs t i)
+    look R g L = ready set lengths count p R g levels gone needs t i (L .given) (L .size) (L .whole) (L .said)
+        (L .flags) (L .needed) hn eight
+
+    -- a pattern that is not longer than the total
+    pub violates-short : length (patternAt set lengths i) ≤ t → Violates i false
+    violates-short h R g L =
+        violates-missed (patternsOf set lengths count) p R g (patternAt set lengths i)
+        (hit-short p R g (patternAt set lengths i) t (L .whole) h)
+
+    module _ (r : Bool) (hits : (R g : List ℕ) → Ready p R g (patternAt set lengths i) levels gone
+        (needAt needs t i) → total g ≡ t → r ≡ hit p R g (patternAt set lengths i)) where
+      -- one that does not hit
+      pub violates-not : r ≡ false → Violates i false
+      violates-not e R g L =
+          violates-missed (patternsOf set lengths count) p R g (patternAt set lengths i)
+          (sym (hits R g (look R g L) (L .whole)) ∙ e)
+
+      -- one that hits: whether its candidate avoids without the deleted positions
+      pub violates-by : r ≡ true → (w : List ℕ) →
+          ((R g : List ℕ) → Looked set lengths count needs p gone levels t R g →
+          w ≡ built (without R p) g (reduce (drop (headLength (patternAt set lengths i) (total g)) (patternAt set lengths i)))) →
+          (b : Bool) → avoids (patternsOf set lengths count) w ≡ b → Violates i b
+      violates-by e w word b a R g L =
+          violates-hit (patternsOf set lengths count) p R g (patternAt set lengths i) w
+          (sym (hits R g (look R g L) (L .whole)) ∙ e) (word R g L) ∙ a
+
   -- the patterns before place i do not violate
   abbrev pub Passed : ℕ → Type 0
   Passed i =
@@ -164,50 +210,14 @@ module _ (set : List (List ℕ)) (lengths : List ℕ) (count : ℕ) (needs : Lis
       false ≡ violated (patternsOf set lengths count) p R g
   passed-end i h I R g L = sym (I R g L ∙ some-counted (violates (patternsOf set lengths count) p R g) set lengths count i h)
 
-  module _ (i : ℕ) (hr : i < length set) (hl : i < length lengths) (hn : i < count)
-      (eight : length (patternAt set lengths i) ≤ 8) (I : Passed i) where
-    pub look : (R g : List ℕ) → Looked set lengths count needs p gone levels t R g →
-        Ready p R g (patternAt set lengths i) levels gone (needAt needs t i)
-    look R g L = ready set lengths count p R g levels gone needs t i (L .given) (L .size) (L .whole) (L .said)
-        (L .flags) (L .needed) hn eight
+  module _ (i : ℕ) (hr : i < length set) (hl : i < length lengths) (hn : i < count) (I : Passed i) where
+    pub passed-later : Violates i false → Passed (i + 1)
+    passed-later e R g L = I R g L ∙ some-later (violates (patternsOf set lengths count) p R g) set lengths count i hr hl hn (e R g L)
 
-    later-passed : ((R g : List ℕ) → Looked set lengths count needs p gone levels t R g → violates
-        (patternsOf set lengths count) p R g (patternAt set lengths i) ≡ false) → Passed (i + 1)
-    later-passed e R g L = I R g L ∙ some-later (violates (patternsOf set lengths count) p R g) set lengths count i hr hl hn (e R g L)
-
-    -- a pattern that is not longer than the total
-    pub passed-short : length (patternAt set lengths i) ≤ t → Passed (i + 1)
-    passed-short h =
-        later-passed (λ R g L. violates-missed (patternsOf set lengths count) p R g (patternAt set lengths i)
-        (hit-short p R g (patternAt set lengths i) t (L .whole) h))
-
-    module _ (r : Bool) (hits : (R g : List ℕ) → Ready p R g (patternAt set lengths i) levels gone
-        (needAt needs t i) → total g ≡ t → r ≡ hit p R g (patternAt set lengths i)) where
-      -- one that does not hit
-      pub passed-missed : r ≡ false → Passed (i + 1)
-      passed-missed e =
-          later-passed (λ R g L. violates-missed (patternsOf set lengths count) p R g (patternAt set lengths i)
-          (sym (hits R g (look R g L) (L .whole)) ∙ e))
-
-      module _ (e : r ≡ true) (w : List ℕ)
-          (word : (R g : List ℕ) → Looked set lengths count needs p gone levels t R g →
-          w ≡ built (without R p) g (reduce (drop (headLength (patternAt set lengths i) (total g)) (patternAt set lengths i)))) where
-        decides : (R g : List ℕ) → Looked set lengths count needs p gone levels t R g →
-            violates (patternsOf set lengths count) p R g (patternAt set lengths i) ≡ avoids (patternsOf set lengths count) w
-        decides R g L =
-            violates-hit (patternsOf set lengths count) p R g (patternAt set lengths i) w
-            (sym (hits R g (look R g L) (L .whole)) ∙ e) (word R g L)
-
-        -- one whose candidate contains a pattern without the deleted positions
-        pub passed-contained : avoids (patternsOf set lengths count) w ≡ false → Passed (i + 1)
-        passed-contained a = later-passed (λ R g L. decides R g L ∙ a)
-
-        -- one whose candidate avoids: a violation
-        pub violation : avoids (patternsOf set lengths count) w ≡ true → (R g : List ℕ) →
-            Looked set lengths count needs p gone levels t R g →
-            true ≡ violated (patternsOf set lengths count) p R g
-        violation a R g L =
-            sym (I R g L ∙ some-here (violates (patternsOf set lengths count) p R g) set lengths count i hr hl hn (decides R g L ∙ a))
+    pub violation : Violates i true → (R g : List ℕ) → Looked set lengths count needs p gone levels t R g →
+        true ≡ violated (patternsOf set lengths count) p R g
+    violation e R g L =
+        sym (I R g L ∙ some-here (violates (patternsOf set lengths count) p R g) set lengths count i hr hl hn (e R g L))
 
 -- the word that was made is the candidate
 module _ (set : List (List ℕ)) (lengths : List ℕ) (count : ℕ) (needs : List ℕ) (prefix gone levels : List ℕ)
@@ -260,7 +270,8 @@ pub record Walked (set : List (List ℕ)) (lengths : List ℕ) (count : ℕ) (p 
   pub size : length v ≡ suc k
   pub rest :
       (R : List ℕ) → FlaggedFor set lengths count p R gone →
-      any (lost B (patternsOf set lengths count) p R) (vectors (suc k) t) ≡ any (lost B (patternsOf set lengths count) p R) (v ∷ later v)
+      first (lost B (patternsOf set lengths count) p R) (vectors (suc k) t) ≡
+      first (lost B (patternsOf set lengths count) p R) (v ∷ later v)
 
 module _ (set : List (List ℕ)) (lengths : List ℕ) (count : ℕ) (needs : List ℕ) (p gone : List ℕ) (B : List (List ℕ)) (k t : ℕ) where
   pub walked-start : (v : List ℕ) → v ≡ firstVector k t → Walked set lengths count p gone B k t v
@@ -271,7 +282,7 @@ module _ (set : List (List ℕ)) (lengths : List ℕ) (count : ℕ) (needs : Lis
         rest =
             λ R F.
             walk-start (lost B (patternsOf set lengths count) p R) k t ∙
-            ap (λ (u : List ℕ). any (lost B (patternsOf set lengths count) p R) (u ∷ later u)) (sym e);
+            ap (λ (u : List ℕ). first (lost B (patternsOf set lengths count) p R) (u ∷ later u)) (sym e);
       }
 
   module _ (v : List ℕ) (W : Walked set lengths count p gone B k t v) (N : Needs set lengths count t needs) (r : Bool)
@@ -279,14 +290,15 @@ module _ (set : List (List ℕ)) (lengths : List ℕ) (count : ℕ) (needs : Lis
     here : (R : List ℕ) → FlaggedFor set lengths count p R gone → k ≡ length p → r ≡ lost B (patternsOf set lengths count) p R v
     here R F e = answer R F (W .size ∙ ap suc e) (W .whole) N
 
-    pub walked-found : r ≡ true → TotalAnswer set lengths count p gone B k t true
-    walked-found h R F e =
-        sym (W .rest R F ∙ walk-here (lost B (patternsOf set lengths count) p R) v (sym (here R F e) ∙ h))
+    pub walked-found : r ≡ true → (g : List ℕ) → take (k + 1) g ≡ v →
+        TotalAnswer set lengths count p gone B k t (record { found = true; total = t; spacing = g })
+    walked-found h g q R F e =
+        rw (W .rest R F ∙ walk-here (lost B (patternsOf set lengths count) p R) v (sym (here R F e) ∙ h)) (refl, q, sym (W .whole))
 
     module _ (h : r ≡ false) (n : List ℕ) (found : Bool) (follows : Follows v found n) where
-      pub walked-none : found ≡ false → TotalAnswer set lengths count p gone B k t false
-      walked-none q R F e =
-          sym (W .rest R F ∙ walk-last (lost B (patternsOf set lengths count) p R) v n found follows (sym (here R F e) ∙ h) q)
+      pub walked-none : found ≡ false → (o : Lost) → o .found ≡ false → TotalAnswer set lengths count p gone B k t o
+      walked-none q o f R F e =
+          rw (W .rest R F ∙ walk-last (lost B (patternsOf set lengths count) p R) v n found follows (sym (here R F e) ∙ h) q) f
 
       pub walked-next : found ≡ true → k ≡ length p → length n ≡ suc k → Walked set lengths count p gone B k t n
       walked-next q e size =
@@ -298,10 +310,20 @@ module _ (set : List (List ℕ)) (lengths : List ℕ) (count : ℕ) (needs : Lis
 
 -- over the totals: the whole answer
 
-pub entry-defined : (P : List (List ℕ)) (p : List ℕ) (B : List (List ℕ)) (R : List ℕ) (k m : ℕ) → k ≡ length p → m ≡ longest P →
-    irreversible P p B R ≡ any (lost B P p R) (each (vectors (suc k)) (row 0 m))
-unfolding irreversible
-entry-defined P p B R k m e h = rw (e, h) (any-keep (free B) (violated P p R) (each (vectors (suc (length p))) (row 0 (longest P))))
+-- the first violation, over all spacings of the totals below m
+pub entry-first : (P : List (List ℕ)) (p : List ℕ) (B : List (List ℕ)) (R : List ℕ) (k m : ℕ) → k ≡ length p → m ≡ longest P →
+    violatedFirst P p B R ≡ first (lost B P p R) (each (vectors (suc k)) (row 0 m))
+unfolding violatedFirst
+entry-first P p B R k m e h = rw (e, h) (first-keep (free B) (violated P p R) (each (vectors (suc (length p))) (row 0 (longest P))))
+
+-- there is a violation exactly if there is a first
+entry-found : (P : List (List ℕ)) (p : List ℕ) (B : List (List ℕ)) (R : List ℕ) → found (violatedFirst P p B R) ≡ irreversible P p B R
+unfolding violatedFirst irreversible
+entry-found P p B R = first-found (violated P p R) (compared P (length p) B)
+
+located-found : (k : ℕ) (o : Option (List ℕ)) (r : Lost) → FoundAt k o r → r .found ≡ found o
+located-found k none r e = e
+located-found k (some g) r e = e .0
 
 mem-pattern : (set : List (List ℕ)) (lengths : List ℕ) (n : ℕ) {β : List ℕ} →
     List·Memᴰ β (patternsOf set lengths n) → (i : ℕ) × (i < n) × (β ≡ patternAt set lengths i)
@@ -312,19 +334,40 @@ mem-pattern (r ∷ set) (k ∷ lengths) (suc n) (List·Memᴰ·head e) = (0, ome
 mem-pattern (r ∷ set) (k ∷ lengths) (suc n) (List·Memᴰ·tail m) = let (i, h, e) = mem-pattern set lengths n m in (suc i, omega arith, e)
 
 pub entry-answer : (set : List (List ℕ)) (lengths : List ℕ) (count : ℕ) (p : List ℕ) (B : List (List ℕ))
-    (R : List ℕ) (r : Bool) → Given set lengths count p R →
-    r ≡ irreversible (patternsOf set lengths count) p B R → EntryAnswer (patternsOf set lengths count) p B R r
-entry-answer set lengths count p B R r G e =
+    (R : List ℕ) (k : ℕ) (r : Lost) → Given set lengths count p R → k ≡ length p →
+    FoundAt k (violatedFirst (patternsOf set lengths count) p B R) r → EntryAnswer (patternsOf set lengths count) p B R r
+entry-answer set lengths count p B R k r G size at =
     record {
       defined = e;
       claimed = (λ h. law .0 (sym e ∙ h), λ claim. e ∙ law .1 claim);
+      located = rw size at at;
     }
   where
+    e : r .found ≡ irreversible (patternsOf set lengths count) p B R
+    e =
+        located-found k (violatedFirst (patternsOf set lengths count) p B R) r at ∙
+        entry-found (patternsOf set lengths count) p B R
+
     apart : (β : List ℕ) → List·Memᴰ β (patternsOf set lengths count) → distinct β ≡ true
     apart β m = let (i, h, q) = mem-pattern set lengths count m in perm-distinct β (ap isPerm q ∙ G .patterns i h)
 
     law : (irreversible (patternsOf set lengths count) p B R ≡ false) ↔ DeletionClaim (patternsOf set lengths count) p B R
     law = irreversible-law (patternsOf set lengths count) p R (G .perm) (G .inside) apart B
+
+-- the total of what was found
+pub located-total : (P : List (List ℕ)) (p : List ℕ) (B : List (List ℕ)) (R : List ℕ) (k : ℕ) (r : Lost) →
+    FoundAt k (violatedFirst P p B R) r → r .found ≡ true →
+    (r .total < longest P) × (total (take (k + 1) (r .spacing)) ≡ r .total)
+unfolding violatedFirst mOf
+located-total P p B R k r at h = go (violatedFirst P p B R) refl at
+  where
+    go : (o : Option (List ℕ)) → violatedFirst P p B R ≡ o → FoundAt k o r →
+        (r .total < longest P) × (total (take (k + 1) (r .spacing)) ≡ r .total)
+    go none q e = absurd (true-not-false (sym h ∙ e))
+    go (some g) q (f, s, t) =
+        let (m, v) = first-some (violated P p R) (compared P (length p) B) g q in
+        let c = compared-are P (length p) B m in
+        (omega arith, ap total s ∙ sym t)
 
 -- a word that contains the pattern at a place of the set does not avoid the set
 pub not-avoided : (set : List (List ℕ)) (lengths : List ℕ) (count i : ℕ) (w : List ℕ) → i < count →

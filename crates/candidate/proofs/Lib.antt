@@ -6,3 +6,4 @@ pub mod LookupLaws
 pub mod CandidateMade
 pub mod NeedLaws
 pub mod CandidateWalk
+pub mod LeastWalk

@@ -1,6 +1,7 @@
 -- The definitions of the crate candidate, and a law of memory.
 pub mod Lookup
 pub mod Ready
+pub mod Shown
 pub mod Tabled
 pub mod BasisSet
 pub mod BasisMemory

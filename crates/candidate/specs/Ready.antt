@@ -1,19 +1,22 @@
 -- What the candidate search is given, and what the lists that it looks up say.
-use Prim.Native.Nat.{ℕ, suc, _-_, _≤_, _<_}
+use Prim.Native.Nat.{ℕ, suc, _+_, _-_, _≤_, _<_}
 use mathlib.Core.Path.{_≡_}
 use mathlib.Core.Bool.{Bool, true, false, _&&_}
 use mathlib.Core.Logic.{_↔_}
 use mathlib.Core.List.{List, [], map}
+use mathlib.Core.Option.{Option, none, some}
 use lib.ListN.{length, getD, take, drop}
 use Rattle.word.specs.Ceilings.{DIGITS, PATTERNS, PREFIX}
-use Rattle.word.specs.Lists.{all, any}
+use Rattle.word.specs.Lists.{all, first}
 use Rattle.word.specs.Containment.{patternsOf}
 use Rattle.word.specs.Word.{under, has, entry, isPerm, within}
 use Rattle.cell.specs.Cell.{total, free, vectors}
 use Rattle.cell.specs.Claim.{DeletionClaim}
 use Rattle.cell.specs.Built.{level}
-use Rattle.cell.specs.Candidate.{headLength, violated, irreversible}
+use Rattle.cell.specs.Candidate.{headLength, violated, irreversible, violatedFirst}
 use Rattle.candidate.specs.Lookup.{VALUES, NEEDS, needAt, Says, Flags}
+use Rattle.candidate.specs.declared.search.Lost.{Lost}
+use Rattle.candidate.specs.declared.least.LostWord.{LostWord}
 
 -- of one prefix, its deleted positions, one spacing and one pattern
 pub record Ready (p R g β levels gone need : List ℕ) : Type 0 where
@@ -51,6 +54,16 @@ pub record Given (set : List (List ℕ)) (lengths : List ℕ) (count : ℕ) (p R
   pub short : length p ≤ PREFIX
   pub inside : all (within (length p)) R ≡ true
 
+-- what is looked up at one spacing g for every pattern, with the positions R
+pub record Looked (set : List (List ℕ)) (lengths : List ℕ) (count : ℕ) (needs : List ℕ) (p gone levels : List ℕ)
+    (t : ℕ) (R g : List ℕ) : Type 0 where
+  pub given : Given set lengths count p R
+  pub flags : Flags gone VALUES (λ v. has v (map (entry p) R))
+  pub size : length g ≡ suc (length p)
+  pub whole : total g ≡ t
+  pub said : Says levels (suc (length p)) (level g)
+  pub needed : Needs set lengths count t needs
+
 -- The answers, for every list of positions that the flags are of.
 
 abbrev pub FlaggedFor : List (List ℕ) → List ℕ → ℕ → List ℕ → List ℕ → List ℕ → Type 0
@@ -68,14 +81,26 @@ FreeAnswer set lengths count needs p gone B g t r =
     (R : List ℕ) → FlaggedFor set lengths count p R gone → length g ≡ suc (length p) → total g ≡ t → Needs set lengths count t needs →
     r ≡ (free B g && violated (patternsOf set lengths count) p R g)
 
--- at the spacings of one total
-abbrev pub TotalAnswer : List (List ℕ) → List ℕ → ℕ → List ℕ → List ℕ → List (List ℕ) → ℕ → ℕ → Bool → Type 0
+-- r says where a search over the spacings of k + 1 components found something: the spacing, and its
+-- total
+abbrev pub FoundAt : ℕ → Option (List ℕ) → Lost → Type 0
+FoundAt k none r = r .found ≡ false
+FoundAt k (some g) r = (r .found ≡ true) × (take (k + 1) (r .spacing) ≡ g) × (r .total ≡ total g)
+
+-- at the spacings of one total: the first
+abbrev pub TotalAnswer : List (List ℕ) → List ℕ → ℕ → List ℕ → List ℕ → List (List ℕ) → ℕ → ℕ → Lost → Type 0
 TotalAnswer set lengths count p gone B k t r =
     (R : List ℕ) → FlaggedFor set lengths count p R gone → k ≡ length p →
-    r ≡ any (λ g. free B g && violated (patternsOf set lengths count) p R g) (vectors (suc k) t)
+    FoundAt k (first (λ g. free B g && violated (patternsOf set lengths count) p R g) (vectors (suc k) t)) r
 
--- The answer on an entry: it is the definition's, and it is no exactly if the deletion claim holds
--- at every length.
-pub record EntryAnswer (P : List (List ℕ)) (p : List ℕ) (B : List (List ℕ)) (R : List ℕ) (r : Bool) : Type 0 where
-  pub defined : r ≡ irreversible P p B R
-  pub claimed : (r ≡ false) ↔ DeletionClaim P p B R
+-- r shows the word that there is, or none; the word is short
+abbrev pub ShowsWord : Option (List ℕ) → LostWord → Type 0
+ShowsWord none r = r .found ≡ false
+ShowsWord (some w) r = (r .found ≡ true) × (take (r .length) (r .entries) ≡ w) × (r .length ≤ PREFIX + DIGITS)
+
+-- The answer on an entry: it is the definition's, it is no exactly if the deletion claim holds at
+-- every length, and it says where the first violation is.
+pub record EntryAnswer (P : List (List ℕ)) (p : List ℕ) (B : List (List ℕ)) (R : List ℕ) (r : Lost) : Type 0 where
+  pub defined : r .found ≡ irreversible P p B R
+  pub claimed : (r .found ≡ false) ↔ DeletionClaim P p B R
+  pub located : FoundAt (length p) (violatedFirst P p B R) r

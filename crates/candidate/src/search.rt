@@ -1,6 +1,6 @@
-// The candidate search: whether a deletion loses a member of the shorter cell. For each spacing and
-// pattern there is one word to look at: the prefix at the spacing, followed by the rest that the
-// pattern's last entries make.
+// The candidate search: whether a deletion loses a member of the shorter cell, and at which spacing
+// it first does. For each spacing and pattern there is one word to look at: the prefix at the
+// spacing, followed by the rest that the pattern's last entries make.
 use crate::basis::digits;
 use crate::needed::need_at;
 use crate::placing::Placing;
@@ -21,7 +21,7 @@ use word::limits::PATTERNS;
 use word::limits::PREFIX;
 use word::limits::WORD;
 ghost use mathlib.Core.Path.{_≡_};
-ghost use mathlib.Core.Bool.{not};
+ghost use mathlib.Core.Bool.{false, not};
 ghost use mathlib.Core.List.{List};
 ghost use Prim.Native.Nat.{ℕ, _+_, _≤_, _<_};
 ghost use lib.ListN.{length, take};
@@ -67,9 +67,28 @@ struct At {
     total: usize,
 }
 
+// What the search found: whether there is a violation, and the first spacing that has one, with its
+// total. Where there is none, spacing and total say nothing.
+pub struct Lost {
+    pub found: bool,
+    pub total: usize,
+    pub spacing: [u8; COMPONENTS],
+}
+
+// No violation.
+fn nothing_lost() -> Lost
+    ensures { λ r. ⌜ r .found ≡ false ⌝ }
+{
+    Lost {
+        found: false,
+        total: 0,
+        spacing: [0u8; COMPONENTS],
+    }
+}
+
 // Whether the pattern's head can be placed in the prefix, a deleted value among its places, where
 // its last t entries are the rest.
-fn hits(
+pub fn hits(
     row: [u8; DIGITS],
     len: usize,
     t: usize,
@@ -96,7 +115,7 @@ fn hits(
 
 // Whether the first `len` entries of the word contain a pattern. The one at place i, of which the
 // word is made, is the likeliest, and is tried first.
-fn contained_by(
+pub fn contained_by(
     set: [[u8; DIGITS]; PATTERNS],
     lengths: [u8; PATTERNS],
     count: usize,
@@ -190,8 +209,8 @@ fn free_and_violated(
     spacing_violated(set, lengths, count, needs, at)
 }
 
-// Whether some spacing of the total that is at least no gap vector has a violation: the spacings in
-// lexicographic order.
+// The first spacing of the total that is at least no gap vector and has a violation: the spacings
+// in lexicographic order.
 fn total_violated(
     set: [[u8; DIGITS]; PATTERNS],
     lengths: [u8; PATTERNS],
@@ -199,7 +218,7 @@ fn total_violated(
     needs: &[u8],
     gaps: &[u8],
     of: OfTotal,
-) -> bool
+) -> Lost
     requires { ⌜ (count ≤ PATTERNS) × (of .deleted .length ≤ PREFIX) × (of .total < DIGITS) ×
         AllNeeds set lengths count (now needs) × HasVectors (now gaps) (of .deleted .«gap_count») ⌝ }
     ensures { λ r. ⌜ TotalAnswer set lengths count (take (of .deleted .length) (of .deleted .prefix))
@@ -217,17 +236,21 @@ fn total_violated(
             total: t,
         };
         if free_and_violated(set, lengths, count, needs, gaps, at) {
-            return true;
+            return Lost {
+                found: true,
+                total: t,
+                spacing: g,
+            };
         }
         let next = next_spacing(g, k);
         if !next.found {
-            return false;
+            return nothing_lost();
         }
         g = next.g;
     }
 }
 
-// Whether the deletion loses a member of the shorter cell at some compared spacing: by rising
+// The first compared spacing at which the deletion loses a member of the shorter cell: by rising
 // total, and in lexicographic order within a total.
 pub fn irreversible(
     set: [[u8; DIGITS]; PATTERNS],
@@ -236,7 +259,7 @@ pub fn irreversible(
     needs: &[u8],
     gaps: &[u8],
     deletion: Deletion,
-) -> bool
+) -> Lost
     requires { ⌜ AllNeeds set lengths count (now needs) × (deletion .length ≤ PREFIX) ×
         (deletion .«position_count» ≤ PREFIX) × (deletion .longest ≡ longest (patternsOf set lengths count)) ×
         (deletion .longest ≤ DIGITS) × HasVectors (now gaps) (deletion .«gap_count») ×
@@ -263,10 +286,11 @@ pub fn irreversible(
             deleted: deleted,
             total: t,
         };
-        if total_violated(set, lengths, count, needs, gaps, of) {
-            return true;
+        let lost = total_violated(set, lengths, count, needs, gaps, of);
+        if lost.found {
+            return lost;
         }
         t += 1;
     }
-    false
+    nothing_lost()
 }

@@ -4,20 +4,19 @@
 use denote.Ref.{now}
 use Prim.Native.Nat.{ℕ, suc, _-_, _+_, _≤_}
 use mathlib.Core.Path.{_≡_, sym, ap, _∙_}
-use mathlib.Core.Bool.{true, false}
 use mathlib.Core.List.{List}
 use borrow.Author.Needs.{needs}
 use native.Mathlib.Omega.{arith}
 use lib.ListN.{length, take}
 use lib.Seq.{length-take-le}
-use Rattle.word.specs.Lists.{all, any, each, row}
+use Rattle.word.specs.Lists.{all, first, each, row}
 use Rattle.word.specs.Word.{within}
 use Rattle.word.specs.Containment.{patternsOf}
 use Rattle.cell.specs.Cell.{vectors}
 use Rattle.forms.specs.GapRows.{gapsOf}
 use Rattle.candidate.specs.Ready.{FlaggedFor}
 use Rattle.candidate.proofs.CandidateWalk.{lost, from-total, totals-start, totals-end, totals-here}
-use Rattle.candidate.proofs.CandidateWalk.{totals-later, entry-defined, entry-answer}
+use Rattle.candidate.proofs.CandidateWalk.{totals-later, entry-first, entry-answer}
 use Rattle.candidate.proofs.search.irreversible.Statement.{statement}
 use Rattle.candidate.proofs.search.irreversible.Tie as tie
 
@@ -25,7 +24,7 @@ abbrev Inv-loop : tie.InvT-loop
 Inv-loop set lengths count bytes gaps k deleted m t₀ t =
     (m ≤ 8) × (t ≤ m) ×
     ((R : List ℕ) → FlaggedFor set lengths count (take k (deleted .prefix)) R (deleted .gone) →
-    any (lost (gapsOf gaps (k + 1) (deleted .«gap_count»)) (patternsOf set lengths count) (take k (deleted .prefix))
+    first (lost (gapsOf gaps (k + 1) (deleted .«gap_count»)) (patternsOf set lengths count) (take k (deleted .prefix))
     R) (each (vectors (suc k)) (row 0 m)) ≡
     from-total (lost (gapsOf gaps (k + 1) (deleted .«gap_count»)) (patternsOf set lengths count) (take k (deleted .prefix)) R) k m t)
 
@@ -82,14 +81,13 @@ returns c =
     let F : FlaggedFor (a .set) (a .lengths) (a .count) (take (a .deletion .length) (a .deletion .prefix)) R
     (at-deleted-values .deleted-values .result) = (G, at-deleted-values .deleted-values .ensures) in
     let l = c .before .before .before .loop in
-    let here = c .before .total-violated .ensures R F (sym wide) in
-    let found : from-total (lost A P (take (a .deletion .length) (a .deletion .prefix)) R) (a .deletion .length)
-    (a .deletion .longest) (l .t) ≡ true =
-    totals-here (lost A P (take (a .deletion .length) (a .deletion .prefix)) R) (a .deletion .length)
-    (a .deletion .longest) (l .t) (omega arith) (sym here ∙ c .if1 .taken) in
-    entry-answer (a .set) (a .lengths) (a .count) (take (a .deletion .length) (a .deletion .prefix)) A R true G
-    (sym (entry-defined P (take (a .deletion .length) (a .deletion .prefix)) A R (a .deletion .length)
-    (a .deletion .longest) (sym wide) (start .pre .3) ∙ l .inv .2 R F ∙ found))
+    let v = c .before .total-violated in
+    let here = totals-here (lost A P (take (a .deletion .length) (a .deletion .prefix)) R) (a .deletion .length)
+    (a .deletion .longest) (l .t) (omega arith) (v .result) (v .ensures R F (sym wide)) (c .if1 .taken) in
+    entry-answer (a .set) (a .lengths) (a .count) (take (a .deletion .length) (a .deletion .prefix)) A R
+    (a .deletion .length) (v .result) G (sym wide)
+    (rw (entry-first P (take (a .deletion .length) (a .deletion .prefix)) A R (a .deletion .length)
+    (a .deletion .longest) (sym wide) (start .pre .3) ∙ l .inv .2 R F) here)
 
 loop-again : tie.Need-loop-again Inv-loop μ-loop
 loop-again c =
@@ -105,13 +103,13 @@ loop-again c =
       omega arith,
       λ R F. l .inv .2 R F ∙
           totals-later (lost A P (take (a .deletion .length) (a .deletion .prefix)) R) (a .deletion .length)
-          (a .deletion .longest) (l .t) (omega arith)
-          (sym (c .before .total-violated .ensures R F (sym wide)) ∙ c .if1 .left),
+          (a .deletion .longest) (l .t) (omega arith) (c .before .total-violated .result)
+          (c .before .total-violated .ensures R F (sym wide)) (c .if1 .left),
     )
 
 returns-2 : tie.Need-returns-2 Inv-loop μ-loop
 returns-2 c =
-    let at-deleted-values = c .before .before in
+    let at-deleted-values = c .before .before .before in
     let start = at-deleted-values .before .before .before .before .before in
     let a = start .args in
     let R = take (a .deletion .«position_count») (a .deletion .positions) in
@@ -123,12 +121,13 @@ returns-2 c =
     length-take-le (a .deletion .length) (a .deletion .prefix) (omega (arith, start .pre .1)) in
     let F : FlaggedFor (a .set) (a .lengths) (a .count) (take (a .deletion .length) (a .deletion .prefix)) R
     (at-deleted-values .deleted-values .result) = (G, at-deleted-values .deleted-values .ensures) in
-    let l = c .before .loop in
-    entry-answer (a .set) (a .lengths) (a .count) (take (a .deletion .length) (a .deletion .prefix)) A R false G
-    (sym (entry-defined P (take (a .deletion .length) (a .deletion .prefix)) A R (a .deletion .length)
+    let l = c .before .before .loop in
+    entry-answer (a .set) (a .lengths) (a .count) (take (a .deletion .length) (a .deletion .prefix)) A R
+    (a .deletion .length) (c .nothing-lost .result) G (sym wide)
+    (rw (entry-first P (take (a .deletion .length) (a .deletion .prefix)) A R (a .deletion .length)
     (a .deletion .longest) (sym wide) (start .pre .3) ∙ l .inv .2 R F ∙
     totals-end (lost A P (take (a .deletion .length) (a .deletion .prefix)) R) (a .deletion .length)
-    (a .deletion .longest) (l .t) (omega arith)))
+    (a .deletion .longest) (l .t) (omega arith)) (c .nothing-lost .ensures))
 
 pub irreversible-spec : {M : Type 1} → statement M
 irreversible-spec =
@@ -144,4 +143,5 @@ irreversible-spec =
     (λ c. search needs)
     (λ c. search needs)
     loop-again
+    (λ c κs. search needs)
     returns-2)

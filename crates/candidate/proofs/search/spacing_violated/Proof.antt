@@ -4,6 +4,7 @@
 use denote.Ref.{now}
 use Prim.Native.Nat.{ℕ, _-_, _≤_}
 use mathlib.Core.Path.{_≡_, sym, ap, _∙_}
+use mathlib.Core.Bool.{true, false}
 use mathlib.Core.List.{[]}
 use borrow.Author.Needs.{needs}
 use borrow.Author.Tests.{not-true, not-false}
@@ -11,8 +12,8 @@ use native.Mathlib.Omega.{arith}
 use lib.ListN.{length, getD, take, length-take}
 use lib.Seq.{length-take-le}
 use Rattle.word.specs.Ceilings.{DIGITS, PATTERNS, PREFIX}
-use Rattle.candidate.proofs.CandidateWalk.{Passed, passed-start, passed-end, passed-short, passed-missed}
-use Rattle.candidate.proofs.CandidateWalk.{passed-contained, violation, word-made}
+use Rattle.candidate.proofs.CandidateWalk.{Passed, passed-start, passed-end, passed-later, violation}
+use Rattle.candidate.proofs.CandidateWalk.{violates-short, violates-not, violates-by, word-made}
 use Rattle.candidate.proofs.BasisWalk.{take-again}
 use Rattle.candidate.specs.Ready.{patternAt}
 use Rattle.candidate.proofs.search.spacing_violated.Statement.{statement}
@@ -53,9 +54,12 @@ loop-again c =
     let eight : length (patternAt (a .t1) (a .t2) (l .i)) ≤ DIGITS = omega (arith, d .ensures .0, d .ensures .1) in
     let rows = all-rows start in
     let long = all-lengths start in
-    passed-short (a .t1) (a .t2) (a .count) (now (a .needs))
+    passed-later (a .t1) (a .t2) (a .count) (now (a .needs))
     (take (a .at .deleted .length) (a .at .deleted .prefix)) (a .at .deleted .gone) levels (a .at .total) (l .i)
-    (omega arith) (omega arith) (omega arith) eight (l .inv) (omega (arith, d .ensures .0, c .if1 .taken))
+    (omega arith) (omega arith) (omega arith) (l .inv)
+    (violates-short (a .t1) (a .t2) (a .count) (now (a .needs))
+    (take (a .at .deleted .length) (a .at .deleted .prefix)) (a .at .deleted .gone) levels (a .at .total) (l .i)
+    (omega arith) eight (omega (arith, d .ensures .0, c .if1 .taken)))
 
 need-at-requires : tie.Need-need-at-requires Inv-loop μ-loop
 need-at-requires c κs =
@@ -84,9 +88,12 @@ loop-again-2 c =
     ap (λ (m : ℕ). take m (getD (a .t1) (l .i) [])) (d .ensures .0) ∙ take-again (getD (a .t2) (l .i) 0) (getD (a .t1) (l .i) []) in
     let hits = c .before .hits in
     let found = rw (cut, need) at (hits .ensures) in
-    passed-missed (a .t1) (a .t2) (a .count) (now (a .needs))
+    passed-later (a .t1) (a .t2) (a .count) (now (a .needs))
     (take (a .at .deleted .length) (a .at .deleted .prefix)) (a .at .deleted .gone) levels (a .at .total) (l .i)
-    (omega arith) (omega arith) (omega arith) eight (l .inv) (hits .result) found (not-true _ (c .if2 .taken))
+    (omega arith) (omega arith) (omega arith) (l .inv)
+    (violates-not (a .t1) (a .t2) (a .count) (now (a .needs))
+    (take (a .at .deleted .length) (a .at .deleted .prefix)) (a .at .deleted .gone) levels (a .at .total) (l .i)
+    (omega arith) eight (hits .result) found (not-true _ (c .if2 .taken)))
 
 candidate-word-requires : tie.Need-candidate-word-requires Inv-loop μ-loop
 candidate-word-requires c κs =
@@ -126,11 +133,14 @@ loop-again-3 c =
     levels (a .at .deleted .length) (a .at .total) (l .i) (d .result) wide
     (omega arith) (d .ensures .0) (d .ensures .1) (omega (arith, at-if2 .before .before .before .if1 .left))
     (take (w .result .length) (w .result .entries)) (rw need at (w .ensures .1)) in
-    passed-contained (a .t1) (a .t2) (a .count) (now (a .needs))
+    passed-later (a .t1) (a .t2) (a .count) (now (a .needs))
     (take (a .at .deleted .length) (a .at .deleted .prefix)) (a .at .deleted .gone) levels (a .at .total) (l .i)
-    (omega (arith, start .pre .0)) (omega (arith, start .pre .0)) (omega arith) eight (l .inv) (hits .result) found
-    (not-false _ (at-if2 .if2 .left))
-    (take (w .result .length) (w .result .entries)) made (not-true _ (sym (c .before .contained-by .ensures) ∙ c .if3 .taken))
+    (omega (arith, start .pre .0)) (omega (arith, start .pre .0)) (omega arith) (l .inv)
+    (violates-by (a .t1) (a .t2) (a .count) (now (a .needs))
+    (take (a .at .deleted .length) (a .at .deleted .prefix)) (a .at .deleted .gone) levels (a .at .total) (l .i)
+    (omega arith) eight (hits .result) found (not-false _ (at-if2 .if2 .left))
+    (take (w .result .length) (w .result .entries)) made false
+    (not-true _ (sym (c .before .contained-by .ensures) ∙ c .if3 .taken)))
 
 returns : tie.Need-returns Inv-loop μ-loop
 returns c =
@@ -160,9 +170,12 @@ returns c =
     (take (w .result .length) (w .result .entries)) (rw need at (w .ensures .1)) in
     λ R F size e N. violation (a .t1) (a .t2) (a .count) (now (a .needs))
     (take (a .at .deleted .length) (a .at .deleted .prefix)) (a .at .deleted .gone) levels (a .at .total) (l .i)
-    (omega (arith, start .pre .0)) (omega (arith, start .pre .0)) (omega arith) eight (l .inv) (hits .result) found
-    (not-false _ (at-if2 .if2 .left))
-    (take (w .result .length) (w .result .entries)) made (not-false _ (sym (c .before .contained-by .ensures) ∙ c .if3 .left)) R _
+    (omega (arith, start .pre .0)) (omega (arith, start .pre .0)) (omega arith) (l .inv)
+    (violates-by (a .t1) (a .t2) (a .count) (now (a .needs))
+    (take (a .at .deleted .length) (a .at .deleted .prefix)) (a .at .deleted .gone) levels (a .at .total) (l .i)
+    (omega arith) eight (hits .result) found (not-false _ (at-if2 .if2 .left))
+    (take (w .result .length) (w .result .entries)) made true
+    (not-false _ (sym (c .before .contained-by .ensures) ∙ c .if3 .left))) R _
     (record {
       given = F .0;
       flags = F .1;

@@ -3,7 +3,7 @@
 -- Assumes nothing.
 use denote.Ref.{now}
 use Prim.Native.Nat.{suc, _+_}
-use mathlib.Core.Path.{_≡_, sym, _∙_}
+use mathlib.Core.Path.{_≡_, refl, sym, _∙_}
 use borrow.Author.Needs.{needs}
 use borrow.Author.Tests.{not-true, not-false}
 use native.Mathlib.Omega.{arith}
@@ -50,22 +50,24 @@ returns c =
     (take (a .of .deleted .length) (a .of .deleted .prefix)) (a .of .deleted .gone)
     (gapsOf (now (a .gaps)) (a .of .deleted .length + 1) (a .of .deleted .«gap_count»)) (a .of .deleted .length)
     (a .of .total) (take (a .of .deleted .length + 1) (at-loop .loop .g)) (at-loop .loop .inv)
-    (start .pre .3 .said (a .of .total) (start .pre .2)) (f .result) (f .ensures) (c .if1 .taken)
+    (start .pre .3 .said (a .of .total) (start .pre .2)) (f .result) (f .ensures) (c .if1 .taken) (at-loop .loop .g) refl
 
 returns-2 : tie.Need-returns-2 Inv-loop μ-loop
 returns-2 c =
-    let at-free-and-violated = c .before .before .before .before in
+    let at-next-spacing = c .before .before .before in
+    let at-free-and-violated = at-next-spacing .before .before in
     let at-loop = at-free-and-violated .before in
     let start = at-loop .before .before .before .before .before in
     let a = start .args in
     let f = at-free-and-violated .free-and-violated in
-    let n = c .before .before .next-spacing in
+    let n = at-next-spacing .next-spacing in
     walked-none (a .set) (a .lengths) (a .count) (now (a .needs))
     (take (a .of .deleted .length) (a .of .deleted .prefix)) (a .of .deleted .gone)
     (gapsOf (now (a .gaps)) (a .of .deleted .length + 1) (a .of .deleted .«gap_count»)) (a .of .deleted .length)
     (a .of .total) (take (a .of .deleted .length + 1) (at-loop .loop .g)) (at-loop .loop .inv)
-    (start .pre .3 .said (a .of .total) (start .pre .2)) (f .result) (f .ensures) (c .before .before .before .if1 .left)
-    (take (a .of .deleted .length + 1) (n .result .g)) (n .result .found) (n .ensures .follows) (not-true _ (c .if2 .taken))
+    (start .pre .3 .said (a .of .total) (start .pre .2)) (f .result) (f .ensures) (at-next-spacing .before .if1 .left)
+    (take (a .of .deleted .length + 1) (n .result .g)) (n .result .found) (n .ensures .follows)
+    (not-true _ (c .before .if2 .taken)) (c .nothing-lost .result) (c .nothing-lost .ensures)
 
 loop-less : tie.Need-loop-less Inv-loop μ-loop
 loop-less c =
@@ -115,6 +117,7 @@ total-violated-spec =
     loop-holds
     (λ c κs. search needs)
     returns
+    (λ c κs. search needs)
     (λ c κs. search needs)
     returns-2
     loop-less

@@ -1,0 +1,34 @@
+-- Words in memory that may be missing, and the lesser of two of them. Definitions only.
+use Prim.Native.Nat.{ℕ}
+use mathlib.Core.Path.{_≡_}
+use mathlib.Core.Bool.{cond}
+use mathlib.Core.List.{List}
+use mathlib.Core.Option.{Option, none, some}
+use lib.ListN.{take}
+use Rattle.word.specs.Containment.{patternsOf}
+use Rattle.cell.specs.Cell.{total}
+use Rattle.cell.specs.Built.{built}
+use Rattle.cell.specs.Candidate.{violates, restOf, lesser}
+use Rattle.candidate.specs.Ready.{patternAt, Looked}
+use Rattle.candidate.specs.declared.least.LostWord.{LostWord}
+
+-- the word that r holds
+abbrev pub shown : LostWord → Option (List ℕ)
+shown r = cond (r .found) (some (take (r .length) (r .entries))) none
+
+-- the lesser of two words, either of which may be missing
+abbrev pub lesserShown : Option (List ℕ) → Option (List ℕ) → Option (List ℕ)
+lesserShown v none = v
+lesserShown v (some w) = lesser v w
+
+-- the word of the pattern β with the deleted positions put back, if it violates at g
+unfoldable pub lostBy : List (List ℕ) → List ℕ → List ℕ → List ℕ → List ℕ → Option (List ℕ)
+unfolding violates built total
+lostBy P p R g β = cond (violates P p R g β) (some (built p g (restOf β (total g)))) none
+
+-- r holds the word of the pattern at place i, for the positions and the spacing that the lists are
+-- of
+abbrev pub WordAnswer : List (List ℕ) → List ℕ → ℕ → List ℕ → List ℕ → List ℕ → List ℕ → ℕ → ℕ → LostWord → Type 0
+WordAnswer set lengths count needs p gone levels t i r =
+    (R g : List ℕ) → Looked set lengths count needs p gone levels t R g →
+    shown r ≡ lostBy (patternsOf set lengths count) p R g (patternAt set lengths i)
