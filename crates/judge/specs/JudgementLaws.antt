@@ -29,7 +29,7 @@ use Rattle.scheme.specs.Proper.{Proper}
 use Rattle.verdict.specs.VerdictLaws.{differs-law, accepted-exactly}
 use Rattle.verdict.specs.declared.answer.Verdict.{Verdict}
 use Rattle.verdict.specs.declared.answer.Verdict.the-variants.{Accepted, Refused}
-use Rattle.judge.specs.Judgement.{Judges}
+use Rattle.judge.specs.Judgement.{JudgesWithoutPage}
 
 -- tests that agree on the items find the same
 pub first-same : {A : Type 0} (r : Refusal) (f g : A → Bool) (i : ℕ) (l : List A) →
@@ -97,17 +97,9 @@ pub told-answered : (f : Fault) (n : ℕ) → toldVerdict (answered f n) ≡ tol
 told-answered Clean n = refl
 told-answered (At r i) n = refl
 
--- what an equation with the verdict promises
-pub judges : (P : List (List ℕ)) (E : List EntryList) (r : Verdict) → r ≡ verdictOf P E → Judges P E r
-judges P E r e =
-    record {
-      verdict = e;
-      numbers =
-          ap toldVerdict e ∙ told-answered (faultOf (firstFault (judgeTests P E))) (comparedCells P E) ∙
-          told-found (firstFault (judgeTests P E)) (comparedCells P E ∷ []);
-      exactly = rw e (accepted-exactly P E);
-      cells = λ n q. read (faultOf (firstFault (judgeTests P E))) (comparedCells P E) n (sym e ∙ q);
-    }
+-- an acceptance has the cells of the answer
+pub accepted-cells : (f : Fault) (m n : ℕ) → answered f m ≡ Accepted n → n ≡ m
+accepted-cells f m n q = read f m n q
   where
     cellsIn : Verdict → ℕ
     cellsIn (Accepted n) = n
@@ -116,3 +108,15 @@ judges P E r e =
     read : (f : Fault) (m n : ℕ) → answered f m ≡ Accepted n → n ≡ m
     read Clean m n q = sym (ap cellsIn q)
     read (At r i) m n q = let z : _≡_ {A = Bool} false true = ap accepted q in absurd (Rattle.word.specs.ListLaws.true-not-false (sym z))
+
+-- what an equation with the verdict promises
+pub judges-without : (P : List (List ℕ)) (E : List EntryList) (r : Verdict) → r ≡ verdictOf P E → JudgesWithoutPage P E r
+judges-without P E r e =
+    record {
+      verdict = e;
+      numbers =
+          ap toldVerdict e ∙ told-answered (faultOf (firstFault (judgeTests P E))) (comparedCells P E) ∙
+          told-found (firstFault (judgeTests P E)) (comparedCells P E ∷ []);
+      exactly = rw e (accepted-exactly P E);
+      cells = λ n q. accepted-cells (faultOf (firstFault (judgeTests P E))) (comparedCells P E) n (sym e ∙ q);
+    }

@@ -3,5 +3,6 @@ pub mod Judgement
 pub mod SetMemory
 pub mod SetLaws
 pub mod JudgementLaws
+pub mod WitnessPageLaws
 pub mod TextJudgement
 pub mod TextVerdictLaws

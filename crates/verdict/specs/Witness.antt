@@ -59,10 +59,10 @@ ruleWord P p B expands = none
 ruleWord P p B (deletes r) = shownWord P p B (r ∷ [])
 
 -- the entry at an index, counted from 0
-abbrev pub entryAt : List EntryList → ℕ → Option EntryList
-entryAt [] i = none
-entryAt (e ∷ E) zero = some e
-entryAt (e ∷ E) (suc i) = entryAt E i
+abbrev pub indexedEntry : List EntryList → ℕ → Option EntryList
+indexedEntry [] i = none
+indexedEntry (e ∷ E) zero = some e
+indexedEntry (e ∷ E) (suc i) = indexedEntry E i
 
 abbrev pub entryWord : List (List ℕ) → Option EntryList → Option (List ℕ)
 entryWord P none = none
@@ -72,7 +72,7 @@ entryWord P (some e) = ruleWord P (e .prefix) (e .gaps) (e .rule)
 -- permutation that is shown with a finding; none without refusal 11
 abbrev pub wordShown : List (List ℕ) → List EntryList → Fault → Option (List ℕ)
 wordShown P E Clean = none
-wordShown P E (At r i) = cond (eqb (numberOf r) 11) (entryWord P (entryAt E i)) none
+wordShown P E (At r i) = cond (eqb (numberOf r) 11) (entryWord P (indexedEntry E i)) none
 
 -- the bytes that are written
 abbrev pub bytesShown : List (List ℕ) → List EntryList → Fault → List ℕ

@@ -1,0 +1,298 @@
+-- Laws of judging with a page: no finding but that of test 11 writes on it, and what test 11 writes
+-- is a witness for the refused entry.
+use Prim.Native.Nat.{ℕ, zero, suc, _+_, _-_, _≤_, _<_}
+use native.Mathlib.Nat.{zero-add}
+use native.Mathlib.Omega.{arith}
+use mathlib.Core.Path.{_≡_, refl, sym, ap, ap₂, _∙_}
+use mathlib.Core.Bool.{Bool, true, false, not, cond}
+use mathlib.Core.List.{List, [], _∷_, _++_, List·Memᴰ, List·Memᴰ·head, List·Memᴰ·tail}
+use mathlib.Core.Logic.{_⊎_, inl, inr}
+use mathlib.Core.Option.{Option, none, some}
+use lib.ListN.{length, take, drop, replicate, length-append, length-replicate}
+use lib.Seq.{take-append-seam}
+use lib.Dec.{ltb, eqb}
+use borrow.Author.Tests.{lt-ltb, le-ltb, ltb-false, ne-eqb}
+use Rattle.word.specs.Ceilings.{DIGITS, PATTERNS, ENTRIES, PREFIX, PAGE, HALF}
+use Rattle.word.specs.Lists.{any}
+use Rattle.word.specs.Word.{isPerm}
+use Rattle.word.specs.ListLaws.{true-not-false, below-or-not}
+use Rattle.word.specs.Refusal.{numberOf}
+use Rattle.word.specs.Finding.{Finding, clean, fault, test, firstFault}
+use Rattle.word.specs.Earliest.{earliest, positionsOf}
+use Rattle.word.specs.EarliestLaws.{positions-short}
+use Rattle.word.specs.declared.refusal.Refusal.{Refusal}
+use Rattle.word.specs.declared.refusal.Refusal.the-variants.{Oversize, NoPermutation, Repeated, Rootless, Width}
+use Rattle.word.specs.declared.refusal.Refusal.the-variants.{NoPosition, Childless, NoTarget, LiveGap, Irreversible, ShortPage}
+use Rattle.cell.specs.Cell.{mOf, compared}
+use Rattle.cell.specs.BasisLaws.{longest-at-most}
+use Rattle.forms.specs.SchemeList.{Does, expands, deletes, EntryList}
+use Rattle.forms.specs.SchemeMemory.{faultOf}
+use Rattle.forms.specs.ToldLaws.{told-found}
+use Rattle.forms.specs.declared.memory.Fault.{Fault}
+use Rattle.forms.specs.declared.memory.Fault.the-variants.{Clean, At}
+use Rattle.scheme.specs.WellFormed.{firstAt, firstTwin, listed, twinEntry, outside, prefixes, patternTests, schemeTests}
+use Rattle.scheme.specs.Proper.{ProperPattern, ProperEntry}
+use Rattle.scheme.specs.ProperLaws.{proper, proper-pattern, position-inside}
+use Rattle.scheme.specs.FindingLaws.{clean-append, fault-append}
+use Rattle.text_page.specs.Page.{overlay}
+use Rattle.text_page.specs.PageLaws.{overlay-none, overlay-whole}
+use Rattle.verdict.specs.Verdict.{liveGap, sizesDiffer, differs, claimTests, comparedCells, judgeTests, answered}
+use Rattle.verdict.specs.Verdict.{verdictOf, toldVerdict, accepted}
+use Rattle.verdict.specs.Truth.{WellFormed}
+use Rattle.verdict.specs.VerdictLaws.{accepted-exactly}
+use Rattle.verdict.specs.Witness.{half, witnessBytes, shownWord, ruleWord, indexedEntry, entryWord, bytesShown, Witnesses}
+use Rattle.verdict.specs.WitnessLaws.{shown-there, shown-length, witnesses}
+use Rattle.verdict.specs.declared.answer.Verdict.{Verdict}
+use Rattle.verdict.specs.declared.answer.Verdict.the-variants.{Accepted, Refused}
+use Rattle.judge.specs.Judgement.{pageTest, pageTests, verdictOn, pageAfter, EntryWitness, Judges}
+use Rattle.judge.specs.JudgementLaws.{told-answered, accepted-cells}
+
+-- the number of a finding, 0 for none
+abbrev pub numberFound : Finding → ℕ
+numberFound clean = 0
+numberFound (fault r i) = numberOf r
+
+-- numbers of at most n
+abbrev Below : ℕ → List Finding → Type 0
+Below n [] = Unit {0}
+Below n (x ∷ l) = (numberFound x ≤ n) × Below n l
+
+-- the first of several findings has a number as small as theirs
+first-number : (n : ℕ) (l : List Finding) → Below n l → numberFound (firstFault l) ≤ n
+first-number n [] h = omega arith
+first-number n (clean ∷ l) h = first-number n l (h .1)
+first-number n (fault r i ∷ l) h = h .0
+
+test-number : (r : Refusal) (b : Bool) → numberFound (test r b) ≤ numberOf r
+test-number r true = omega arith
+test-number r false = omega arith
+
+at-number : {A : Type 0} (r : Refusal) (f : A → Bool) (i : ℕ) (l : List A) → numberFound (firstAt r f i l) ≤ numberOf r
+at-number r f i [] = omega arith
+at-number r f i (x ∷ l) = go (f x) (at-number r f (suc i) l)
+  where
+    go : (b : Bool) → numberFound (firstAt r f (suc i) l) ≤ numberOf r →
+        numberFound (cond b (fault r i) (firstAt r f (suc i) l)) ≤ numberOf r
+    go true below = omega arith
+    go false below = below
+
+twin-number : {A : Type 0} (twin : List A → A → Bool) (i : ℕ) (seen l : List A) → numberFound (firstTwin twin i seen l) ≤ 4
+twin-number twin i seen [] = omega arith
+twin-number twin i seen (x ∷ l) = go (twin seen x) (twin-number twin (suc i) (x ∷ seen) l)
+  where
+    go : (b : Bool) → numberFound (firstTwin twin (suc i) (x ∷ seen) l) ≤ 4 →
+        numberFound (cond b (fault Repeated i)
+        (firstTwin twin (suc i) (x ∷ seen) l)) ≤ 4
+    go true below = omega arith
+    go false below = below
+
+at-nine : {A : Type 0} (r : Refusal) (f : A → Bool) (l : List A) → numberOf r ≤ 9 → numberFound (firstAt r f 0 l) ≤ 9
+at-nine r f l h = let low = at-number r f 0 l in omega arith
+
+test-nine : (r : Refusal) (b : Bool) → numberOf r ≤ 9 → numberFound (test r b) ≤ 9
+test-nine r b h = let low = test-number r b in omega arith
+
+-- the tests of a list of patterns and of a scheme list find numbers up to 9
+pub patterns-nine : (P : List (List ℕ)) → numberFound (firstFault (patternTests P)) ≤ 9
+patterns-nine P =
+    let twins = twin-number listed 0 [] P in
+    first-number 9 (patternTests P) (test-nine Oversize (ltb PATTERNS (length P)) (omega arith), (at-nine Oversize _ P (omega arith),
+    (at-nine NoPermutation _ P (omega arith), (omega arith, tt))))
+
+pub scheme-nine : (E : List EntryList) → numberFound (firstFault (schemeTests E)) ≤ 9
+scheme-nine E =
+    let twins = twin-number twinEntry 0 [] E in
+    first-number 9 (schemeTests E) (test-nine Oversize (ltb ENTRIES (length E)) (omega arith), (at-nine Oversize _ E (omega arith),
+    (at-nine NoPermutation _ E (omega arith), (omega arith, (test-nine Rootless (not (listed (prefixes E) [])) (omega arith), (at-nine Width _ E (omega arith),
+    (at-nine NoPosition _ E (omega arith), (at-nine Childless _ E (omega arith), (at-nine NoTarget _ E (omega arith), tt)))))))))
+
+-- No finding but that of test 11 writes.
+abbrev pub numberIn : Fault → ℕ
+numberIn Clean = 0
+numberIn (At r i) = numberOf r
+
+pub number-found : (x : Finding) → numberIn (faultOf x) ≡ numberFound x
+number-found clean = refl
+number-found (fault r i) = refl
+
+pub nothing-shown : (P : List (List ℕ)) (E : List EntryList) (f : Fault) → (numberIn f ≡ 11 → ⊥) → bytesShown P E f ≡ []
+nothing-shown P E Clean h = refl
+nothing-shown P E (At r i) h = ap (λ (b : Bool). witnessBytes P (cond b (entryWord P (indexedEntry E i)) none)) (ne-eqb (numberOf r) 11 h)
+
+-- such a page stays as it is
+pub page-kept : (P : List (List ℕ)) (E : List EntryList) (f : Fault) (page : List ℕ) → (numberIn f ≡ 11 → ⊥) →
+    page ≡ overlay 0 (bytesShown P E f) page
+page-kept P E f page h = sym (ap (λ (l : List ℕ). overlay 0 l page) (nothing-shown P E f h) ∙ overlay-none 0 page)
+
+-- the test of the page
+
+pub page-short : (n : ℕ) (l : List Finding) → n < PAGE → firstFault (pageTest n ∷ l) ≡ fault ShortPage 0
+page-short n l h = ap (λ (b : Bool). firstFault (test ShortPage b ∷ l)) (lt-ltb n PAGE h)
+
+pub page-long : (n : ℕ) (l : List Finding) → PAGE ≤ n → firstFault (pageTest n ∷ l) ≡ firstFault l
+page-long n l h = ap (λ (b : Bool). firstFault (test ShortPage b ∷ l)) (le-ltb n PAGE h)
+
+-- a page that test 11 is found on is long, and the scheme is well-formed
+
+eleven : {x : Finding} {i : ℕ} → x ≡ fault Irreversible i → numberFound x ≡ 11
+eleven e = ap numberFound e
+
+-- behind tests that find numbers up to 9 the finding is that of the rest
+rest-found : (l m : List Finding) (i : ℕ) → numberFound (firstFault l) ≤ 9 → firstFault (l ++ m) ≡ fault Irreversible i →
+    (firstFault l ≡ clean) × (firstFault m ≡ fault Irreversible i)
+rest-found l m i h e = go (firstFault l) refl
+  where
+    go : (x : Finding) → firstFault l ≡ x → (firstFault l ≡ clean) × (firstFault m ≡ fault Irreversible i)
+    go clean q = (q, sym (clean-append l m q) ∙ e)
+    go (fault r j) q =
+        let number : numberOf r ≤ 9 = rw q at h in
+        let same : numberOf r ≡ 11 = ap numberFound (sym (fault-append l m q) ∙ e) in
+        absurd (omega arith)
+
+module _ (P : List (List ℕ)) (E : List EntryList) where
+  live : Finding
+  live = firstAt LiveGap (λ (e : EntryList). liveGap P (e .prefix) (e .gaps)) 0 E
+
+  lossy : Finding
+  lossy = firstAt Irreversible (λ (e : EntryList). differs P (e .prefix) (e .gaps) (e .rule)) 0 E
+
+  pub irreversible-found : (i : ℕ) → firstFault (judgeTests P E) ≡ fault Irreversible i →
+      WellFormed P E × (firstAt Irreversible (λ (e : EntryList). differs P (e .prefix) (e .gaps) (e .rule)) 0 E ≡ fault Irreversible i)
+  unfolding live lossy
+  irreversible-found i e =
+      let (pc, s) = rest-found (patternTests P) (schemeTests E ++ claimTests P E) i (patterns-nine P) e in
+      let (sc, c) = rest-found (schemeTests E) (claimTests P E) i (scheme-nine E) s in
+      (record { patterns = pc; scheme = sc }, second live lossy (at-number LiveGap _ 0 E) c)
+    where
+      second : (x y : Finding) → numberFound x ≤ 10 → firstFault (x ∷ y ∷ []) ≡ fault Irreversible i → y ≡ fault Irreversible i
+      second clean clean h q = q
+      second clean (fault r j) h q = q
+      second (fault r j) y h q = let n : numberOf r ≡ 11 = ap numberFound q in absurd (omega arith)
+
+-- the entry at fault
+pub entry-found : (f : EntryList → Bool) (E : List EntryList) (i j : ℕ) → firstAt Irreversible f i E ≡ fault Irreversible j →
+    (k : ℕ) × (e : EntryList) × (j ≡ i + k) × (indexedEntry E k ≡ some e) × List·Memᴰ e E × (f e ≡ true)
+entry-found f [] i j q = let z : _≡_ {A = ℕ} 0 1 = cc in absurd (omega arith)
+entry-found f (e ∷ E) i j q = go (f e) refl q (entry-found f E (suc i) j)
+  where
+    indexIn : Finding → ℕ
+    indexIn clean = 0
+    indexIn (fault r k) = k
+
+    Found : Type 0
+    Found = (k : ℕ) × (d : EntryList) × (j ≡ i + k) × (indexedEntry (e ∷ E) k ≡ some d) × List·Memᴰ d (e ∷ E) × (f d ≡ true)
+
+    go : (b : Bool) → f e ≡ b → cond b (fault Irreversible i) (firstAt Irreversible f (suc i) E) ≡ fault Irreversible j →
+        (firstAt Irreversible f (suc i) E ≡ fault Irreversible j →
+        (k : ℕ) × (d : EntryList) × (j ≡ suc i + k) × (indexedEntry E k ≡ some d) × List·Memᴰ d E × (f d ≡ true)) → Found
+    go true t h below = let same : i ≡ j = ap indexIn h in (0, e, omega arith, refl, List·Memᴰ·head refl, t)
+    go false t h below =
+        let (k, d, at, here, m, u) = below h in (suc k, d, omega arith, here, List·Memᴰ·tail m, u)
+
+-- a half has HALF bytes
+pub half-length : (u : List ℕ) → length u < HALF → length (half u) ≡ HALF
+half-length u h =
+    omega (arith, length-append u (replicate (HALF - 1 - length u) 0), length-replicate {A = ℕ} (HALF - 1 - length u) 0)
+
+module _ (P : List (List ℕ)) (formed : firstFault (patternTests P) ≡ clean) where
+  -- no pattern is longer than DIGITS
+  m-small : mOf P ≤ DIGITS
+  unfolding mOf
+  m-small = longest-at-most P DIGITS (λ β m. proper-pattern P formed β m .short)
+
+  -- the bytes of a short word are a page
+  bytes-length : (w : List ℕ) → length w < HALF → length (witnessBytes P (some w)) ≡ PAGE
+  bytes-length w h =
+      let copy = positionsOf (earliest P w) in
+      let few = positions-short P w DIGITS (λ β m. proper-pattern P formed β m .short) in
+      omega (arith, length-append (half w) (half copy), half-length w h, half-length copy (omega arith))
+
+  -- What a deleting entry some of whose compared sizes differ shows is a witness.
+  shown-witness : (p : List ℕ) (B : List (List ℕ)) (r : ℕ) → isPerm p ≡ true → length p ≤ PREFIX → outside (length p) (deletes r) ≡ false →
+      any (sizesDiffer P p (r ∷ [])) (compared P (length p) B) ≡ true → (page : List ℕ) → PAGE ≤ length page →
+      Witnesses P p B (r ∷ []) (overlay 0 (witnessBytes P (shownWord P p B (r ∷ []))) page)
+  shown-witness p B r perm short inside differ page long =
+      let (w, e) = shown-there P p (r ∷ []) perm (position-inside (length p) r inside) B differ in
+      let small = shown-length P p (r ∷ []) perm (position-inside (length p) r inside) B w e in
+      let size = bytes-length w (omega (arith, m-small)) in
+      rw e (witnesses P p (r ∷ []) perm (position-inside (length p) r inside) B w (overlay 0 (witnessBytes P (some w)) page) e
+      (front (witnessBytes P (some w)) page size long))
+    where
+      front : (xs t : List ℕ) → length xs ≡ PAGE → PAGE ≤ length t → take PAGE (overlay 0 xs t) ≡ xs
+      front xs t e h =
+          ap (take PAGE) (overlay-whole 0 xs t (omega arith)) ∙ ap (λ (n : ℕ). take n (xs ++ drop (0 + length xs) t)) (sym e) ∙
+          take-append-seam xs (drop (0 + length xs) t)
+
+-- What the two equations promise.
+module _ (P : List (List ℕ)) (E : List EntryList) (before after : List ℕ) (r : Verdict)
+    (verdict : r ≡ verdictOn (length before) P E) (page : after ≡ pageAfter P E before) where
+  found : Finding
+  found = firstFault (pageTests (length before) P E)
+
+  pub same-verdict : PAGE ≤ length before → r ≡ verdictOf P E
+  same-verdict long = verdict ∙ ap (λ (x : Finding). answered (faultOf x) (comparedCells P E)) (page-long (length before) (judgeTests P E) long)
+
+  entry-witness : (i : ℕ) → found ≡ fault Irreversible i → EntryWitness P E i after
+  unfolding found differs
+  entry-witness i e = go (below-or-not (length before) PAGE)
+    where
+      long-page : PAGE ≤ length before → EntryWitness P E i after
+      long-page long =
+          let f = sym (page-long (length before) (judgeTests P E) long) ∙ e in
+          let (formed, first) = irreversible-found P E i f in
+          let (k, d, at, here, m, t) = entry-found (λ (x : EntryList). differs P (x .prefix) (x .gaps) (x .rule)) E 0 i first in
+          let same : k ≡ i = omega arith in
+          deleting formed d (proper E (formed .scheme) .each d m) (rw same at here) (d .rule) refl t long
+        where
+          deleting : WellFormed P E → (d : EntryList) → ProperEntry d → indexedEntry E i ≡ some d → (rule : Does) → d .rule ≡ rule →
+              differs P (d .prefix) (d .gaps) (d .rule) ≡ true → PAGE ≤ length before → EntryWitness P E i after
+          deleting formed d q here expands u t long =
+              absurd (true-not-false (sym t ∙ ap (differs P (d .prefix) (d .gaps)) u))
+          deleting formed d q here (deletes s) u t long =
+              record {
+                entry = d;
+                position = s;
+                at-index = here;
+                deleting = u;
+                witness = rw (page ∙ ap (λ (x : Finding). overlay 0 (bytesShown P E (faultOf x)) before) e ∙
+                    ap (λ (o : Option EntryList). overlay 0 (witnessBytes P (entryWord P o)) before) here ∙
+                    ap (λ (z : Does). overlay 0 (witnessBytes P (ruleWord P (d .prefix) (d .gaps) z)) before) u)
+                    (shown-witness P (formed .patterns) (d .prefix) (d .gaps) s (q .perm) (q .short)
+                    (ap (outside (length (d .prefix))) (sym u) ∙ q .inside)
+                    (ap (differs P (d .prefix) (d .gaps)) (sym u) ∙ t) before long);
+              }
+
+      go : (length before < PAGE) ⊎ (PAGE ≤ length before) → EntryWitness P E i after
+      go (inl short) =
+          let n : numberOf ShortPage ≡ 11 = ap numberFound (sym (page-short (length before) (judgeTests P E) short) ∙ e) in
+          absurd (omega arith)
+      go (inr long) = long-page long
+
+  -- the finding of a refusal
+  refused-found : (x : Finding) (n i : ℕ) → answered (faultOf x) n ≡ Refused Irreversible i → x ≡ fault Irreversible i
+  refused-found clean n i e = let z : _≡_ {A = Bool} true false = ap accepted e in absurd (true-not-false z)
+  refused-found (fault q j) n i e = let (a, b) = same-refusal q j i e in ap₂ fault a b
+    where
+      refusalOf : Verdict → Refusal
+      refusalOf (Accepted m) = ShortPage
+      refusalOf (Refused x m) = x
+
+      indexOf : Verdict → ℕ
+      indexOf (Accepted m) = 0
+      indexOf (Refused x m) = m
+
+      same-refusal : (q : Refusal) (j i : ℕ) → Refused q j ≡ Refused Irreversible i → (q ≡ Irreversible) × (j ≡ i)
+      same-refusal q j i e = (ap refusalOf e, ap indexOf e)
+
+  pub judges : Judges P E before after r
+  unfolding found
+  judges =
+      record {
+        verdict = verdict;
+        numbers = ap toldVerdict verdict ∙ told-answered (faultOf found) (comparedCells P E) ∙ told-found found (comparedCells P E ∷ []);
+        page = page;
+        exactly = λ long. rw (same-verdict long) (accepted-exactly P E);
+        cells = λ n q. accepted-cells (faultOf found) (comparedCells P E) n (sym verdict ∙ q);
+        same = same-verdict;
+        witness = λ i q. entry-witness i (refused-found found (comparedCells P E) i (sym verdict ∙ q));
+      }
