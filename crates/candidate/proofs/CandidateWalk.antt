@@ -3,7 +3,7 @@
 -- Assumes nothing.
 use Prim.Native.Nat.{ℕ, zero, suc, _+_, _-_, _≤_, _<_}
 use mathlib.Core.Path.{_≡_, refl, sym, ap, _∙_}
-use mathlib.Core.Bool.{Bool, true, false, cond, _&&_}
+use mathlib.Core.Bool.{Bool, true, false, cond, _&&_, _||_}
 use mathlib.Core.List.{List, [], _∷_, _++_, map, List·Memᴰ, List·Memᴰ·head, List·Memᴰ·tail, List·Memᴰ·not-nil}
 use mathlib.Core.Logic.{_↔_}
 use native.Mathlib.Nat.{sub-zero}
@@ -105,6 +105,10 @@ first-keep h f (x ∷ l) = go (h x) (first-keep h f l)
     go true e = ap (cond (f x) (some x)) e
     go false e = e
 
+found-either : (a b : Option (List ℕ)) → found (or-else a b) ≡ found a || found b
+found-either none b = refl
+found-either (some g) b = refl
+
 -- what is found in the first part is found, and else the second decides
 found-here : (k : ℕ) (a b : Option (List ℕ)) (r : Lost) → r .found ≡ true → FoundAt k a r → FoundAt k (or-else a b) r
 found-here k none b r h e = absurd (true-not-false (sym h ∙ e))
@@ -115,16 +119,16 @@ found-later k none b r h e = refl
 found-later k (some g) b r h e = absurd (true-not-false (sym (e .0) ∙ h))
 
 module _ (f : List ℕ → Bool) where
-  walk-start : (k t : ℕ) → first f (vectors (suc k) t) ≡ first f (firstVector k t ∷ later (firstVector k t))
+  pub walk-start : (k t : ℕ) → first f (vectors (suc k) t) ≡ first f (firstVector k t ∷ later (firstVector k t))
   walk-start k t = ap (first f) (vectors-first k t)
 
-  walk-here : (v : List ℕ) → f v ≡ true → first f (v ∷ later v) ≡ some v
+  pub walk-here : (v : List ℕ) → f v ≡ true → first f (v ∷ later v) ≡ some v
   walk-here v e = rw e refl
 
-  walk-last : (v n : List ℕ) (found : Bool) → Follows v found n → f v ≡ false → found ≡ false → first f (v ∷ later v) ≡ none
+  pub walk-last : (v n : List ℕ) (found : Bool) → Follows v found n → f v ≡ false → found ≡ false → first f (v ∷ later v) ≡ none
   walk-last v n found F e h = rw (e, F .rest, h) refl
 
-  walk-next : (v n : List ℕ) (found : Bool) → Follows v found n → f v ≡ false → found ≡ true →
+  pub walk-next : (v n : List ℕ) (found : Bool) → Follows v found n → f v ≡ false → found ≡ true →
       first f (v ∷ later v) ≡ first f (n ∷ later n)
   walk-next v n found F e h = rw (e, F .rest, h) refl
 
@@ -151,6 +155,19 @@ module _ (f : List ℕ → Bool) where
           first f (each (vectors (suc k)) (row t n)) ≡
           or-else (first f (vectors (suc k) t)) (first f (each (vectors (suc k)) (row (suc t) r)))
       go n r e = rw e (first-append f (vectors (suc k) t) (each (vectors (suc k)) (row (suc t) r)))
+
+  -- whether there is one at all
+  module _ (k m t : ℕ) (h : t < m) where
+    seen-either : found (from-total k m t) ≡ any f (vectors (suc k) t) || found (from-total k m (t + 1))
+    seen-either =
+        ap found (totals-cons k m t h) ∙ found-either (first f (vectors (suc k) t)) (from-total k m (t + 1)) ∙
+        ap (λ (b : Bool). b || found (from-total k m (t + 1))) (first-found f (vectors (suc k) t))
+
+    pub seen-here : any f (vectors (suc k) t) ≡ true → found (from-total k m t) ≡ true
+    seen-here e = seen-either ∙ rw e refl
+
+    pub seen-later : any f (vectors (suc k) t) ≡ false → found (from-total k m t) ≡ found (from-total k m (t + 1))
+    seen-later e = seen-either ∙ rw e refl
 
   module _ (k m t : ℕ) (h : t < m) (r : Lost) (here : FoundAt k (first f (vectors (suc k) t)) r) where
     pub totals-here : r .found ≡ true → FoundAt k (from-total k m t) r

@@ -17,14 +17,15 @@ use Rattle.word.specs.Lists.{any, keep, oneTo}
 use Rattle.word.specs.Word.{before, has, entry}
 use Rattle.word.specs.Containment.{patternsOf}
 use Rattle.word.specs.CopyLaws.{found, entries}
-use Rattle.word.specs.ListLaws.{true-not-false}
-use Rattle.cell.specs.Cell.{total, without}
+use Rattle.word.specs.ListLaws.{true-not-false, first-some}
+use Rattle.cell.specs.Cell.{total, without, compared}
 use Rattle.cell.specs.Built.{built}
-use Rattle.cell.specs.Candidate.{violates, violated, restOf, lostWords, leastOf}
+use Rattle.cell.specs.Candidate.{violates, violated, restOf, violatedFirst, lostWords, leastOf, leastAt, leastCandidate}
 use Rattle.candidate.specs.Lookup.{VALUES, needAt, flagged}
 use Rattle.candidate.specs.Tabled.{IsCandidate}
-use Rattle.candidate.specs.Ready.{patternAt, Looked, ShowsWord}
+use Rattle.candidate.specs.Ready.{patternAt, Looked, FoundAt, ShowsWord}
 use Rattle.candidate.specs.Shown.{shown, lesserShown, lostBy, WordAnswer}
+use Rattle.candidate.specs.declared.search.Lost.{Lost}
 use Rattle.candidate.specs.declared.least.LostWord.{LostWord}
 use Rattle.candidate.proofs.BasisWalk.{from, from-start, from-counted, from-cons}
 use Rattle.candidate.proofs.LookupLaws.{flag-none}
@@ -222,3 +223,36 @@ some-lost P p R g (β ∷ Q) h = go (violates P p R g β) h (some-lost P p R g Q
 pub least-found : (P : List (List ℕ)) (p R g : List ℕ) → violated P p R g ≡ true → found (leastOf none (lostWords P p R g)) ≡ true
 unfolding violated lostWords
 least-found P p R g e = some-lost P p R g P e
+
+-- what is shown of an entry, by where the first violation was found
+module _ (P : List (List ℕ)) (p : List ℕ) (B : List (List ℕ)) (R : List ℕ) (k : ℕ) (r : Lost)
+    (at : FoundAt k (violatedFirst P p B R) r) where
+  pub candidate-none : r .found ≡ false → leastCandidate P p B R ≡ none
+  unfolding leastCandidate
+  candidate-none h = go (violatedFirst P p B R) at
+    where
+      go : (o : Option (List ℕ)) → FoundAt k o r → leastAt P p R o ≡ none
+      go none e = refl
+      go (some g) e = absurd (true-not-false (sym (e .0) ∙ h))
+
+  pub candidate-some : r .found ≡ true → leastCandidate P p B R ≡ leastOf none (lostWords P p R (take (k + 1) (r .spacing)))
+  unfolding leastCandidate
+  candidate-some h = go (violatedFirst P p B R) at
+    where
+      go : (o : Option (List ℕ)) → FoundAt k o r → leastAt P p R o ≡ leastOf none (lostWords P p R (take (k + 1) (r .spacing)))
+      go none e = absurd (true-not-false (sym h ∙ e))
+      go (some g) e = ap (λ (v : List ℕ). leastOf none (lostWords P p R v)) (sym (e .1))
+
+  pub candidate-found : r .found ≡ true → found (leastOf none (lostWords P p R (take (k + 1) (r .spacing)))) ≡ true
+  unfolding violatedFirst
+  candidate-found h = go (violatedFirst P p B R) refl at
+    where
+      go : (o : Option (List ℕ)) → violatedFirst P p B R ≡ o → FoundAt k o r →
+          found (leastOf none (lostWords P p R (take (k + 1) (r .spacing)))) ≡ true
+      go none q e = absurd (true-not-false (sym h ∙ e))
+      go (some g) q e =
+          rw (e .1) (least-found P p R g (first-some (violated P p R) (compared P (length p) B) g q .1))
+
+pub shows-found : (o : Option (List ℕ)) (r : LostWord) → ShowsWord o r → r .found ≡ found o
+shows-found none r e = e
+shows-found (some w) r e = e .0

@@ -91,9 +91,10 @@ fn lesser_word(best: LostWord, next: LostWord) -> LostWord
     let b = best.entries;
     let n = best.length;
     if comes_before(&a[..m], &b[..n]) {
-        return next;
+        next
+    } else {
+        best
     }
-    best
 }
 
 // The word of a pattern with the deleted positions put back: no value of the prefix is gone.

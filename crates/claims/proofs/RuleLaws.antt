@@ -1,23 +1,29 @@
--- The rule of an entry: the deletion that the candidate search decides, and the number of compared
--- cells.
+-- The rule of an entry: the deletion that the candidate search decides, what is shown of it, and
+-- the number of compared cells.
 -- Assumes nothing.
 use Prim.Native.Nat.{ℕ, suc, _+_, _≤_, _<_}
 use native.Mathlib.Omega.{arith}
 use mathlib.Core.Path.{_≡_, refl, sym, ap, ap₂, _∙_}
-use mathlib.Core.Bool.{Bool, true, false}
+use mathlib.Core.Bool.{true, false}
 use mathlib.Core.List.{List, [], _∷_}
 use mathlib.Core.Logic.{_↔_}
+use mathlib.Core.Option.{none}
 use lib.ListN.{length, take, set}
 use lib.Seq.{length-take-le}
 use Rattle.word.specs.Ceilings.{DIGITS, PATTERNS, PREFIX, PARTS}
 use Rattle.word.specs.Lists.{all, keep, each, row}
-use Rattle.word.specs.Word.{within}
+use Rattle.word.specs.Word.{within, longest}
 use Rattle.word.specs.ListLaws.{and-left}
 use Rattle.word.specs.PermLaws.{within-out}
-use Rattle.cell.specs.Cell.{free, vectors, mOf, compared}
+use Rattle.cell.specs.Cell.{total, free, vectors, mOf, compared}
+use Rattle.cell.specs.Candidate.{violatedFirst, lostWords, leastOf, leastCandidate}
 use Rattle.cell.specs.Claim.{DeletionClaim}
 use Rattle.forms.specs.GapRows.{gapsOf}
-use Rattle.candidate.specs.Ready.{patternAt, Given, EntryAnswer}
+use Rattle.candidate.specs.Ready.{patternAt, Given, FoundAt, ShowsWord, EntryAnswer}
+use Rattle.candidate.specs.declared.search.Lost.{Lost}
+use Rattle.candidate.specs.declared.least.LostWord.{LostWord}
+use Rattle.candidate.proofs.CandidateWalk.{located-total}
+use Rattle.candidate.proofs.LeastWalk.{candidate-none, candidate-some, candidate-found, shows-found}
 use Rattle.candidate.specs.BasisMemory.{pattern-member}
 use Rattle.forms.specs.SchemeList.{deletes}
 use Rattle.scheme.specs.WellFormed.{outside}
@@ -31,7 +37,7 @@ use Rattle.scheme.specs.FindingLaws.{same-failure}
 use Rattle.scheme.specs.Proper.{ProperEntry}
 use Rattle.scheme.specs.ProperLaws.{position-inside}
 use Rattle.verdict.specs.VerdictLaws.{differs-law}
-use Rattle.claims.specs.EntryMemory.{ProperSet, DeletesAt, ComparedAnswer}
+use Rattle.claims.specs.EntryMemory.{ProperSet, DeletesAt, ruleCandidate, LostAnswer, ComparedAnswer}
 use Rattle.scheme.specs.EntryMemoryLaws.{entry-short, gaps-hold, prefix-is, prefix-perm}
 use Rattle.claims.specs.ComparedLaws.{compared-small}
 
@@ -41,10 +47,13 @@ first-position [] r h = absurd (omega arith)
 first-position (x ∷ l) r h = refl
 
 -- an expanding entry
-pub expands-differs : (P : List (List ℕ)) (e : Entry) → e .rule ≡ Expand →
-    differs P ((entryIn e) .prefix) ((entryIn e) .gaps) ((entryIn e) .rule) ≡ false
-unfolding differs
-expands-differs P e q = ap (λ (x : Rule). differs P ((entryIn e) .prefix) ((entryIn e) .gaps) (doesOf x)) q
+pub expands-answer : (P : List (List ℕ)) (e : Entry) (w : LostWord) → e .rule ≡ Expand → w .found ≡ false → LostAnswer P (entryIn e) w
+unfolding differs ruleCandidate
+expands-answer P e w q f =
+    record {
+      said = f ∙ sym (ap (λ (x : Rule). differs P ((entryIn e) .prefix) ((entryIn e) .gaps) (doesOf x)) q);
+      shows = rw q f;
+    }
 
 module _ (e : Entry) (proper : ProperEntry (entryIn e)) (six : length (e .prefix) ≡ PREFIX) (r : ℕ) (rule : DeletesAt e r) where
   deletes-inside : outside (length ((entryIn e) .prefix)) (deletes r) ≡ false
@@ -77,16 +86,63 @@ module _ (e : Entry) (proper : ProperEntry (entryIn e)) (six : length (e .prefix
         inside = positions-inside;
       }
 
-  -- what the search answers is test 11 on the entry
-  pub answers : (P : List (List ℕ)) (b : Bool) → length (e .gaps) ≡ PARTS →
-      EntryAnswer P (take (e .length) (e .prefix)) (gapsOf (e .gaps) (e .length + 1) (e .«gap_count»)) (r ∷ []) b →
-      b ≡ differs P ((entryIn e) .prefix) ((entryIn e) .gaps) ((entryIn e) .rule)
-  answers P b all a =
-      let claimed : (b ≡ false) ↔ DeletionClaim P ((entryIn e) .prefix) ((entryIn e) .gaps) (r ∷ []) =
-      rw (prefix-is e proper six, ← gaps-hold e proper all) (a .claimed) in
-      same-failure b (differs P ((entryIn e) .prefix) ((entryIn e) .gaps) (deletes r)) claimed
-      (differs-law P ((entryIn e) .prefix) ((entryIn e) .gaps) (deletes r) (proper .perm) deletes-inside) ∙
-      ap (λ (x : Rule). differs P ((entryIn e) .prefix) ((entryIn e) .gaps) (doesOf x)) (sym rule)
+  module _ (P : List (List ℕ)) (lost : Lost) (all : length (e .gaps) ≡ PARTS)
+      (a : EntryAnswer P (take (e .length) (e .prefix)) (gapsOf (e .gaps) (e .length + 1) (e .«gap_count»)) (r ∷ []) lost) where
+    -- what the search answers is test 11 on the entry
+    answers : lost .found ≡ differs P ((entryIn e) .prefix) ((entryIn e) .gaps) ((entryIn e) .rule)
+    answers =
+        let claimed : (lost .found ≡ false) ↔ DeletionClaim P ((entryIn e) .prefix) ((entryIn e) .gaps) (r ∷ []) =
+        rw (prefix-is e proper six, ← gaps-hold e proper all) (a .claimed) in
+        same-failure (lost .found) (differs P ((entryIn e) .prefix) ((entryIn e) .gaps) (deletes r)) claimed
+        (differs-law P ((entryIn e) .prefix) ((entryIn e) .gaps) (deletes r) (proper .perm) deletes-inside) ∙
+        ap (λ (x : Rule). differs P ((entryIn e) .prefix) ((entryIn e) .gaps) (doesOf x)) (sym rule)
+
+    size : length (take (e .length) (e .prefix)) ≡ e .length
+    size = length-take-le (e .length) (e .prefix) (omega (arith, entry-short e proper))
+
+    at : FoundAt (e .length) (violatedFirst P (take (e .length) (e .prefix))
+        (gapsOf (e .gaps) (e .length + 1) (e .«gap_count»)) (r ∷ [])) lost
+    at = rw size at (a .located)
+
+    -- what is shown of the entry
+    rule-is : ruleCandidate P ((entryIn e) .prefix) ((entryIn e) .gaps) ((entryIn e) .rule) ≡
+        leastCandidate P (take (e .length) (e .prefix)) (gapsOf (e .gaps) (e .length + 1) (e .«gap_count»)) (r ∷ [])
+    unfolding ruleCandidate
+    rule-is =
+        ap (λ (x : Rule). ruleCandidate P ((entryIn e) .prefix) ((entryIn e) .gaps) (doesOf x)) rule ∙
+        ap₂ (λ (u : List ℕ) (B : List (List ℕ)). leastCandidate P u B (r ∷ [])) (prefix-is e proper six) (sym (gaps-hold e proper all))
+
+    -- the total of the spacing that was found
+    pub found-total : lost .found ≡ true → longest P ≤ DIGITS →
+        (lost .total < DIGITS) × (total (take (e .length + 1) (lost .spacing)) ≡ lost .total)
+    found-total h m =
+        let (low, whole) = located-total P (take (e .length) (e .prefix)) (gapsOf (e .gaps) (e .length + 1) (e .«gap_count»))
+        (r ∷ []) (e .length) lost at h in
+        (omega arith, whole)
+
+    pub answers-none : (w : LostWord) → lost .found ≡ false → w .found ≡ false → LostAnswer P (entryIn e) w
+    answers-none w h f =
+        record {
+          said = f ∙ sym h ∙ answers;
+          shows =
+              rw (rule-is ∙ candidate-none P (take (e .length) (e .prefix))
+              (gapsOf (e .gaps) (e .length + 1) (e .«gap_count»)) (r ∷ []) (e .length) lost at h) f;
+        }
+
+    pub answers-some : (w : LostWord) → lost .found ≡ true →
+        ShowsWord (leastOf none (lostWords P (take (e .length) (e .prefix)) (r ∷ []) (take (e .length + 1) (lost .spacing)))) w →
+        LostAnswer P (entryIn e) w
+    answers-some w h s =
+        record {
+          said =
+              shows-found (leastOf none (lostWords P (take (e .length) (e .prefix)) (r ∷ []) (take (e .length + 1) (lost .spacing)))) w s ∙
+              candidate-found P (take (e .length) (e .prefix)) (gapsOf (e .gaps) (e .length + 1) (e .«gap_count»))
+              (r ∷ []) (e .length) lost at h ∙
+              sym h ∙ answers;
+          shows =
+              rw (rule-is ∙ candidate-some P (take (e .length) (e .prefix))
+              (gapsOf (e .gaps) (e .length + 1) (e .«gap_count»)) (r ∷ []) (e .length) lost at h) s;
+        }
 
 -- the number of compared cells
 pub expands-compared : (m : ℕ) (e : Entry) → e .rule ≡ Expand → ComparedAnswer m (entryIn e) 0

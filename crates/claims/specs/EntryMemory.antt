@@ -2,15 +2,19 @@
 use Prim.Native.Nat.{ℕ, _≤_}
 use mathlib.Core.Path.{_≡_}
 use mathlib.Core.Bool.{true}
-use mathlib.Core.List.{List, List·Memᴰ}
+use mathlib.Core.List.{List, [], _∷_, List·Memᴰ}
+use mathlib.Core.Option.{Option, none}
 use Rattle.word.specs.Ceilings.{PATTERNS}
 use Rattle.word.specs.Word.{isPerm}
 use Rattle.word.specs.Containment.{patternsOf}
 use Rattle.cell.specs.Cell.{mOf}
-use Rattle.forms.specs.SchemeList.{EntryList}
+use Rattle.cell.specs.Candidate.{leastCandidate}
+use Rattle.forms.specs.SchemeList.{Does, expands, deletes, EntryList}
 use Rattle.forms.specs.declared.memory.Rule.the-variants.{Delete}
 use Rattle.forms.specs.declared.memory.Entry.{Entry}
-use Rattle.verdict.specs.Verdict.{comparedWith}
+use Rattle.candidate.specs.Ready.{ShowsWord}
+use Rattle.candidate.specs.declared.least.LostWord.{LostWord}
+use Rattle.verdict.specs.Verdict.{differs, comparedWith}
 
 -- a set in memory of at most PATTERNS permutations
 pub record ProperSet (set : List (List ℕ)) (lengths : List ℕ) (count : ℕ) : Type 0 where
@@ -20,6 +24,18 @@ pub record ProperSet (set : List (List ℕ)) (lengths : List ℕ) (count : ℕ) 
 -- the entry deletes position r
 abbrev pub DeletesAt : Entry → ℕ → Type 0
 DeletesAt e r = e .rule ≡ Delete r
+
+-- what the candidate search shows of an entry: for an expanding one nothing, and for a deletion the
+-- least word at the first violated spacing
+unfoldable pub ruleCandidate : List (List ℕ) → List ℕ → List (List ℕ) → Does → Option (List ℕ)
+unfolding leastCandidate
+ruleCandidate P p B expands = none
+ruleCandidate P p B (deletes r) = leastCandidate P p B (r ∷ [])
+
+-- the answer of test 11 on an entry: whether some compared sizes differ, and the word that is shown
+pub record LostAnswer (P : List (List ℕ)) (e : EntryList) (r : LostWord) : Type 0 where
+  pub said : r .found ≡ differs P (e .prefix) (e .gaps) (e .rule)
+  pub shows : ShowsWord (ruleCandidate P (e .prefix) (e .gaps) (e .rule)) r
 
 -- C(14, 7), the compared cells of an entry at most: DIGITS + PREFIX and PREFIX + 1
 -- (ComparedLaws.binomial-small)

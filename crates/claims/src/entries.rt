@@ -1,6 +1,9 @@
 // The claims of one entry in memory: whether a gap vector's cell is not empty, whether the deletion
-// is irreversible, how many cells are compared.
+// is irreversible and what it loses then, how many cells are compared.
 use crate::gaps::is_live;
+use candidate::least::LostWord;
+use candidate::least::least_lost;
+use candidate::least::no_word;
 use candidate::search::Deletion;
 use candidate::search::irreversible;
 use forms::gaps::entry_gap;
@@ -10,6 +13,7 @@ use spacing::compared_count;
 use word::limits::DIGITS;
 use word::limits::PATTERNS;
 use word::limits::PREFIX;
+use word::limits::WORD;
 ghost use mathlib.Core.Path.{_≡_};
 ghost use Prim.Native.Nat.{_≤_};
 ghost use Rattle.word.specs.Ceilings.{DIGITS};
@@ -17,9 +21,9 @@ ghost use Rattle.word.specs.Containment.{patternsOf};
 ghost use Rattle.word.specs.Word.{longest};
 ghost use Rattle.forms.specs.SchemeMemory.{entryIn};
 ghost use Rattle.candidate.specs.Ready.{AllNeeds};
-ghost use Rattle.verdict.specs.Verdict.{liveGap, differs};
+ghost use Rattle.verdict.specs.Verdict.{liveGap};
 ghost use Rattle.scheme.specs.Proper.{ProperEntry};
-ghost use Rattle.claims.specs.EntryMemory.{ProperSet, DeletesAt, ComparedAnswer};
+ghost use Rattle.claims.specs.EntryMemory.{ProperSet, DeletesAt, LostAnswer, ComparedAnswer};
 
 // Refusal 10 of one entry: whether the cell at one of its gap vectors is not empty.
 pub fn has_live_gap(
@@ -51,8 +55,9 @@ struct Cut {
     longest: usize,
 }
 
-// Refusal 11 of one entry: whether some compared sizes differ, m being the length of the longest
-// pattern, with the levels that the head entries of the patterns need.
+// Refusal 11 of one entry: whether some compared sizes differ, and then the least permutation that
+// the deletion loses, with the deleted position put back. m is the length of the longest pattern,
+// and the levels are those that the head entries of the patterns need.
 pub fn is_irreversible(
     set: [[u8; DIGITS]; PATTERNS],
     lengths: [u8; PATTERNS],
@@ -60,14 +65,18 @@ pub fn is_irreversible(
     needs: &[u8],
     m: usize,
     e: Entry,
-) -> bool
+) -> LostWord
     requires { ⌜ AllNeeds set lengths count (now needs) × ProperSet set lengths count ×
         (m ≡ longest (patternsOf set lengths count)) × (m ≤ DIGITS) × ProperEntry (entryIn e) ⌝ }
-    ensures { λ r. ⌜ r ≡ differs (patternsOf set lengths count) ((entryIn e) .prefix) ((entryIn e) .gaps) ((entryIn e) .rule) ⌝ }
+    ensures { λ r. ⌜ LostAnswer (patternsOf set lengths count) (entryIn e) r ⌝ }
 {
     let rule = e.rule;
     match rule {
-        Rule::Expand => false,
+        Rule::Expand => LostWord {
+            found: false,
+            entries: [0u8; WORD],
+            length: 0,
+        },
         Rule::Delete(r) => {
             let cut = Cut {
                 position: r,
@@ -78,7 +87,7 @@ pub fn is_irreversible(
     }
 }
 
-// Whether the deletion loses a member of the shorter cell.
+// The least permutation that the deletion loses, if it loses a member of the shorter cell.
 fn loses(
     set: [[u8; DIGITS]; PATTERNS],
     lengths: [u8; PATTERNS],
@@ -86,11 +95,11 @@ fn loses(
     needs: &[u8],
     e: Entry,
     cut: Cut,
-) -> bool
+) -> LostWord
     requires { ⌜ AllNeeds set lengths count (now needs) × ProperSet set lengths count ×
         (cut .longest ≡ longest (patternsOf set lengths count)) × (cut .longest ≤ DIGITS) ×
         ProperEntry (entryIn e) × DeletesAt e (cut .position) ⌝ }
-    ensures { λ r. ⌜ r ≡ differs (patternsOf set lengths count) ((entryIn e) .prefix) ((entryIn e) .gaps) ((entryIn e) .rule) ⌝ }
+    ensures { λ r. ⌜ LostAnswer (patternsOf set lengths count) (entryIn e) r ⌝ }
 {
     let prefix = e.prefix;
     let k = e.length;
@@ -106,7 +115,11 @@ fn loses(
         gap_count: n,
         longest: cut.longest,
     };
-    irreversible(set, lengths, count, needs, &gaps, deletion)
+    let lost = irreversible(set, lengths, count, needs, &gaps, deletion);
+    if !lost.found {
+        return no_word();
+    }
+    least_lost(set, lengths, count, needs, deletion, lost)
 }
 
 // How many cells are compared for one entry, m being the length of the longest pattern.

@@ -1,8 +1,8 @@
 -- `claims::entries::is_irreversible` meets its contract: by the cases of the rule.
 -- Assumes nothing.
-use mathlib.Core.Path.{sym}
+use mathlib.Core.Path.{refl}
 use Rattle.word.specs.Containment.{patternsOf}
-use Rattle.claims.proofs.RuleLaws.{expands-differs}
+use Rattle.claims.proofs.RuleLaws.{expands-answer}
 use borrow.Author.Needs.{needs}
 use Rattle.claims.proofs.entries.is_irreversible.Statement.{statement}
 use Rattle.claims.proofs.entries.is_irreversible.Tie as tie
@@ -14,7 +14,7 @@ returns : tie.Need-returns
 returns c =
     let start = c .before .before .before in
     let a = start .args in
-    sym (expands-differs (patternsOf (a .set) (a .lengths) (a .count)) (a .e) (c .enum-told .given .1))
+    expands-answer (patternsOf (a .set) (a .lengths) (a .count)) (a .e) _ (c .enum-told .given .1) refl
 
 pub is-irreversible-spec : {M : Type 1} → statement M
 is-irreversible-spec =

@@ -7,7 +7,8 @@ use mathlib.Core.List.{List, _∷_}
 use native.Mathlib.Omega.{arith}
 use borrow.Author.Tests.{not-true, not-false}
 use lib.ListN.{length, take}
-use Rattle.word.specs.Lists.{any}
+use Rattle.word.specs.Lists.{first}
+use Rattle.word.specs.CopyLaws.{found, first-found}
 use Rattle.cell.specs.Cell.{total, vectors}
 use Rattle.spacing.specs.Following.{later}
 use Rattle.spacing.specs.SpacingOrder.{first-total}
@@ -20,8 +21,8 @@ use Rattle.claims.proofs.gaps.has_empty.Tie as tie
 abbrev Inv-loop : tie.InvT-loop
 Inv-loop set lengths count at t k g₀ g =
     (total (take (k + 1) g) ≡ t) ×
-    (any (shows set lengths count (at .prefix) k (at .parts)) (vectors (suc k) t) ≡
-    any (shows set lengths count (at .prefix) k (at .parts)) (take (k + 1) g ∷ later (take (k + 1) g)))
+    (first (shows set lengths count (at .prefix) k (at .parts)) (vectors (suc k) t) ≡
+    first (shows set lengths count (at .prefix) k (at .parts)) (take (k + 1) g ∷ later (take (k + 1) g)))
 
 abbrev μ-loop : tie.MeasureT-loop
 μ-loop set lengths count at t k g₀ g = length (later (take (k + 1) g))
@@ -37,7 +38,7 @@ loop-holds c =
     let a = c .before .args in
     let f = shows (a .set) (a .lengths) (a .count) (a .at .prefix) (a .at .length) (a .at .parts) in (
       ap total (c .first-spacing .ensures) ∙ first-total (a .at .length) (a .t),
-      walk-start f (a .at .length) (a .t) ∙ ap (λ (v : List ℕ). any f (v ∷ later v)) (sym (c .first-spacing .ensures)),
+      walk-start f (a .at .length) (a .t) ∙ ap (λ (v : List ℕ). first f (v ∷ later v)) (sym (c .first-spacing .ensures)),
     )
 
 is-empty-below-requires : tie.Need-is-empty-below-requires Inv-loop μ-loop
@@ -54,7 +55,8 @@ returns c =
     let a = start .args in
     let l = c .before .before .loop in
     let f = shows (a .set) (a .lengths) (a .count) (a .at .prefix) (a .at .length) (a .at .parts) in
-    sym (l .inv .1 ∙ walk-here f (take (a .at .length + 1) (l .g)) (sym (c .before .is-empty-below .ensures) ∙ c .if1 .taken))
+    sym (sym (first-found f (vectors (suc (a .at .length)) (a .t))) ∙
+    ap found (l .inv .1 ∙ walk-here f (take (a .at .length + 1) (l .g)) (sym (c .before .is-empty-below .ensures) ∙ c .if1 .taken)))
 
 next-spacing-requires : tie.Need-next-spacing-requires Inv-loop μ-loop
 next-spacing-requires c κs =
@@ -69,9 +71,10 @@ returns-2 c =
     let l = at-is-empty-below .before .loop in
     let n = c .before .before .next-spacing in
     let f = shows (a .set) (a .lengths) (a .count) (a .at .prefix) (a .at .length) (a .at .parts) in
-    sym (l .inv .1 ∙
+    sym (sym (first-found f (vectors (suc (a .at .length)) (a .t))) ∙
+    ap found (l .inv .1 ∙
     walk-last f (take (a .at .length + 1) (l .g)) (take (a .at .length + 1) (n .result .g)) (n .result .found) (n .ensures .follows)
-    (sym (at-is-empty-below .is-empty-below .ensures) ∙ c .before .before .before .if1 .left) (not-true _ (c .if2 .taken)))
+    (sym (at-is-empty-below .is-empty-below .ensures) ∙ c .before .before .before .if1 .left) (not-true _ (c .if2 .taken))))
 
 loop-less : tie.Need-loop-less Inv-loop μ-loop
 loop-less c =

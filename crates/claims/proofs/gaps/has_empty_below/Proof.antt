@@ -1,15 +1,17 @@
 -- `claims::gaps::has_empty_below` meets its contract: by rising total.
 -- Assumes nothing.
 use borrow.Author.Needs.{needs}
-use Prim.Native.Nat.{_+_, _-_, _≤_}
-use mathlib.Core.Path.{_≡_, sym, _∙_}
+use Prim.Native.Nat.{suc, _+_, _-_, _≤_}
+use mathlib.Core.Path.{_≡_, sym, ap, _∙_}
 use native.Mathlib.Omega.{arith}
 use lib.ListN.{take}
 use borrow.Author.Tests.{leb-true, leb-false}
 use Rattle.word.specs.Ceilings.{TOTAL}
 use Rattle.word.specs.Containment.{patternsOf}
-use Rattle.cell.specs.Cell.{total}
-use Rattle.candidate.proofs.CandidateWalk.{from-total, totals-start, totals-end, totals-here, totals-later}
+use Rattle.word.specs.Lists.{each, row}
+use Rattle.word.specs.CopyLaws.{found, first-found}
+use Rattle.cell.specs.Cell.{total, vectors}
+use Rattle.candidate.proofs.CandidateWalk.{from-total, totals-start, totals-end, seen-here, seen-later}
 use Rattle.claims.specs.EmptyBelow.{emptyBelow}
 use Rattle.claims.proofs.GapClaimLaws.{shows}
 use Rattle.claims.proofs.gaps.has_empty_below.Statement.{statement}
@@ -19,17 +21,18 @@ abbrev Inv-loop : tie.InvT-loop
 Inv-loop set lengths count k parts at t₀ t =
     (t ≤ TOTAL) ×
     (emptyBelow (patternsOf set lengths count) (take k (at .prefix)) (take (k + 1) parts) k ≡
-    from-total (shows set lengths count (at .prefix) k parts) k (total (take (k + 1) parts)) t)
+    found (from-total (shows set lengths count (at .prefix) k parts) k (total (take (k + 1) parts)) t))
 
 abbrev μ-loop : tie.MeasureT-loop
 μ-loop set lengths count k parts at t₀ t = TOTAL - t
 
 loop-holds : tie.Need-loop-holds Inv-loop μ-loop
 loop-holds c =
-    let a = c .args in (
+    let a = c .args in
+    let f = shows (a .set) (a .lengths) (a .count) (a .prefix) (a .k) (a .parts) in
+    let m = total (take (a .k + 1) (a .parts)) in (
       omega arith,
-      totals-start (shows (a .set) (a .lengths) (a .count) (a .prefix) (a .k) (a .parts)) (a .k)
-          (total (take (a .k + 1) (a .parts))),
+      sym (first-found f (each (vectors (suc (a .k))) (row 0 m))) ∙ ap found (totals-start f (a .k) m),
     )
 
 is-at-most-requires : tie.Need-is-at-most-requires Inv-loop μ-loop
@@ -42,8 +45,8 @@ returns c =
     let l = c .before .before .before .loop in
     let m = total (take (a .k + 1) (a .parts)) in
     sym (l .inv .1 ∙
-    totals-end (shows (a .set) (a .lengths) (a .count) (a .prefix) (a .k) (a .parts)) (a .k) m (l .t)
-    (leb-true m (l .t) (sym (c .before .is-at-most .ensures) ∙ c .if1 .taken)))
+    ap found (totals-end (shows (a .set) (a .lengths) (a .count) (a .prefix) (a .k) (a .parts)) (a .k) m (l .t)
+    (leb-true m (l .t) (sym (c .before .is-at-most .ensures) ∙ c .if1 .taken))))
 
 has-empty-requires : tie.Need-has-empty-requires Inv-loop μ-loop
 has-empty-requires c κs =
@@ -58,7 +61,7 @@ returns-2 c =
     let l = at-loop .loop in
     let m = total (take (a .k + 1) (a .parts)) in
     sym (l .inv .1 ∙
-    totals-here (shows (a .set) (a .lengths) (a .count) (a .prefix) (a .k) (a .parts)) (a .k) m (l .t)
+    seen-here (shows (a .set) (a .lengths) (a .count) (a .prefix) (a .k) (a .parts)) (a .k) m (l .t)
     (leb-false m (l .t) (sym (c .before .before .before .is-at-most .ensures) ∙ c .before .before .if1 .left))
     (sym (c .before .has-empty .ensures) ∙ c .if2 .taken))
 
@@ -71,7 +74,7 @@ loop-again c =
     let m = total (take (a .k + 1) (a .parts)) in (
       omega arith,
       l .inv .1 ∙
-          totals-later (shows (a .set) (a .lengths) (a .count) (a .prefix) (a .k) (a .parts)) (a .k) m (l .t)
+          seen-later (shows (a .set) (a .lengths) (a .count) (a .prefix) (a .k) (a .parts)) (a .k) m (l .t)
           (leb-false m (l .t) (sym (c .before .before .before .is-at-most .ensures) ∙ c .before .before .if1 .left))
           (sym (c .before .has-empty .ensures) ∙ c .if2 .left),
     )
@@ -82,8 +85,8 @@ returns-3 c =
     let l = c .before .loop in
     let m = total (take (a .k + 1) (a .parts)) in
     sym (l .inv .1 ∙
-    totals-end (shows (a .set) (a .lengths) (a .count) (a .prefix) (a .k) (a .parts)) (a .k) m (l .t)
-    (omega (arith, c .before .before .pre .2)))
+    ap found (totals-end (shows (a .set) (a .lengths) (a .count) (a .prefix) (a .k) (a .parts)) (a .k) m (l .t)
+    (omega (arith, c .before .before .pre .2))))
 
 pub has-empty-below-spec : {M : Type 1} → statement M
 has-empty-below-spec =
