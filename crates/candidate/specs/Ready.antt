@@ -1,4 +1,4 @@
--- What the candidate search is given, and what the lists that it looks up say.
+-- What the candidate search is given, what the lists that it looks up say, and what it answers.
 use Prim.Native.Nat.{ℕ, suc, _+_, _-_, _≤_, _<_}
 use mathlib.Core.Path.{_≡_}
 use mathlib.Core.Bool.{Bool, true, false, _&&_}
