@@ -10,7 +10,7 @@ use forms::memory::Scheme;
 use forms::order::is_fault;
 use forms::sets::lengths_of;
 use forms::sets::rows_of;
-use judge::judging::judge;
+use judge::judging::judge_without_page;
 use word::limits::COUNTS;
 use word::limits::LENGTH;
 use word::refusal::Refusal;
@@ -31,7 +31,7 @@ ghost use Rattle.counting.specs.Counting.{tableTests, Counts};
 pub fn count(patterns: Patterns, scheme: Scheme, n: usize, table: &mut [u64]) -> Counted
     ensures { λ r. ⌜ Counts (patternsIn patterns) (schemeIn scheme) n (now (table .entry)) (now (table .exit)) r ⌝ }
 {
-    let verdict = judge(patterns, scheme);
+    let verdict = judge_without_page(patterns, scheme);
     let judged = fault_of(verdict);
     if is_fault(judged) {
         return count_or(judged, 0);

@@ -9,7 +9,7 @@ use forms::memory::Scheme;
 use forms::order::is_fault;
 use forms::sets::lengths_of;
 use forms::sets::rows_of;
-use judge::judging::judge;
+use judge::judging::judge_without_page;
 use word::limits::PLAIN_LENGTH;
 use word::refusal::Refusal;
 ghost use mathlib.Core.Path.{_≡_};
@@ -26,7 +26,7 @@ ghost use Rattle.counting.specs.Counting.{lengthTests, PlainCounts};
 pub fn count_plainly(patterns: Patterns, scheme: Scheme, n: usize) -> Counted
     ensures { λ r. ⌜ PlainCounts (patternsIn patterns) (schemeIn scheme) n r ⌝ }
 {
-    let verdict = judge(patterns, scheme);
+    let verdict = judge_without_page(patterns, scheme);
     let judged = fault_of(verdict);
     if is_fault(judged) {
         return count_or(judged, 0);

@@ -1,10 +1,11 @@
 -- The parts of the verdict in their order, as the code has them in hand.
 -- Assumes nothing.
-use Prim.Native.Nat.{ℕ}
+use Prim.Native.Nat.{ℕ, _≤_}
 use native.Mathlib.Omega.{arith}
 use mathlib.Core.Path.{_≡_, refl, sym, ap, ap₂, _∙_}
 use mathlib.Core.Bool.{true, false}
 use mathlib.Core.List.{List, List·Memᴰ}
+use mathlib.Core.Option.{none}
 use lib.ListN.{length}
 use Rattle.word.specs.Ceilings.{PATTERNS}
 use Rattle.word.specs.Word.{longest}
@@ -24,14 +25,20 @@ use Rattle.forms.specs.declared.memory.Fault.{Fault}
 use Rattle.forms.specs.declared.memory.Fault.the-variants.{Clean, At}
 use Rattle.scheme.specs.TestLaws.{clean-of}
 use Rattle.wellformed.proofs.OrderLaws.{or-else-fault, or-else-clean, not-faulty, two-faults}
-use Rattle.verdict.specs.Verdict.{claimTests, comparedCells, answered, verdictOf}
+use Rattle.text_page.specs.Page.{overlay}
+use Rattle.verdict.specs.Verdict.{claimTests, comparedCells, judgeTests, answered, verdictOf}
 use Rattle.verdict.specs.Truth.{WellFormed}
 use Rattle.claims.specs.EntryMemory.{ProperSet}
 use Rattle.forms.specs.SetMemory.{HasDigits, HasLengths}
-use Rattle.judge.specs.SetMemory.{ComparesCells}
+use Rattle.candidate.specs.Ready.{ShowsWord}
+use Rattle.verdict.specs.Witness.{wordShown, bytesShown}
+use Rattle.judge.specs.SetMemory.{ComparesCells, lossShown, Loses}
+use Rattle.judge.specs.declared.deletions.Loss.{Loss}
+use Rattle.judge.proofs.LossLaws.{live-word, loss-word}
 use Rattle.scheme.specs.Proper.{Proper}
 use Rattle.judge.specs.SetLaws.{set-held}
 use Rattle.judge.specs.JudgementLaws.{verdict-parts, live-same, differs-same, refused-answer}
+use Rattle.judge.specs.WitnessPageLaws.{patterns-nine, scheme-nine, numberIn, number-found, earlier-nine, page-kept}
 use Rattle.judge.proofs.EntryWalkLaws.{liveEntry, differingEntry}
 
 -- the earlier of two findings, where the first decides and where it does not
@@ -43,12 +50,32 @@ earlier-second f a b e h = sym (or-else-clean a b (ap faulty (sym e) ∙ h))
 
 module _ (P : List (List ℕ)) (E : List EntryList) where
   module _ (formed : Fault) (is : formed ≡ orElse (faultOf (firstFault (patternTests P))) (faultOf (firstFault (schemeTests E)))) where
+    -- the first finding of all, where a list is not well-formed, and where it is
+    pub found-formed : faulty formed ≡ true → faultOf (firstFault (judgeTests P E)) ≡ formed
+    found-formed h = verdict-parts P E ∙ sym (earlier-first formed _ (faultOf (firstFault (claimTests P E))) is h)
+
+    pub found-claims : faulty formed ≡ false → faultOf (firstFault (judgeTests P E)) ≡ faultOf (firstFault (claimTests P E))
+    found-claims h = verdict-parts P E ∙ sym (earlier-second formed _ (faultOf (firstFault (claimTests P E))) is h)
+
+    -- a list that is not well-formed leaves the page as it is
+    pub page-formed : faulty formed ≡ true → (page : List ℕ) →
+        page ≡ overlay 0 (bytesShown P E (faultOf (firstFault (judgeTests P E)))) page
+    page-formed h page =
+        page-kept P E formed page not-eleven ∙ ap (λ (f : Fault). overlay 0 (bytesShown P E f) page) (sym (found-formed h))
+      where
+        small : numberIn formed ≤ 9
+        small = rw is (earlier-nine (faultOf (firstFault (patternTests P))) (faultOf (firstFault (schemeTests E)))
+            (rw (number-found (firstFault (patternTests P))) (patterns-nine P))
+            (rw (number-found (firstFault (schemeTests E))) (scheme-nine E)))
+
+        not-eleven : numberIn formed ≡ 11 → ⊥
+        not-eleven e = omega (arith, small)
+
     -- a list that is not well-formed is refused
     pub verdict-refused : faulty formed ≡ true → answered formed 0 ≡ verdictOf P E
     verdict-refused h =
         refused-answer formed 0 (comparedCells P E) h ∙
-        ap (λ (f : Fault). answered f (comparedCells P E))
-        (earlier-first formed _ (faultOf (firstFault (claimTests P E))) is h ∙ sym (verdict-parts P E))
+        ap (λ (f : Fault). answered f (comparedCells P E)) (sym (found-formed h))
 
     -- the others are well-formed, and their claims decide
     pub formed-well : faulty formed ≡ false → WellFormed P E
@@ -63,8 +90,7 @@ module _ (P : List (List ℕ)) (E : List EntryList) where
 
     pub verdict-claims : faulty formed ≡ false → answered (faultOf (firstFault (claimTests P E))) (comparedCells P E) ≡ verdictOf P E
     verdict-claims h =
-        ap (λ (f : Fault). answered f (comparedCells P E))
-        (earlier-second formed _ (faultOf (firstFault (claimTests P E))) is h ∙ sym (verdict-parts P E))
+        ap (λ (f : Fault). answered f (comparedCells P E)) (sym (found-claims h))
 
 -- The basis of a set, as the code makes it.
 module _ (set : List (List ℕ)) (lengths : List ℕ) (count : ℕ) (q : ProperSet set lengths count) (b : Patterns)
@@ -112,6 +138,29 @@ module _ (set : List (List ℕ)) (lengths : List ℕ) (count : ℕ) (q : ProperS
         faulty live ≡ false →
         lost ≡ faultOf (firstFault (claimTests (patternsOf set lengths count) (schemeIn s)))
     claims-lost lost e h = e ∙ lost-is ∙ earlier-second live _ _ live-is h ∙ sym tests-parts
+
+    -- what is shown with the first fault of the tests on the set: nothing with test 10 ..
+    pub live-shown : faulty live ≡ true →
+        wordShown (patternsOf set lengths count) (schemeIn s)
+        (faultOf (firstFault (claimTests (patternsOf set lengths count) (schemeIn s)))) ≡ none
+    live-shown h =
+        ap (wordShown (patternsOf set lengths count) (schemeIn s)) (sym (claims-live h) ∙ live-is) ∙
+        live-word (patternsOf set lengths count) (q .perms) (schemeIn s) (p .each) (liveEntry (patternsOf set lengths count)) 0 (schemeIn s)
+
+    -- .. and with test 11 what the search on the basis shows
+    pub lost-shown : (loss : Loss) → Loses (patternsOf rows sizes (b .count)) (schemeIn s) loss → faulty live ≡ false →
+        ShowsWord (wordShown (patternsOf set lengths count) (schemeIn s)
+        (faultOf (firstFault (claimTests (patternsOf set lengths count) (schemeIn s))))) (loss .word)
+    lost-shown loss l h = rw same (l .shows)
+      where
+        same : wordShown (patternsOf set lengths count) (schemeIn s)
+            (faultOf (firstFault (claimTests (patternsOf set lengths count) (schemeIn s)))) ≡
+            lossShown (patternsOf rows sizes (b .count)) (schemeIn s) (loss .fault)
+        same =
+            ap (wordShown (patternsOf set lengths count) (schemeIn s)) (sym (claims-lost (loss .fault) (l .found) h) ∙ l .found ∙ lost-is) ∙
+            loss-word (patternsOf set lengths count) (q .perms) (schemeIn s) (p .each)
+            (differingEntry (patternsOf set lengths count)) 0 (schemeIn s) ∙
+            ap₂ (λ (Q : List (List ℕ)) (f : Fault). lossShown Q (schemeIn s) f) (sym basis-holds) (sym (l .found ∙ lost-is))
 
 -- the answer on the claims, from the set in memory
 pub claims-answer : (patterns : Patterns) (s : Scheme) (Q : List (List ℕ)) (f : Fault) (m cells : ℕ) → Q ≡ patternsIn patterns →

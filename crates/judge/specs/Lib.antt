@@ -6,3 +6,4 @@ pub mod JudgementLaws
 pub mod WitnessPageLaws
 pub mod TextJudgement
 pub mod TextVerdictLaws
+pub mod TextPageLaws

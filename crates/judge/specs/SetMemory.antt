@@ -1,12 +1,55 @@
 -- What the code of the judge has in hand. Definitions only.
-use Prim.Native.Nat.{ℕ}
+use Prim.Native.Nat.{ℕ, _+_, _≤_}
 use mathlib.Core.Path.{_≡_}
+use mathlib.Core.Bool.{true}
 use mathlib.Core.List.{List}
+use mathlib.Core.Option.{Option, none, some}
+use Rattle.word.specs.Ceilings.{DIGITS, PREFIX}
+use Rattle.word.specs.Finding.{firstFault}
+use Rattle.word.specs.declared.refusal.Refusal.the-variants.{Irreversible}
 use Rattle.cell.specs.Cell.{mOf}
-use Rattle.forms.specs.SchemeMemory.{schemeIn}
+use Rattle.forms.specs.SchemeList.{EntryList}
+use Rattle.forms.specs.SchemeMemory.{schemeIn, faultOf}
 use Rattle.forms.specs.declared.memory.Scheme.{Scheme}
-use Rattle.verdict.specs.Verdict.{comparedCells}
+use Rattle.forms.specs.declared.memory.Fault.{Fault}
+use Rattle.forms.specs.declared.memory.Fault.the-variants.{Clean, At}
+use Rattle.scheme.specs.WellFormed.{firstAt}
+use Rattle.text_page.specs.Page.{overlay}
+use Rattle.candidate.specs.Ready.{ShowsWord}
+use Rattle.candidate.specs.declared.least.LostWord.{LostWord}
+use Rattle.claims.specs.EntryMemory.{ruleCandidate}
+use Rattle.verdict.specs.Verdict.{differs, claimTests, comparedCells, answered}
+use Rattle.verdict.specs.Witness.{witnessBytes, indexedEntry, wordShown}
+use Rattle.judge.specs.declared.deletions.Loss.{Loss}
+use Rattle.judge.specs.declared.judging.Judged.{Judged}
 
 -- the number of compared cells, for every set whose m is this one
 abbrev pub ComparesCells : ℕ → Scheme → ℕ → Type 0
 ComparesCells m s r = (P : List (List ℕ)) → mOf P ≡ m → r ≡ comparedCells P (schemeIn s)
+
+-- what the candidate search shows of the entry at fault
+abbrev pub entryLoss : List (List ℕ) → Option EntryList → Option (List ℕ)
+entryLoss P none = none
+entryLoss P (some e) = ruleCandidate P (e .prefix) (e .gaps) (e .rule)
+
+abbrev pub lossShown : List (List ℕ) → List EntryList → Fault → Option (List ℕ)
+lossShown P E Clean = none
+lossShown P E (At r i) = entryLoss P (indexedEntry E i)
+
+-- test 11 on the patterns P: the first entry at fault, and what the search shows of it
+pub record Loses (P : List (List ℕ)) (E : List EntryList) (r : Loss) : Type 0 where
+  pub found : r .fault ≡ faultOf (firstAt Irreversible (λ e. differs P (e .prefix) (e .gaps) (e .rule)) 0 E)
+  pub shows : ShowsWord (lossShown P E (r .fault)) (r .word)
+
+-- the verdict on the claims of a well-formed scheme, and the permutation that is shown with it
+pub record ClaimsJudged (P : List (List ℕ)) (E : List EntryList) (r : Judged) : Type 0 where
+  pub verdict : r .verdict ≡ answered (faultOf (firstFault (claimTests P E))) (comparedCells P E)
+  pub shows : ShowsWord (wordShown P E (faultOf (firstFault (claimTests P E)))) (r .word)
+
+-- a word that is there is short
+abbrev pub IsShort : LostWord → Type 0
+IsShort word = word .found ≡ true → word .length ≤ PREFIX + DIGITS
+
+-- the page with the witness for the word that is shown, if there is one
+abbrev pub ShowsLost : List (List ℕ) → LostWord → List ℕ → List ℕ → Type 0
+ShowsLost P word before after = (o : Option (List ℕ)) → ShowsWord o word → after ≡ overlay 0 (witnessBytes P o) before

@@ -68,11 +68,11 @@ scheme-short t e = go (ltb SCHEME_TEXT (length t)) refl e
     go false p q = ltb-false SCHEME_TEXT (length t) p
 
 -- the fault of a list that was read is that of its tests
-read-fault : (f : Fault) (m : Patterns) → (readOr f m) .fault ≡ f
+pub read-fault : (f : Fault) (m : Patterns) → (readOr f m) .fault ≡ f
 read-fault Clean m = refl
 read-fault (At r i) m = refl
 
-read-scheme-fault : (f : Fault) (m : Scheme) → (readSchemeOr f m) .fault ≡ f
+pub read-scheme-fault : (f : Fault) (m : Scheme) → (readSchemeOr f m) .fault ≡ f
 read-scheme-fault Clean m = refl
 read-scheme-fault (At r i) m = refl
 

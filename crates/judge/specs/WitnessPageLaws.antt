@@ -26,7 +26,7 @@ use Rattle.word.specs.declared.refusal.Refusal.the-variants.{NoPosition, Childl
 use Rattle.cell.specs.Cell.{mOf, compared}
 use Rattle.cell.specs.BasisLaws.{longest-at-most}
 use Rattle.forms.specs.SchemeList.{Does, expands, deletes, EntryList}
-use Rattle.forms.specs.SchemeMemory.{faultOf}
+use Rattle.forms.specs.SchemeMemory.{faultOf, orElse}
 use Rattle.forms.specs.ToldLaws.{told-found}
 use Rattle.forms.specs.declared.memory.Fault.{Fault}
 use Rattle.forms.specs.declared.memory.Fault.the-variants.{Clean, At}
@@ -96,15 +96,36 @@ test-nine r b h = let low = test-number r b in omega arith
 pub patterns-nine : (P : List (List ℕ)) → numberFound (firstFault (patternTests P)) ≤ 9
 patterns-nine P =
     let twins = twin-number listed 0 [] P in
-    first-number 9 (patternTests P) (test-nine Oversize (ltb PATTERNS (length P)) (omega arith), (at-nine Oversize _ P (omega arith),
-    (at-nine NoPermutation _ P (omega arith), (omega arith, tt))))
+    first-number 9 (patternTests P) (
+      test-nine Oversize (ltb PATTERNS (length P)) (omega arith),
+      (
+        at-nine Oversize _ P (omega arith),
+        (at-nine NoPermutation _ P (omega arith), (omega arith, tt)),
+      ),
+    )
 
 pub scheme-nine : (E : List EntryList) → numberFound (firstFault (schemeTests E)) ≤ 9
 scheme-nine E =
     let twins = twin-number twinEntry 0 [] E in
-    first-number 9 (schemeTests E) (test-nine Oversize (ltb ENTRIES (length E)) (omega arith), (at-nine Oversize _ E (omega arith),
-    (at-nine NoPermutation _ E (omega arith), (omega arith, (test-nine Rootless (not (listed (prefixes E) [])) (omega arith), (at-nine Width _ E (omega arith),
-    (at-nine NoPosition _ E (omega arith), (at-nine Childless _ E (omega arith), (at-nine NoTarget _ E (omega arith), tt)))))))))
+    first-number 9 (schemeTests E) (
+      test-nine Oversize (ltb ENTRIES (length E)) (omega arith),
+      (
+        at-nine Oversize _ E (omega arith),
+        (
+          at-nine NoPermutation _ E (omega arith),
+          (
+            omega arith,
+            (
+              test-nine Rootless (not (listed (prefixes E) [])) (omega arith),
+              (
+                at-nine Width _ E (omega arith),
+                (at-nine NoPosition _ E (omega arith), (at-nine Childless _ E (omega arith), (at-nine NoTarget _ E (omega arith), tt))),
+              ),
+            ),
+          ),
+        ),
+      ),
+    )
 
 -- No finding but that of test 11 writes.
 abbrev pub numberIn : Fault → ℕ
@@ -296,3 +317,27 @@ module _ (P : List (List ℕ)) (E : List EntryList) (before after : List ℕ) (r
         same = same-verdict;
         witness = λ i q. entry-witness i (refused-found found (comparedCells P E) i (sym verdict ∙ q));
       }
+
+-- a short page is refused, and stays as it is
+pub judges-short : (P : List (List ℕ)) (E : List EntryList) (page : List ℕ) → length page < PAGE →
+    Judges P E page page (Refused ShortPage 0)
+judges-short P E page h =
+    let e = page-short (length page) (judgeTests P E) h in
+    judges P E page page (Refused ShortPage 0)
+    (sym (ap (λ (x : Finding). answered (faultOf x) (comparedCells P E)) e))
+    (page-kept P E (At ShortPage 0) page (λ n. omega arith) ∙
+    sym (ap (λ (x : Finding). overlay 0 (bytesShown P E (faultOf x)) page) e))
+
+-- a page that is long enough does not change the verdict
+pub judges-long : (P : List (List ℕ)) (E : List EntryList) (before after : List ℕ) (r : Verdict) → PAGE ≤ length before →
+    r ≡ verdictOf P E → after ≡ overlay 0 (bytesShown P E (faultOf (firstFault (judgeTests P E)))) before → Judges P E before after r
+judges-long P E before after r h e p =
+    let long = page-long (length before) (judgeTests P E) h in
+    judges P E before after r
+    (e ∙ sym (ap (λ (x : Finding). answered (faultOf x) (comparedCells P E)) long))
+    (p ∙ sym (ap (λ (x : Finding). overlay 0 (bytesShown P E (faultOf x)) before) long))
+
+-- the earlier of two findings has a number as small as theirs
+pub earlier-nine : (f g : Fault) → numberIn f ≤ 9 → numberIn g ≤ 9 → numberIn (orElse f g) ≤ 9
+earlier-nine Clean g h k = k
+earlier-nine (At r i) g h k = h

@@ -1,5 +1,7 @@
 // Test 11 over all entries, one entry at a time.
 use candidate::basis::longest_length;
+use candidate::least::LostWord;
+use candidate::least::no_word;
 use candidate::needed::all_needs;
 use claims::entries::is_irreversible;
 use forms::memory::Fault;
@@ -7,14 +9,17 @@ use forms::memory::Scheme;
 use word::limits::DIGITS;
 use word::limits::PATTERNS;
 use word::refusal::Refusal;
-ghost use mathlib.Core.Path.{_≡_};
 ghost use Rattle.word.specs.Containment.{patternsOf};
-ghost use Rattle.word.specs.declared.refusal.Refusal.the-variants.{Irreversible};
-ghost use Rattle.scheme.specs.WellFormed.{firstAt};
-ghost use Rattle.forms.specs.SchemeMemory.{schemeIn, faultOf};
-ghost use Rattle.verdict.specs.Verdict.{differs};
+ghost use Rattle.forms.specs.SchemeMemory.{schemeIn};
 ghost use Rattle.claims.specs.EntryMemory.{ProperSet};
 ghost use Rattle.scheme.specs.Proper.{Proper};
+ghost use Rattle.judge.specs.SetMemory.{Loses};
+
+// What test 11 finds, and the least permutation that the entry at fault loses.
+pub struct Loss {
+    pub fault: Fault,
+    pub word: LostWord,
+}
 
 // Test 11: the first entry some of whose compared sizes differ.
 pub fn irreversible_fault(
@@ -22,12 +27,9 @@ pub fn irreversible_fault(
     lengths: [u8; PATTERNS],
     count: usize,
     s: Scheme,
-) -> Fault
+) -> Loss
     requires { ⌜ ProperSet set lengths count × Proper (schemeIn s) ⌝ }
-    ensures { λ r.
-        ⌜ r ≡ faultOf
-        (firstAt Irreversible (λ e. differs (patternsOf set lengths count) (e .prefix) (e .gaps) (e .rule)) 0
-        (schemeIn s)) ⌝ }
+    ensures { λ r. ⌜ Loses (patternsOf set lengths count) (schemeIn s) r ⌝ }
 {
     let m = longest_length(set, lengths, count);
     let needs = all_needs(set, lengths, count);
@@ -35,10 +37,18 @@ pub fn irreversible_fault(
     let mut i: usize = 0;
     while i < n {
         let e = s.entries[i];
-        if is_irreversible(set, lengths, count, &needs, m, e) {
-            return Fault::At(Refusal::Irreversible, i);
+        let word = is_irreversible(set, lengths, count, &needs, m, e);
+        if word.found {
+            return Loss {
+                fault: Fault::At(Refusal::Irreversible, i),
+                word: word,
+            };
         }
         i += 1;
     }
-    Fault::Clean
+    let none = no_word();
+    Loss {
+        fault: Fault::Clean,
+        word: none,
+    }
 }

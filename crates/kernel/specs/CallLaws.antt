@@ -15,7 +15,7 @@ use Rattle.word.specs.declared.refusal.Refusal.the-variants.{Irreversible, Shor
 use Rattle.verdict.specs.Verdict.{toldVerdict, accepted}
 use Rattle.verdict.specs.declared.answer.Verdict.{Verdict}
 use Rattle.verdict.specs.declared.answer.Verdict.the-variants.{Accepted, Refused}
-use Rattle.judge.specs.TextJudgement.{JudgesTexts}
+use Rattle.judge.specs.TextJudgement.{JudgesTextsWithoutPage}
 use Rattle.kernel.specs.Call.{Called}
 
 -- no refusal has the number 0
@@ -42,7 +42,7 @@ zero-accepted (Refused r i) = (
 )
 
 -- the number of a verdict keeps its promise
-pub called : (s t : List ℕ) (v : Verdict) (r : ℕ) → JudgesTexts s t v → r ≡ (toldVerdict v) .number → Called s t r
+pub called : (s t : List ℕ) (v : Verdict) (r : ℕ) → JudgesTextsWithoutPage s t v → r ≡ (toldVerdict v) .number → Called s t r
 called s t v r j e =
     record {
       number = e ∙ ap (λ (w : Verdict). (toldVerdict w) .number) (j .verdict);

@@ -1,5 +1,5 @@
 // The call from C: "it calls the judge with two texts" (01).
-use judge::texts::judge_texts;
+use judge::texts::judge_texts_without_page;
 use verdict::answer::Verdict;
 use word::refusal::number;
 ghost use mathlib.Core.Path.{_≡_};
@@ -12,7 +12,7 @@ ghost use Rattle.kernel.specs.Call.{Called};
 pub extern "C" fn judge(patterns: &[u8], scheme: &[u8]) -> u32
     ensures { λ r. ⌜ Called (now (patterns .entry)) (now (scheme .entry)) r ⌝ }
 {
-    let verdict = judge_texts(patterns, scheme);
+    let verdict = judge_texts_without_page(patterns, scheme);
     refusal_number(verdict)
 }
 

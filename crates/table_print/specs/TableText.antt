@@ -73,7 +73,7 @@ pub record Prints (memory : Memory) (before after : List ℕ) (r : ℕ) : Type 0
   pub kept : (input : List ℕ) → memory ≡ keptOf input → Writes (tableText (threeLines input)) 0 before after r
   -- "If accepted, then .. the count .. is exactly the number of permutations of 1 to n that contain
   -- none of the patterns": so are the printed counts. Texts are accepted exactly if TextsTrue holds
-  -- of them (JudgesTexts.exactly).
+  -- of them (JudgesTextsWithoutPage.exactly).
   pub counts : (t : Three) → threeIn memory ≡ some t → (w : TextsTrue (t .set) (t .scheme)) (n : ℕ) →
       numberIn (t .last) ≡ some n → n ≤ LENGTH →
       needOf n (w .scheme) ≤ CELLS → Writes (avoidersText (w .patterns) n) 0 before after r

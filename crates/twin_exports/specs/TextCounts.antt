@@ -44,7 +44,7 @@ pub record CountsTexts (s t : List ℕ) (n : ℕ) (before after : List ℕ) (r :
       (needOf n (schemeIn ((schemeAnswer t) .scheme))) before
   -- "If accepted, then for every n from 0 to 20 and every table long enough, whatever it held, the
   -- count .. is exactly the number of permutations of 1 to n that contain none of the patterns".
-  -- Texts are accepted exactly if TextsTrue holds of them (JudgesTexts.exactly).
+  -- Texts are accepted exactly if TextsTrue holds of them (JudgesTextsWithoutPage.exactly).
   pub counts : (w : TextsTrue s t) → n ≤ LENGTH → needOf n (w .scheme) ≤ length before → r ≡ length (avoiders (w .patterns) n)
 
 -- the same for the plain evaluation

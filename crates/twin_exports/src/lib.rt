@@ -1,16 +1,29 @@
-// Counting on two texts with a C calling convention, for the differential test and the benchmark of
-// twin/.
+// Counting on two texts, judging them with a page, and containment, with a C calling convention: for
+// the differential test and the benchmark of twin/.
 use counting::answer::Counted;
 use counting::answer::count_or;
 use counting::by_table::count;
 use counting::plainly::count_plainly;
 use forms::order::earlier;
 use forms::order::is_fault;
+use judge::texts::judge_texts;
 use notation::patterns::read_patterns;
 use notation::schemes::read_scheme;
+use text_page::bytes::put_bytes;
+use verdict::answer::Verdict;
+use witness::bytes_of;
+use word::containment::Contained;
+use word::containment::contains;
+use word::limits::DIGITS;
 use word::refusal::number;
 ghost use mathlib.Core.Path.{_≡_};
+ghost use mathlib.Core.List.{map};
+ghost use Prim.Native.Nat.{_≤_, min};
+ghost use lib.ListN.{take};
+ghost use Rattle.word.specs.Ceilings.{DIGITS};
+ghost use Rattle.text_page.specs.Page.{overlay};
 ghost use Rattle.twin_exports.specs.TextCounts.{codeOf, CountsTexts, PlainTexts};
+ghost use Rattle.twin_exports.specs.PageCodes.{verdictCode, JudgesOnPage, CopiesOf};
 
 // The count for n by the scheme that a text spells: the count itself, or 2 to the 64 less 1 and
 // less the number of the refusal.
@@ -57,4 +70,52 @@ fn code(counted: Counted) -> u64
         Counted::Count(value) => value,
         Counted::Refused(refusal, _) => u64::MAX - number(refusal) as u64,
     }
+}
+
+// Judges two texts with a page: the number of compared cells, or 2 to the 64 less 1 and less the
+// number of the refusal. With refusal 11 the page begins with the witness.
+#[no_mangle]
+pub extern "C" fn judge_texts_on_page(patterns: &[u8], scheme: &[u8], page: &mut [u8]) -> u64
+    ensures { λ r. ⌜ JudgesOnPage (now (patterns .entry)) (now (scheme .entry)) (now (page .entry)) (now (page .exit)) r ⌝ }
+{
+    let verdict = judge_texts(patterns, scheme, page);
+    verdict_code(verdict)
+}
+
+// A verdict as one number.
+fn verdict_code(verdict: Verdict) -> u64
+    ensures { λ r. ⌜ r ≡ verdictCode verdict ⌝ }
+{
+    match verdict {
+        Verdict::Accepted(cells) => cells as u64,
+        Verdict::Refused(refusal, _) => u64::MAX - number(refusal) as u64,
+    }
+}
+
+// The first copy of a pattern in a permutation: the number of its positions, 0 where there is none,
+// or 2 to the 64 less 1 and less the number of the refusal. The positions stand at the front of the
+// page, as far as it goes.
+#[no_mangle]
+pub extern "C" fn copy_of(pattern: &[u8], permutation: &[u8], page: &mut [u8]) -> u64
+    ensures { λ r. ⌜ CopiesOf (now (pattern .entry)) (now (permutation .entry)) (now (page .entry)) (now (page .exit)) r ⌝ }
+{
+    let answer = contains(pattern, permutation);
+    let contained = answer.contained;
+    let at = answer.at;
+    let n = pattern.len();
+    match contained {
+        Contained::Yes => put_positions(at, n, page),
+        Contained::No => 0,
+        Contained::Refused(refusal, _) => u64::MAX - number(refusal) as u64,
+    }
+}
+
+// Writes the first n positions, as far as the page goes.
+fn put_positions(at: [usize; DIGITS], n: usize, page: &mut [u8]) -> u64
+    requires { ⌜ n ≤ DIGITS ⌝ }
+    ensures { λ r. ⌜ (r ≡ n) × (now (page .exit) ≡ overlay 0 (take n (map (λ x. min x 255) at)) (now (page .entry))) ⌝ }
+{
+    let bytes = bytes_of(at);
+    put_bytes(page, 0, &bytes[..n]);
+    n as u64
 }

@@ -8,7 +8,7 @@ use lib.ListN.{length, take, replicate, length-append, length-map, length-replic
 use lib.Seq.{take-append-seam}
 use Rattle.word.specs.Ceilings.{DIGITS}
 use Rattle.word.specs.Earliest.{Earliest, nowhere, stands, earliest, positionsOf}
-use Rattle.word.specs.Copy.{shownIn}
+use Rattle.word.specs.Copy.{placed, shownIn}
 use Rattle.word.specs.ListLaws.{map-same}
 use Rattle.word.specs.EarliestLaws.{earliest-is, copy-within}
 
@@ -26,13 +26,17 @@ shown-short (stands i at) h =
 bytes-same : (l : List ℕ) → ((x : ℕ) → List·Memᴰ x l → x ≤ 255) → map byte l ≡ l
 bytes-same l h = map-same byte (λ x. x) l (λ x m. let small = h x m in omega arith) ∙ map-id l
 
-shown-bytes : (e : Earliest) → ((x : ℕ) → List·Memᴰ x (positionsOf e) → x ≤ 255) →
-    take ((shownIn e) .length) (map byte ((shownIn e) .at)) ≡ positionsOf e
-shown-bytes nowhere h = refl
-shown-bytes (stands i at) h =
+-- the positions of a copy in memory, as bytes
+pub placed-bytes : (at : List ℕ) → ((x : ℕ) → List·Memᴰ x at → x ≤ 255) → take (length at) (map byte (placed at)) ≡ at
+placed-bytes at h =
     let zs = map byte (replicate (DIGITS - length at) 0) in
     ap (take (length at)) (map-append byte at (replicate (DIGITS - length at) 0)) ∙
     ap (λ (n : ℕ). take n (map byte at ++ zs)) (sym (length-map at byte)) ∙ take-append-seam (map byte at) zs ∙ bytes-same at h
+
+shown-bytes : (e : Earliest) → ((x : ℕ) → List·Memᴰ x (positionsOf e) → x ≤ 255) →
+    take ((shownIn e) .length) (map byte ((shownIn e) .at)) ≡ positionsOf e
+shown-bytes nowhere h = refl
+shown-bytes (stands i at) h = placed-bytes at h
 
 positions-within : (P : List (List ℕ)) (w : List ℕ) (x : ℕ) → List·Memᴰ x (positionsOf (earliest P w)) → x ≤ length w
 positions-within P w x m = go (earliest P w) refl m

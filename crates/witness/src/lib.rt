@@ -26,7 +26,7 @@ fn narrow(x: usize) -> u8
 }
 
 // Positions as bytes.
-fn bytes_of(at: [usize; DIGITS]) -> [u8; DIGITS]
+pub fn bytes_of(at: [usize; DIGITS]) -> [u8; DIGITS]
     ensures { λ r. ⌜ r ≡ map (λ x. min x 255) at ⌝ }
 {
     let mut bytes = [0u8; DIGITS];

@@ -7,7 +7,7 @@ use Rattle.kernel.proofs.judge.Tie as tie
 
 returns : tie.Need-returns
 returns c =
-    let v = c .before .judge-texts in
+    let v = c .before .judge-texts-without-page in
     called _ _ (v .result) (c .refusal-number .result) (v .ensures) (c .refusal-number .ensures)
 
 pub judge-spec : {M : Type 1} → statement M

@@ -14,6 +14,7 @@ use Rattle.scheme.specs.TestLaws.{from, first-start, first-here, first-later, f
 use Rattle.forms.specs.SchemeMemory.{entryAt}
 use Rattle.scheme.specs.ProperLaws.{proper-count, proper-at}
 use Rattle.judge.proofs.EntryWalkLaws.{differingEntry}
+use Rattle.judge.proofs.LossLaws.{indexed-scheme}
 use Rattle.judge.proofs.deletions.irreversible_fault.Statement.{statement}
 use Rattle.judge.proofs.deletions.irreversible_fault.Tie as tie
 
@@ -54,8 +55,12 @@ returns c =
     let a = start .args in
     let l = at-loop .loop in
     let P = patternsOf (a .set) (a .lengths) (a .count) in
-    sym (ap faultOf (l .inv .2 ∙ first-here Irreversible (differingEntry P) (entryAt (a .t4)) (a .t4 .count) (l .i)
-    (omega arith) (sym (c .before .is-irreversible .ensures) ∙ c .if1 .taken)))
+    let answer = c .before .is-irreversible .ensures in
+    record {
+      found = sym (ap faultOf (l .inv .2 ∙ first-here Irreversible (differingEntry P) (entryAt (a .t4)) (a .t4 .count) (l .i)
+          (omega arith) (sym (answer .said) ∙ c .if1 .taken)));
+      shows = rw (indexed-scheme (a .t4) (l .i) (omega arith)) (answer .shows);
+    }
 
 loop-again : tie.Need-loop-again Inv-loop μ-loop
 loop-again c =
@@ -67,16 +72,20 @@ loop-again c =
       l .inv .0,
       omega arith,
       l .inv .2 ∙ first-later Irreversible (differingEntry P) (entryAt (a .t4))
-          (a .t4 .count) (l .i) (omega arith) (sym (c .before .is-irreversible .ensures) ∙ c .if1 .left),
+          (a .t4 .count) (l .i) (omega arith) (sym (c .before .is-irreversible .ensures .said) ∙ c .if1 .left),
     )
 
 returns-2 : tie.Need-returns-2 Inv-loop μ-loop
 returns-2 c =
-    let start = c .before .before .before .before in
+    let at-loop = c .before .before in
+    let start = at-loop .before .before .before in
     let a = start .args in
-    let l = c .before .loop in
+    let l = at-loop .loop in
     let P = patternsOf (a .set) (a .lengths) (a .count) in
-    sym (ap faultOf (l .inv .2 ∙ first-end Irreversible (differingEntry P) (entryAt (a .t4)) (a .t4 .count) (l .i) (omega arith)))
+    record {
+      found = sym (ap faultOf (l .inv .2 ∙ first-end Irreversible (differingEntry P) (entryAt (a .t4)) (a .t4 .count) (l .i) (omega arith)));
+      shows = c .no-word .ensures .0;
+    }
 
 pub irreversible-fault-spec : {M : Type 1} → statement M
 irreversible-fault-spec =
@@ -95,4 +104,5 @@ irreversible-fault-spec =
     (λ c. search needs)
     (λ c. search needs)
     loop-again
+    (λ c κs. search needs)
     returns-2)

@@ -6,6 +6,7 @@ use Prim.Native.Nat.{ℕ, _+_, _-_, _*_, _≤_}
 use mathlib.Core.Path.{_≡_, sym, ap, _∙_}
 use mathlib.Core.Bool.{true, false}
 use mathlib.Core.List.{List}
+use mathlib.Core.Option.{Option, none}
 use lib.ListN.{length}
 use Rattle.word.specs.Ceilings.{PATTERNS}
 use Rattle.word.specs.Finding.{firstFault}
@@ -20,7 +21,10 @@ use Rattle.judge.proofs.EntryWalkLaws.{differingEntry}
 use Rattle.forms.specs.declared.memory.Fault.{Fault}
 use Rattle.verdict.specs.Verdict.{claimTests, comparedCells, answered}
 use Rattle.judge.specs.SetLaws.{set-holds, proper-set}
-use Rattle.judge.proofs.JudgeLaws.{basis-proper, claims-live, claims-lost, claims-answer}
+use Rattle.judge.proofs.JudgeLaws.{basis-proper, claims-live, claims-lost, claims-answer, live-shown, lost-shown}
+use Rattle.judge.proofs.LossLaws.{shows-none}
+use Rattle.candidate.specs.Ready.{ShowsWord}
+use Rattle.verdict.specs.Witness.{wordShown}
 use Rattle.judge.specs.JudgementLaws.{refused-answer}
 use borrow.Author.Needs.{needs}
 use Rattle.word.specs.Ceilings.{ENTRIES}
@@ -35,12 +39,12 @@ use Rattle.judge.proofs.judging.judge_claims.Statement.{statement}
 use Rattle.judge.proofs.judging.judge_claims.Tie as tie
 
 abbrev Inv-loop : tie.InvT-loop
-Inv-loop scheme count n fault m last cells₀ i₀ cells i =
+Inv-loop scheme count n fault word m last cells₀ i₀ cells i =
     (last ≤ ENTRIES) × (i ≤ last) × (cells ≤ COMPARED * i) ×
     ((P : List (List ℕ)) → mOf P ≡ m → comparedCells P (schemeIn scheme) ≡ cells + cellsFrom P scheme last i)
 
 abbrev μ-loop : tie.MeasureT-loop
-μ-loop scheme count n fault m last cells₀ i₀ cells i = last - i
+μ-loop scheme count n fault word m last cells₀ i₀ cells i = last - i
 
 -- the places behind which the sets and the first finding are there
 abbrev Sets : Type 0
@@ -157,41 +161,82 @@ basis-of-requires c κs =
 live-fault-requires : tie.Need-live-fault-requires Inv-loop μ-loop
 live-fault-requires c κs = proper-entries c
 
+-- what is shown with a fault of test 10: nothing
+live-nothing : (c : Live) → faulty (c .live-fault .result) ≡ true →
+    wordShown (set (c .before)) (schemeIn (scheme (c .before))) (claimed (c .before)) ≡ none
+live-nothing c h =
+    let o = c .before in
+    let r = o .before .rows-of2 in
+    let k = o .lengths-of2 in
+    let b = o .before .before .basis-of in
+    live-shown (o .before .before .before .before .rows-of .result) (o .before .before .before .lengths-of .result)
+    (first o .args .patterns .count) (proper o) (b .result) (b .ensures) (r .result) (k .result) (basis-rows o)
+    (basis-lengths o) (r .ensures) (k .ensures) (scheme o) (proper-entries o) (c .live-fault .result)
+    (c .live-fault .ensures) h
+
+-- the set in memory is the one that was given
+abbrev shownOf : Sets → List (List ℕ) → Option (List ℕ)
+shownOf c P = wordShown P (schemeIn (scheme c)) (faultOf (firstFault (claimTests P (schemeIn (scheme c)))))
+
 returns : tie.Need-returns Inv-loop μ-loop
 returns c =
-    let tested = c .before .before in
+    let tested = c .before .before .before in
     let at-live = tested .before in
-    let h = sym (tested .is-fault .ensures) ∙ c .before .if1 .taken in
-    refused (at-live .before) (at-live .live-fault .result) (c .answer .result) h (live-first at-live h) (c .answer .ensures)
+    let o = at-live .before in
+    let h = sym (tested .is-fault .ensures) ∙ c .before .before .if1 .taken in
+    record {
+      verdict = refused o (at-live .live-fault .result) (c .refused .result .verdict) h (live-first at-live h) (c .refused .ensures .0);
+      shows = rw (c .refused .ensures .1) (shows-none (shownOf o (patternsIn (first o .args .patterns))) (c .before .no-word .result)
+          (ap (shownOf o) (sym (holds o)) ∙ live-nothing at-live h) (c .before .no-word .ensures .0));
+    }
 
 irreversible-fault-requires : tie.Need-irreversible-fault-requires Inv-loop μ-loop
 irreversible-fault-requires c κs =
     let o = c .before .before .before in
     (small-proper o, proper-entries o)
 
--- what test 11 finds, where test 10 finds nothing
+-- what test 11 finds, where test 10 finds nothing, and what is shown with it
 lost : (o : tie.After-irreversible-fault Inv-loop μ-loop) →
-    o .irreversible-fault .result ≡ claimed (o .before .before .before .before)
+    o .irreversible-fault .result .fault ≡ claimed (o .before .before .before .before)
 lost o =
     let f = o .irreversible-fault in
     let clean = o .before in
-    lost-first (clean .before .before) (f .result) (f .ensures) (sym (clean .before .is-fault .ensures) ∙ clean .if1 .left)
+    lost-first (clean .before .before) (f .result .fault) (f .ensures .found) (sym (clean .before .is-fault .ensures) ∙ clean .if1 .left)
+
+shown-lost : (a : tie.After-irreversible-fault Inv-loop μ-loop) →
+    ShowsWord (shownOf (a .before .before .before .before) (patternsIn (first (a .before .before .before .before) .args .patterns)))
+    (a .irreversible-fault .result .word)
+shown-lost a =
+    let clean = a .before in
+    let c = clean .before .before in
+    let o = c .before in
+    let r = o .before .rows-of2 in
+    let k = o .lengths-of2 in
+    let b = o .before .before .basis-of in
+    rw (← holds o) (lost-shown (o .before .before .before .before .rows-of .result) (o .before .before .before .lengths-of .result)
+    (first o .args .patterns .count) (proper o) (b .result) (b .ensures) (r .result) (k .result) (basis-rows o)
+    (basis-lengths o) (r .ensures) (k .ensures) (scheme o) (proper-entries o) (c .live-fault .result)
+    (c .live-fault .ensures) (a .irreversible-fault .result) (a .irreversible-fault .ensures)
+    (sym (clean .before .is-fault .ensures) ∙ clean .if1 .left))
 
 returns-2 : tie.Need-returns-2 Inv-loop μ-loop
 returns-2 c =
     let tested = c .before .before in
-    let at-lost = tested .before in
+    let at-lost = tested .before .before in
     let h = sym (tested .is-fault2 .ensures) ∙ c .before .if2 .taken in
-    refused (at-lost .before .before .before .before) (at-lost .irreversible-fault .result) (c .answer2 .result) h
-    (lost at-lost) (c .answer2 .ensures)
+    record {
+      verdict = refused (at-lost .before .before .before .before) (at-lost .irreversible-fault .result .fault)
+          (c .refused2 .result .verdict) h (lost at-lost) (c .refused2 .ensures .0);
+      shows = rw (c .refused2 .ensures .1) (shown-lost at-lost);
+    }
 
 -- the sets, from the loop
 abbrev sets : tie.At-loop Inv-loop μ-loop → Sets
-sets o = o .before .before .before .before .before .before .before .before
+sets o = o .before .before .before .before .before .before .before .before .before
 
 loop-holds : tie.Need-loop-holds Inv-loop μ-loop
 loop-holds c =
-    let o = c .before .before .before .before .before .before .before in
+    let o = c .before .before .before .before .before .before .before .before in
     (proper-count (scheme o) (proper-entries o), omega arith, omega arith, λ P h. cells-start P (scheme o))
 
 element-copy-out-e : tie.Need-element-copy-out-e Inv-loop μ-loop
@@ -231,12 +276,15 @@ returns-3 c =
     let at-loop = c .before .before in
     let l = at-loop .loop in
     let m = at-loop .before .longest-length in
-    let at-lost = at-loop .before .before .before .before in
+    let at-lost = at-loop .before .before .before .before .before in
     let o = sets at-loop in
-    c .answer3 .ensures ∙
-    claims-answer (first o .args .patterns) (scheme o) (set o) (at-lost .irreversible-fault .result) (m .result)
-    (l .cells) (holds o) (lost at-lost) (m .ensures .0)
-    (λ P h. sym (l .inv .3 P h ∙ cells-end P (scheme o) (l .i) (l .cells) (omega arith)))
+    record {
+      verdict = c .answer .ensures ∙
+          claims-answer (first o .args .patterns) (scheme o) (set o) (at-lost .irreversible-fault .result .fault) (m .result)
+          (l .cells) (holds o) (lost at-lost) (m .ensures .0)
+          (λ P h. sym (l .inv .3 P h ∙ cells-end P (scheme o) (l .i) (l .cells) (omega arith)));
+      shows = shown-lost at-lost;
+    }
 
 pub judge-claims-spec : {M : Type 1} → statement M
 judge-claims-spec =
@@ -250,6 +298,7 @@ judge-claims-spec =
     (λ c κs. search needs)
     (λ c κs. search needs)
     live-fault-requires
+    (λ c κs. search needs)
     (λ c κs. search needs)
     (λ c κs. search needs)
     returns

@@ -32,7 +32,8 @@ returns-2 c =
     let q = at-read-scheme .read-scheme in
     let f = c .before .before .before .earlier in
     judged-texts _ _ (p .result) (p .ensures .0) (p .ensures .1) (q .result) (q .ensures .0) (q .ensures .1) (f .result) (f .ensures)
-    (sym (c .before .before .is-fault .ensures) ∙ c .before .if1 .left) (c .judge-claims .result) (c .judge-claims .ensures)
+    (sym (c .before .before .is-fault .ensures) ∙ c .before .if1 .left) (c .judge-claims .result .verdict)
+    (c .judge-claims .ensures .verdict)
 
 pub read-and-judge-spec : {M : Type 1} → statement M
 read-and-judge-spec =
