@@ -2,3 +2,4 @@
 pub mod TextCounts
 pub mod TextCountLaws
 pub mod PageCodes
+pub mod PageCodeLaws
