@@ -1,14 +1,17 @@
--- The starred examples of document 01: one table, and one theorem for all of it.
+-- The starred examples of document 01, and examples of order 1 of document 02: one table, and one
+-- theorem for all of it.
 use Prim.Native.Nat.{ℕ, suc}
 use Prim.Native.String.{String}
 use mathlib.Core.Path.{_≡_, refl}
 use mathlib.Core.Bool.{Bool, true}
-use mathlib.Core.List.{List, [], _∷_, map}
-use lib.ListN.{length}
+use mathlib.Core.List.{List, [], _∷_, _++_, map}
+use mathlib.Core.Option.{Option, none, some}
+use lib.ListN.{length, replicate}
 use lib.Dec.{eqb}
 use Rattle.word.specs.Lists.{all, keep, each, row}
 use Rattle.word.specs.Word.{firstCopy, reduce, isPerm}
 use Rattle.word.specs.Told.{Told}
+use Rattle.word.specs.Earliest.{earliest, positionsOf}
 use Rattle.word.specs.Containment.{containment}
 use Rattle.word.specs.declared.containment.Contained.{Contained}
 use Rattle.word.specs.declared.containment.Contained.the-variants.{Yes, No}
@@ -28,7 +31,8 @@ use Rattle.notation.specs.SchemeAnswers.{schemeAnswer}
 use Rattle.verdict.specs.Verdict.{verdictOf, toldVerdict, comparedCells, liveGap, differs, sizesDiffer, comparedWith}
 use Rattle.verdict.specs.declared.answer.Verdict.{Verdict}
 use Rattle.verdict.specs.declared.answer.Verdict.the-variants.{Accepted, Refused}
-use Rattle.judge.specs.TextJudgement.{verdictOfTexts}
+use Rattle.judge.specs.TextJudgement.{verdictOfTexts, verdictReadOn, pageRead}
+use Rattle.verdict.specs.Witness.{shownWord}
 use Rattle.verdict.specs.Value.{countOf}
 use Rattle.starred.specs.Utf8.{bytes}
 
@@ -50,7 +54,11 @@ pub data Question : Type 0 where
   judging : (patterns : List (List ℕ)) (scheme : List EntryList) → Question
   -- what is the count for n?
   counting : (patterns : List (List ℕ)) (scheme : List EntryList) (n : ℕ) → Question
-  -- the same two on the texts of the set and of the scheme
+  -- which permutation and which copy are shown for the entry, if its deletion is refused?
+  showing : (patterns : List (List ℕ)) (prefix : List ℕ) (vectors : List (List ℕ)) (positions : List ℕ) → Question
+  -- with what are the texts refused, and what does a page of so many bytes 7 hold afterwards?
+  judgingPage : (patterns scheme : String) (size : ℕ) → Question
+  -- the verdict and the count on the texts of the set and of the scheme
   judgingTexts : (patterns scheme : String) → Question
   countingTexts : (patterns scheme : String) (n : ℕ) → Question
 
@@ -63,6 +71,9 @@ pub data Answer : Type 0 where
   refusedAs : Fault → Answer
   verdictIs : Verdict → Answer
   countIs : ℕ → Answer
+  shows : (permutation copy : List ℕ) → Answer
+  showsNothing : Answer
+  holdsPage : (number : ℕ) (page : List ℕ) → Answer
   -- the number of a refusal, 0 for none, and its index or the value
   tells : (number : ℕ) (values : List ℕ) → Answer
 
@@ -80,8 +91,17 @@ shorterSize P p R g = length (cell P (deleted R p) (merged R p g))
 abbrev toldAs : Told → Answer
 toldAs t = tells (t .number) (t .values)
 
+-- the permutation that is shown, and the copy in it
+abbrev shownIn : List (List ℕ) → Option (List ℕ) → Answer
+shownIn P none = showsNothing
+shownIn P (some w) = shows w (positionsOf (earliest P w))
+
+-- a page of n bytes 7
+abbrev sevens : ℕ → List ℕ
+sevens n = replicate n 7
+
 unfoldable pub answer : Question → Answer
-unfolding countOf firstCopy isPerm reduce spacing shorterSize vectors free total children deleted merged cell
+unfolding shownWord earliest countOf firstCopy isPerm reduce spacing shorterSize vectors free total children deleted merged cell
     compared comparedCells liveGap differs sizesDiffer comparedWith tokens tokensAfter tokenAt readPatterns
     readEntries itemsOf same loadedPatterns loadedScheme bytes partsOfAll widthsOf
 answer (containsPattern w β) = contained ((containment β w) .contained)
@@ -93,6 +113,10 @@ answer (agreeTo P p B R t) =
 answer (reading s) = refusedAs ((schemeAnswer s) .fault)
 answer (judging P E) = verdictIs (verdictOf P E)
 answer (counting P E n) = countIs (countOf P E n)
+answer (showing P p B R) = shownIn P (shownWord P p B R)
+answer (judgingPage s t n) =
+    holdsPage ((toldVerdict (verdictReadOn n (patternsAnswer (bytes s)) (schemeAnswer (bytes t)))) .number)
+    (pageRead (patternsAnswer (bytes s)) (schemeAnswer (bytes t)) (sevens n))
 answer (judgingTexts s t) = toldAs (toldVerdict (verdictOfTexts (bytes s) (bytes t)))
 answer (countingTexts s t n) = countIs (countOf (patternsIn ((patternsAnswer (bytes s)) .patterns))
     (schemeIn ((schemeAnswer (bytes t)) .scheme)) n)
@@ -159,6 +183,31 @@ starred =
     -- the scheme ∅: 5
     record { asked = reading (0xE2 ∷ 0x88 ∷ 0x85 ∷ []); told = refusedAs (At Rootless 0) } ∷
     record { asked = judgingTexts "{1}" "∅"; told = tells 5 (0 ∷ []) } ∷
+    -- order 1 of document 02: {123} with 12 deleting 1 shows 1423 and the copy at 1, 3, 4
+    record { asked = showing set123 (1 ∷ 2 ∷ []) ((0 ∷ 0 ∷ 1 ∷ []) ∷ []) (1 ∷ []); told = shows (1 ∷ 4 ∷ 2 ∷ 3 ∷ []) (1 ∷ 3 ∷ 4 ∷ []) } ∷
+    -- with 12 deleting 2 nothing is lost
+    record { asked = showing set123 (1 ∷ 2 ∷ []) ((0 ∷ 0 ∷ 1 ∷ []) ∷ []) (2 ∷ []); told = showsNothing } ∷
+    -- {132,12} with `(132,∅,{1})` shows 132 and the copy of 132, which is superfluous and the earliest
+    record {
+      asked = showing ((1 ∷ 3 ∷ 2 ∷ []) ∷ (1 ∷ 2 ∷ []) ∷ []) (1 ∷ 3 ∷ 2 ∷ []) [] (1 ∷ []);
+      told = shows (1 ∷ 3 ∷ 2 ∷ []) (1 ∷ 2 ∷ 3 ∷ []);
+    } ∷
+    -- {12,132} shows the copy of 12
+    record {
+      asked = showing ((1 ∷ 2 ∷ []) ∷ (1 ∷ 3 ∷ 2 ∷ []) ∷ []) (1 ∷ 3 ∷ 2 ∷ []) [] (1 ∷ []);
+      told = shows (1 ∷ 3 ∷ 2 ∷ []) (1 ∷ 2 ∷ []);
+    } ∷
+    -- a page of 40 bytes: 16 for the permutation, 16 for the copy, and the last eight as they were
+    record {
+      asked = judgingPage "{123}" "{(ε,∅,∅),(1,∅,∅),(12,{⟨0,0,1⟩},{1}),(21,∅,{1})}" 40;
+      told = holdsPage 11 ((4 ∷ 1 ∷ 4 ∷ 2 ∷ 3 ∷ replicate 11 0) ++ ((3 ∷ 1 ∷ 3 ∷ 4 ∷ replicate 12 0) ++ sevens 8));
+    } ∷
+    -- a page of 31 bytes is refused, and so is a text that is none; both stay as they were
+    record {
+      asked = judgingPage "{123}" "{(ε,∅,∅),(1,∅,∅),(12,{⟨0,0,1⟩},{1}),(21,∅,{1})}" 31;
+      told = holdsPage 13 (sevens 31);
+    } ∷
+    record { asked = judgingPage "{123" "{(ε,∅,∅)}" 32; told = holdsPage 1 (sevens 32) } ∷
     []
 
 -- every row of the table holds
