@@ -36,9 +36,9 @@ pub fn judge_texts(patterns: &[u8], scheme: &[u8], page: &mut [u8]) -> Verdict
     let s = read_scheme(scheme);
     let first = p.fault;
     let second = s.fault;
-    let found = earlier(first, second);
-    if is_fault(found) {
-        return answer(found, 0);
+    let unread = earlier(first, second);
+    if is_fault(unread) {
+        return answer(unread, 0);
     }
     let set = p.patterns;
     let list = s.scheme;

@@ -38,12 +38,15 @@ use Rattle.cell.specs.CandidateLaws.{violates-out, candidates-of-agrees, irreve
 use Rattle.cell.specs.LeastLaws.{CleanBelow, agrees-first, lost-candidate, least-is}
 use Rattle.cell.specs.ListedLaws.{totalled, compared-ascend, spacing-total}
 use Rattle.cell.specs.BasisLaws.{basis-in, basis-avoids, basis-agrees, basis-deletion, longest-basis}
+use Rattle.word.specs.declared.refusal.Refusal.the-variants.{LiveGap, Irreversible}
+use Rattle.forms.specs.SchemeList.{EntryList}
+use Rattle.forms.specs.declared.memory.Fault.the-variants.{At}
 use Rattle.scheme.specs.FindingLaws.{same-failure, none-in}
 use Rattle.scheme.specs.WellFormed.{listed}
 use Rattle.verdict.specs.Verdict.{sizesDiffer}
 use Rattle.verdict.specs.VerdictLaws.{sizes-same, same-sizes, sizes-agree}
 use Rattle.verdict.specs.Witness.{lost, shownSpacing, shownAt, shownWord, half, witnessBytes}
-use Rattle.verdict.specs.Witness.{IsLost, earlier, Witnesses}
+use Rattle.verdict.specs.Witness.{indexedEntry, entryWord, wordShown, IsLost, earlier, Witnesses}
 
 -- what stands in a list is listed
 listed-out : (l : List (List ℕ)) (x : List ℕ) → listed l x ≡ true → List·Memᴰ x l
@@ -446,3 +449,12 @@ module _ (P : List (List ℕ)) (p R : List ℕ) (perm : isPerm p ≡ true) (insi
       let s = shown-is w e in
       let (size, t, f) = compared-are P (length p) B (s .at-compared) in
       omega (arith, lost-length P p R (s .at) w (s .is-lost), t)
+
+-- "With refusal 11 the judge's lent page .. receives a witness for the refused entry" (02): with
+-- test 11 the word of the entry at fault is shown, with test 10 none
+pub shown-with-eleven : (P : List (List ℕ)) (E : List EntryList) (i : ℕ) →
+    wordShown P E (At Irreversible i) ≡ entryWord P (indexedEntry E i)
+shown-with-eleven P E i = refl
+
+pub none-with-ten : (P : List (List ℕ)) (E : List EntryList) (i : ℕ) → wordShown P E (At LiveGap i) ≡ none
+none-with-ten P E i = refl
