@@ -19,48 +19,42 @@ pub fn is_permutation(word: &[u8]) -> bool {
 
 /// The positions of the lexicographically first copy of the pattern in the word: of entries that,
 /// in their order, compare pairwise as the pattern's entries do. The pattern has at most eight.
-#[inline]
 pub fn contains(pattern: &[u8], word: &[u8]) -> Option<Positions> {
-    let nothing = [0; PATTERN_LENGTH];
-    let mut search = Search { pattern, word, chosen: nothing, positions: nothing };
-    let there = pattern.len() <= word.len() && search.extend(0, 0);
-    there.then(|| Positions::of(&search.positions[..pattern.len()]))
+    if pattern.len() > word.len() {
+        return None;
+    }
+    let (mut chosen, mut found) = ([0; PATTERN_LENGTH], [0; PATTERN_LENGTH]);
+    let there = extend(pattern, word, &mut chosen, &mut found, 0, 0);
+    there.then(|| Positions::of(&found[..pattern.len()]))
 }
 
-/// A search for a copy: the entries that are chosen and, once there is a copy, its positions.
-struct Search<'a> {
-    pattern: &'a [u8],
-    word: &'a [u8],
-    chosen: [u8; PATTERN_LENGTH],
-    positions: [u8; PATTERN_LENGTH],
-}
+/// Up to eight entries, or as many positions.
+type Eight = [u8; PATTERN_LENGTH];
 
-impl Search<'_> {
-    /// Whether the entries chosen for the pattern's first `depth` entries go on to a copy, with
-    /// positions from `from` on. Positions are tried in ascending order at each depth, so the first
-    /// copy found is the lexicographically first.
-    fn extend(&mut self, depth: usize, from: usize) -> bool {
-        if depth == self.pattern.len() {
-            return true;
-        }
-        for at in from..=self.word.len() + depth - self.pattern.len() {
-            let x = self.word[at];
-            if fits(self.pattern, &self.chosen, depth, x) {
-                self.chosen[depth] = x;
-                if self.extend(depth + 1, at + 1) {
-                    self.positions[depth] = at as u8 + 1;
-                    return true;
-                }
+/// Whether the entries chosen for the pattern's first `depth` entries go on to a copy, with
+/// positions from `from` on; those that are found. Positions are tried in ascending order at each
+/// depth, so the first copy met is the lexicographically first.
+fn extend(pattern: &[u8], word: &[u8], chosen: &mut Eight, found: &mut Eight, depth: usize, from: usize) -> bool {
+    if depth == pattern.len() {
+        return true;
+    }
+    let last = word.len() + depth - pattern.len();
+    for at in from..=last {
+        if fits(pattern, chosen, depth, word[at]) {
+            chosen[depth] = word[at];
+            if extend(pattern, word, chosen, found, depth + 1, at + 1) {
+                found[depth] = at as u8 + 1;
+                return true;
             }
         }
-        false
     }
+    false
 }
 
 /// Whether x compares with the chosen entries as the pattern's entry at `depth` does with those
 /// before it.
 #[inline]
-fn fits(pattern: &[u8], chosen: &[u8; PATTERN_LENGTH], depth: usize, x: u8) -> bool {
+fn fits(pattern: &[u8], chosen: &Eight, depth: usize, x: u8) -> bool {
     let p = pattern[depth];
     (0..depth).all(|i| (pattern[i] < p) == (chosen[i] < x))
 }
@@ -74,7 +68,7 @@ pub fn ends_copy(pattern: &[u8], word: &[u8]) -> bool {
     ending(pattern, word, &mut [0; PATTERN_LENGTH], 0, 0)
 }
 
-fn ending(pattern: &[u8], word: &[u8], chosen: &mut [u8; PATTERN_LENGTH], depth: usize, from: usize) -> bool {
+fn ending(pattern: &[u8], word: &[u8], chosen: &mut Eight, depth: usize, from: usize) -> bool {
     let (k, n) = (pattern.len(), word.len());
     let end = word[n - 1];
     if depth + 1 == k {
