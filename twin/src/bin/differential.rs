@@ -3,7 +3,8 @@
 //!
 //! `differential [COUNT] [SEED]` makes COUNT random inputs beside the fixed ones. It prints how
 //! many there were of each kind, how many were accepted and refused, and each disagreement with its
-//! input. The exit status is 1 where there was a disagreement, a crash or a hang.
+//! input. The exit status is 1 where there was a disagreement, a crash or a hang, or too few
+//! refusals 11.
 
 use std::collections::BTreeMap;
 use std::fs;
@@ -336,7 +337,7 @@ impl Test {
                 self.report("the engine's containment", &expected, &found, &pattern, &permutation);
             }
         }
-        println!("{inputs} lists searched for a copy, {found} with one, {refused} refused;");
+        println!("{inputs} lists searched for a copy, {found} with one, {refused} refused");
         println!("copies compared with listing: {listed}");
         self.enough("copies", found);
     }
@@ -345,7 +346,7 @@ impl Test {
     fn list(&mut self, case: &Case, fast: Result<usize, Refusal>) {
         let (Ok(patterns), Ok(scheme)) = (read_patterns(&case.patterns), read_scheme(&case.scheme)) else { return };
         self.claims += 1;
-        if self.claims > 3_000 && self.claims & 7 != 0 {
+        if self.claims > 3_700 && self.claims & 7 != 0 {
             return;
         }
         let m = twin::judging::longest(patterns.items());
