@@ -23,6 +23,17 @@ mod library {
             cells: usize,
         ) -> u64;
         pub fn count_texts_plainly(patterns: *const u8, patterns_length: usize, scheme: *const u8, scheme_length: usize, n: usize) -> u64;
+        #[cfg(feature = "witness")]
+        pub fn judge_texts_on_page(
+            patterns: *const u8,
+            patterns_length: usize,
+            scheme: *const u8,
+            scheme_length: usize,
+            page: *mut u8,
+            page_length: usize,
+        ) -> u64;
+        #[cfg(feature = "witness")]
+        pub fn copy_of(pattern: *const u8, pattern_length: usize, permutation: *const u8, permutation_length: usize, page: *mut u8, page_length: usize) -> u64;
     }
 }
 
@@ -60,6 +71,40 @@ fn count(patterns: &[u8], scheme: &[u8], n: usize, table: &mut [u64]) -> Result<
 fn plain(patterns: &[u8], scheme: &[u8], n: usize) -> Result<u64, u32> {
     // As for `judge`.
     let code = unsafe { library::count_texts_plainly(start(patterns), patterns.len(), start(scheme), scheme.len(), n) };
+    answer(code)
+}
+
+/// Judging with a page: the two texts and the page; the number of compared cells, or the number of
+/// the refusal. Containment: a pattern, a permutation and a page; the number of positions of the
+/// first copy, 0 for none, or the number of the refusal.
+pub type OnPage = fn(&[u8], &[u8], &mut [u8]) -> Result<u64, u32>;
+
+/// The engine's judging with a page and its containment.
+#[cfg(feature = "witness")]
+pub const JUDGE_ON_PAGE: Option<OnPage> = Some(judge_on_page);
+#[cfg(feature = "witness")]
+pub const COPY_OF: Option<OnPage> = Some(copy_of);
+#[cfg(not(feature = "witness"))]
+pub const JUDGE_ON_PAGE: Option<OnPage> = None;
+#[cfg(not(feature = "witness"))]
+pub const COPY_OF: Option<OnPage> = None;
+
+#[cfg(feature = "witness")]
+fn judge_on_page(patterns: &[u8], scheme: &[u8], page: &mut [u8]) -> Result<u64, u32> {
+    // The library reads the two texts and writes the page, each within its length, and keeps none
+    // of them.
+    let (first, second) = (start(patterns), start(scheme));
+    let (lent, bytes) = (page.as_mut_ptr(), page.len());
+    let code = unsafe { library::judge_texts_on_page(first, patterns.len(), second, scheme.len(), lent, bytes) };
+    answer(code)
+}
+
+#[cfg(feature = "witness")]
+fn copy_of(pattern: &[u8], permutation: &[u8], page: &mut [u8]) -> Result<u64, u32> {
+    // As for `judge_on_page`.
+    let (first, second) = (start(pattern), start(permutation));
+    let (lent, bytes) = (page.as_mut_ptr(), page.len());
+    let code = unsafe { library::copy_of(first, pattern.len(), second, permutation.len(), lent, bytes) };
     answer(code)
 }
 

@@ -7,6 +7,9 @@ const PAGE: usize = 4_096;
 /// The longest text.
 const ROOM: usize = 32 * PAGE;
 
+/// What a page is filled with.
+pub const FILL: u8 = 7;
+
 const READ_WRITE: i32 = 1 | 2;
 const PRIVATE_ANONYMOUS: i32 = 2 | 0x20;
 
@@ -28,6 +31,13 @@ impl Guarded {
             assert_eq!(mprotect(start.add(ROOM), PAGE, 0), 0, "no guard");
             Guarded(std::slice::from_raw_parts_mut(start.cast(), ROOM))
         }
+    }
+
+    /// A page of so many bytes, each of them 7, at the end of the memory.
+    pub fn page(&mut self, length: usize) -> &mut [u8] {
+        let page = &mut self.0[ROOM - length..];
+        page.fill(FILL);
+        page
     }
 
     /// The text, at the end of the memory.

@@ -1,9 +1,10 @@
 //! The inputs of the differential test: a set's text and a scheme's, of many kinds.
 
-use crate::finder::{decide, find};
+use crate::finder::{decide, empty_vectors, find};
 use crate::judging::basis;
 use crate::model::*;
-use crate::notation::{pattern_pieces, scheme_pieces, write_patterns, write_scheme};
+use crate::notation::{pattern_pieces, read_patterns, read_scheme, scheme_pieces};
+use crate::notation::{write_patterns, write_scheme};
 use crate::published::published;
 use crate::random::Random;
 use crate::word::child;
@@ -65,7 +66,74 @@ pub fn fixed() -> Vec<Case> {
         }
     }
     ceilings(&mut cases);
+    for (patterns, scheme, ..) in examples() {
+        cases.push(case("examples of witnesses", patterns, scheme));
+    }
+    wrong_deletions(&mut cases);
     cases
+}
+
+/// Inputs that are refused 11 and were worked out by hand: the set, the scheme, the permutation
+/// shown and the positions of the copy.
+pub fn examples() -> Vec<(&'static str, &'static str, &'static [u8], &'static [u8])> {
+    let tree = "{(132,∅,{1}),(21,∅,{1}),(1,∅,{1}),(ε,∅,∅)}";
+    let root = "{(ε,∅,∅),(1,∅,{1})}";
+    let falling = "{(ε,∅,∅),(654321,∅,{6}),(54321,∅,{1}),(4321,∅,{1}),(321,∅,{1}),(21,∅,{1}),(1,∅,{1})}";
+    vec![
+        ("{123}", "{(ε,∅,∅),(1,∅,∅),(12,{⟨0,0,1⟩},{1}),(21,∅,{1})}", &[1, 4, 2, 3], &[1, 3, 4]),
+        ("{123}", "{(ε,∅,∅),(1,∅,∅),(12,∅,{1}),(21,∅,{1})}", &[1, 2, 3], &[1, 2, 3]),
+        ("{123,231}", "{(ε,∅,∅),(1,∅,∅),(12,{⟨1,0,0⟩,⟨0,0,1⟩},{1}),(21,{⟨0,1,1⟩},{1})}", &[1, 4, 2, 3], &[1, 3, 4]),
+        ("{132,12}", tree, &[1, 3, 2], &[1, 2, 3]),
+        ("{12,132}", tree, &[1, 3, 2], &[1, 2]),
+        ("{1}", root, &[1], &[1]),
+        ("{1423,1234}", root, &[1, 2, 3, 4], &[1, 2, 3, 4]),
+        ("{1234,1423}", root, &[1, 2, 3, 4], &[1, 2, 3, 4]),
+        ("{12345678}", falling, &[7, 6, 5, 4, 3, 1, 2, 8, 9, 10, 11, 12, 13], &[6, 7, 8, 9, 10, 11, 12, 13]),
+    ]
+}
+
+/// The published schemes with one position put in for another, or for an expansion; the sets as
+/// they are, and with a superfluous pattern in front or behind.
+fn wrong_deletions(cases: &mut Vec<Case>) {
+    let mut random = Random::new(1);
+    for p in published() {
+        let Ok(patterns) = read_patterns(p.patterns.as_bytes()) else { continue };
+        let Ok(scheme) = read_scheme(p.scheme.as_bytes()) else { continue };
+        for (i, entry) in scheme.entries.iter().enumerate() {
+            for r in 1..=entry.prefix.count() as u16 {
+                if entry.rule == Rule::Delete(r) {
+                    continue;
+                }
+                let (mut set, mut entries) = (patterns.items().to_vec(), scheme.entries.clone());
+                entries[i].rule = Rule::Delete(r);
+                let mut kind = "a wrong deletion";
+                if random.one_in(3) && add_superfluous(&mut random, &mut set) {
+                    kind = "a superfluous pattern";
+                }
+                cases.push(case(kind, write_patterns(&set), write_scheme(&entries)));
+            }
+        }
+    }
+}
+
+/// Puts a pattern that contains another one somewhere into a set; whether it could.
+fn add_superfluous(random: &mut Random, patterns: &mut Vec<Pattern>) -> bool {
+    if patterns.is_empty() || patterns.len() >= PATTERNS {
+        return false;
+    }
+    let mut word = random.pick(patterns).items().to_vec();
+    let more = random.within(1, 2);
+    for _ in 0..more {
+        let value = random.within(1, word.len() + 1) as u8;
+        word.iter_mut().for_each(|x| *x += (*x >= value) as u8);
+        word.insert(random.below(word.len() + 1), value);
+    }
+    let longer = Pattern::of(&word);
+    if word.len() > PATTERN_LENGTH || patterns.contains(&longer) {
+        return false;
+    }
+    patterns.insert(random.below(patterns.len() + 1), longer);
+    true
 }
 
 fn ceilings(cases: &mut Vec<Case>) {
@@ -186,7 +254,8 @@ fn ceilings(cases: &mut Vec<Case>) {
             cases.push(case("small schemes", set, text));
         }
     }
-    let mut pairs = vec![exact_need(), unpatterned(128), short_basis(), long_text(), late_gap_vectors(), gap_vectors(5, 96, 2), gap_vectors(6, 4, 2)];
+    let mut pairs = vec![exact_need(), unpatterned(128), short_basis(), long_text()];
+    pairs.extend([late_gap_vectors(), late_witness(), gap_vectors(5, 96, 2), gap_vectors(6, 4, 2)]);
     for set in [beginning_low(1), beginning_with(&[2, 1, 4, 3]), beginning_with(&[5, 6, 7, 8]), ending_with(&[8, 7, 6, 5])] {
         let mut pair = true_deletions(set, 30);
         pairs.push(with_live_gap(pair.clone()));
@@ -253,8 +322,8 @@ impl Maker {
     pub fn new(seed: u64, pool: usize) -> Maker {
         let mut maker = Maker { random: Random::new(seed), pool: vec![] };
         for p in published() {
-            let (patterns, scheme) = (crate::notation::read_patterns(p.patterns.as_bytes()), crate::notation::read_scheme(p.scheme.as_bytes()));
-            if let (Ok(patterns), Ok(scheme)) = (patterns, scheme) {
+            let (patterns, scheme) = (p.patterns.as_bytes(), p.scheme.as_bytes());
+            if let (Ok(patterns), Ok(scheme)) = (read_patterns(patterns), read_scheme(scheme)) {
                 maker.pool.push(Pair { patterns: patterns.items().to_vec(), entries: scheme.entries });
             }
         }
@@ -360,6 +429,37 @@ impl Maker {
                 made
             }
         }
+    }
+
+    /// An entry that deletes some position, rightly or not, at the front of what it needs; now and
+    /// then it has gap vectors, or the set superfluous patterns.
+    pub fn next_deletion(&mut self) -> Case {
+        let mut patterns = self.set();
+        let r = &mut self.random;
+        let mut kind = "random deletions";
+        if r.one_in(3) && add_superfluous(r, &mut patterns) {
+            kind = "random, superfluous patterns";
+        }
+        let longest = crate::judging::longest(&patterns);
+        let length = if r.one_in(4) { r.within(4, PREFIX_LENGTH) } else { r.within(1, 4) };
+        let prefix = r.permutation(length);
+        let mut entry = deleting(&prefix, r.within(1, length));
+        if r.one_in(3) {
+            let total = r.within(0, if longest + length > 9 { 1 } else { 3 });
+            entry.vectors = empty_vectors(&basis(&patterns), &prefix, total);
+            while entry.vectors.count() > 0 && r.one_in(3) {
+                entry.vectors.remove(r.below(entry.vectors.count()));
+            }
+            if entry.vectors.count() > 0 {
+                kind = "random, with gap vectors";
+            }
+        }
+        let mut entries = with_needed(entry);
+        if r.one_in(3) {
+            let at = r.below(entries.len());
+            entries.rotate_left(at);
+        }
+        self.texts(kind, &Pair { patterns, entries })
     }
 
     fn texts(&mut self, kind: &'static str, pair: &Pair) -> Case {

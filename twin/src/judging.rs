@@ -13,21 +13,30 @@ pub fn judge_texts(patterns: &[u8], scheme: &[u8]) -> Result<usize, Refusal> {
 
 /// Judges the claims of a well-formed scheme.
 pub fn judge(patterns: &Patterns, scheme: &Scheme) -> Result<usize, Refusal> {
+    judge_showing(patterns, scheme).0
+}
+
+/// The number of compared cells, or a refusal.
+type Verdict = Result<usize, Refusal>;
+
+/// The verdict on the claims of a well-formed scheme and, with refusal 11, the permutation that is
+/// lost.
+pub fn judge_showing(patterns: &Patterns, scheme: &Scheme) -> (Verdict, Option<Shown>) {
     let basis = basis(patterns.items());
     let entries = &scheme.entries[..];
     let live = |e: &Entry| e.vectors.items().iter().any(|v| !is_empty(&basis, e.prefix.items(), v.items()));
     if let Some(i) = entries.iter().position(live) {
-        return Err(Refusal(LIVE_GAP, i));
+        return (Err(Refusal(LIVE_GAP, i)), None);
     }
-    let irreversible = |e: &Entry| match e.rule {
-        Rule::Expand => false,
-        Rule::Delete(r) => violated(&basis, e.prefix.items(), e.vectors.items(), r as usize),
-    };
-    if let Some(i) = entries.iter().position(irreversible) {
-        return Err(Refusal(IRREVERSIBLE, i));
+    for (i, e) in entries.iter().enumerate() {
+        let Rule::Delete(r) = e.rule else { continue };
+        let shown = lost(&basis, e.prefix.items(), e.vectors.items(), r as usize);
+        if shown.is_some() {
+            return (Err(Refusal(IRREVERSIBLE, i)), shown);
+        }
     }
     let m = longest(patterns.items());
-    Ok(entries.iter().map(|e| compared(e, m)).sum())
+    (Ok(entries.iter().map(|e| compared(e, m)).sum()), None)
 }
 
 /// The length of the longest pattern, 0 for no patterns.
@@ -37,12 +46,13 @@ pub fn longest(patterns: &[Pattern]) -> usize {
 
 /// The patterns that contain no other pattern of the set. The others change no cell.
 pub fn basis(patterns: &[Pattern]) -> Vec<Pattern> {
-    let minimal = |p: &&Pattern| !patterns.iter().any(|q| q != *p && contains(q.items(), p.items()));
+    let within = |q: &Pattern, p: &Pattern| q != p && contains(q.items(), p.items()).is_some();
+    let minimal = |p: &&Pattern| !patterns.iter().any(|q| within(q, p));
     patterns.iter().filter(minimal).copied().collect()
 }
 
 pub fn avoids(patterns: &[Pattern], word: &[u8]) -> bool {
-    !patterns.iter().any(|p| contains(p.items(), word))
+    patterns.iter().all(|p| contains(p.items(), word).is_none())
 }
 
 /// Whether g is at least one of the vectors in each component.
@@ -177,24 +187,55 @@ fn cut(pattern: &Pattern, total: usize) -> Cut<'_> {
     Cut { pattern, head, below, tail }
 }
 
-/// Whether deleting position r is no bijection for some spacing at or above no vector. There is
-/// such a spacing exactly if there is one of these: a prefix at a spacing g followed by as many
-/// values as g has, in the order of the last entries of a pattern, with a copy of the pattern
-/// through position r and all the last entries, while the word without position r avoids.
+/// Whether deleting position r is no bijection for some spacing at or above no vector.
 pub fn violated(basis: &[Pattern], prefix: &[u8], vectors: &[Vector], r: usize) -> bool {
+    lost(basis, prefix, vectors, r).is_some()
+}
+
+/// The permutation that deleting position r loses, where there is one: of those at a spacing at or
+/// above no vector that contain a pattern, while they avoid without position r, the one with the
+/// least total, then the least spacing, then the least itself. At the least total each of them is a
+/// candidate: a prefix at a spacing g followed by as many values as g has, in the order of the last
+/// entries of a pattern, with a copy of the pattern through position r and all the last entries;
+/// any other would stay lost without an entry that some copy in it leaves out, at a smaller total.
+/// So the least of the candidates of all patterns at the first spacing that has one is the one
+/// shown; the first one found there need not be the least.
+pub fn lost(basis: &[Pattern], prefix: &[u8], vectors: &[Vector], r: usize) -> Option<Shown> {
     let k = prefix.len();
+    let mut least: Option<Shown> = None;
     (0..longest(basis)).any(|total| {
         let fitting = basis.iter().filter(|p| total < p.count() && p.count() <= total + k);
         let cuts: Vec<Cut> = fitting.map(|p| cut(p, total)).collect();
         !cuts.is_empty()
             && each_spacing(k + 1, total, &mut |g| {
-                !covered(vectors, g) && {
-                    let levels = levels(prefix, g);
-                    let placed = |c: &Cut| placed(c, prefix, &levels, r - 1, &mut [0; PATTERN_LENGTH], 0, 0, false);
-                    cuts.iter().any(|c| placed(c) && rest_avoids(basis, prefix, g, r, total, c))
+                if covered(vectors, g) {
+                    return false;
                 }
+                let levels = levels(prefix, g);
+                for c in &cuts {
+                    let chosen = &mut [0; PATTERN_LENGTH];
+                    let placed = placed(c, prefix, &levels, r - 1, chosen, 0, 0, false);
+                    if placed && rest_avoids(basis, prefix, g, r, total, c) {
+                        let word = candidate(prefix, g, total, c);
+                        if least.is_none_or(|l| word.items() < l.items()) {
+                            least = Some(word);
+                        }
+                    }
+                }
+                least.is_some()
             })
-    })
+    });
+    least
+}
+
+/// The candidate of a pattern at a spacing.
+fn candidate(prefix: &[u8], g: &[u8], total: usize, cut: &Cut) -> Shown {
+    let (first, free) = values(prefix, g);
+    let mut word = Shown::of(&first[..prefix.len()]);
+    for &t in &cut.tail[..total] {
+        word.push(free[t as usize - 1]);
+    }
+    word
 }
 
 /// For each position, how many of the other values are smaller.
@@ -226,7 +267,7 @@ fn rest_avoids(basis: &[Pattern], prefix: &[u8], g: &[u8], r: usize, total: usiz
         n += 1;
     }
     let word = &word[..n];
-    !contains(cut.pattern.items(), word) && avoids(basis, word)
+    contains(cut.pattern.items(), word).is_none() && avoids(basis, word)
 }
 
 /// Whether the head goes on from `depth` with positions from `from` on, at the levels that it

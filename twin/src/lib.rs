@@ -3,6 +3,7 @@
 //! their times.
 
 pub mod clock;
+pub mod containment;
 pub mod counting;
 pub mod engine;
 pub mod finder;
@@ -16,5 +17,6 @@ pub mod published;
 pub mod random;
 pub mod table;
 pub mod wellformed;
+pub mod witness;
 pub mod word;
 pub mod worst;

@@ -1,34 +1,47 @@
-//! The slow mode: the verdict and the counts by listing, word for word as document 01 defines them,
-//! for small lengths only.
+//! The slow mode: the verdict, the counts and the witness by listing, word for word as the
+//! documents define them, for small lengths only.
 
 use crate::model::*;
-use crate::word::{deleted, reduce};
+use crate::word::{contains, deleted, reduce};
 use std::collections::HashMap;
 
 /// Sizes of cells up to this length are listed.
 pub const LISTED: usize = 8;
 
-/// Containment by trying every choice of positions.
-fn contains_slowly(pattern: &[u8], word: &[u8]) -> bool {
-    (0u32..1 << word.len()).filter(|set| set.count_ones() as usize == pattern.len()).any(|set| {
-        let chosen: Vec<u8> = (0..word.len()).filter(|i| set >> i & 1 == 1).map(|i| word[i]).collect();
+/// Every copy of the pattern in the word, as a list of positions that count from 1: every choice of
+/// positions is tried.
+fn copies<'a>(pattern: &'a [u8], word: &'a [u8]) -> impl Iterator<Item = Vec<u8>> + 'a {
+    let sets = (0u32..1 << word.len()).filter(|set| set.count_ones() as usize == pattern.len());
+    let chosen = |set: u32, i: u8| set >> (i - 1) & 1 == 1;
+    let all = 1..=word.len() as u8;
+    let choices = sets.map(move |set| all.clone().filter(|&i| chosen(set, i)).collect());
+    choices.filter(move |positions: &Vec<u8>| {
+        let chosen: Vec<u8> = positions.iter().map(|&i| word[i as usize - 1]).collect();
         reduce(&chosen) == pattern
     })
 }
 
+/// Containment by trying every choice of positions.
+fn contains_slowly(pattern: &[u8], word: &[u8]) -> bool {
+    copies(pattern, word).next().is_some()
+}
+
+/// The lexicographically first copy, as the least of all copies.
+pub fn first_copy_slowly(pattern: &[u8], word: &[u8]) -> Option<Vec<u8>> {
+    copies(pattern, word).min()
+}
+
+/// The permutations of length n in lexicographic order, by their first entry.
 fn permutations(n: usize) -> Vec<Vec<u8>> {
     if n == 0 {
         return vec![vec![]];
     }
-    let mut all = vec![];
-    for shorter in permutations(n - 1) {
-        for at in 0..n {
-            let mut longer = shorter.clone();
-            longer.insert(at, n as u8);
-            all.push(longer);
-        }
-    }
-    all
+    let shorter = permutations(n - 1);
+    let beginning = |first: u8| {
+        let behind = move |x: &u8| if *x >= first { x + 1 } else { *x };
+        shorter.iter().map(move |rest| [first].into_iter().chain(rest.iter().map(behind)).collect())
+    };
+    (1..=n as u8).flat_map(beginning).collect()
 }
 
 /// The sizes of the cells of one prefix length and one length, by prefix and spacing.
@@ -99,14 +112,11 @@ impl Listing {
             let shorter = deleted(p, r as usize);
             for total in 0..m {
                 for g in spacings(p.len() + 1, total) {
-                    if entry.vectors.items().iter().any(|v| v.items().iter().zip(&g).all(|(&b, &x)| b as usize <= x)) {
+                    if is_covered(entry, &g) {
                         continue;
                     }
                     compared += 1;
-                    let mut merged = g.clone();
-                    merged[value - 1] += merged[value];
-                    merged.remove(value);
-                    if self.size(p, &g) != self.size(shorter.items(), &merged) {
+                    if self.size(p, &g) != self.size(shorter.items(), &merged(&g, value)) {
                         return Some(Err(Refusal(IRREVERSIBLE, i)));
                     }
                 }
@@ -114,6 +124,137 @@ impl Listing {
         }
         Some(Ok(compared))
     }
+
+    /// The bytes of the witness for an entry: the first compared spacing at which the sizes of the
+    /// two cells differ, the first permutation that is lost there, and the first copy in it of the
+    /// earliest pattern that has one. None if sizes differ at no length up to `limit`.
+    pub fn witness(&mut self, entry: &Entry, limit: usize) -> Option<Vec<u8>> {
+        let Rule::Delete(r) = entry.rule else { return None };
+        let m = self.patterns.iter().map(|p| p.len()).max().unwrap_or(0);
+        let (p, r) = (entry.prefix.items(), r as usize);
+        let value = p[r - 1] as usize;
+        let shorter = deleted(p, r);
+        for total in (0..m).take_while(|total| p.len() + total <= limit) {
+            for g in spacings(p.len() + 1, total) {
+                if is_covered(entry, &g) {
+                    continue;
+                }
+                if self.size(p, &g) != self.size(shorter.items(), &merged(&g, value)) {
+                    let words = permutations(p.len() + total);
+                    let word = words.iter().find(|word| self.is_lost(p, r, &g, word));
+                    return Some(self.page(word.expect("where sizes differ a permutation is lost")));
+                }
+            }
+        }
+        None
+    }
+
+    /// Whether a permutation has the prefix p and the spacing g and contains a pattern, while the
+    /// reduced rest without position r belongs to the cell of the shorter prefix and merged
+    /// spacing.
+    fn is_lost(&self, p: &[u8], r: usize, g: &[usize], word: &[u8]) -> bool {
+        let (k, n) = (p.len(), word.len());
+        if reduce(&word[..k]) != p || spacing(&word[..k], n) != g {
+            return false;
+        }
+        let mut rest = word.to_vec();
+        rest.remove(r - 1);
+        let rest = reduce(&rest);
+        let mut shorter = p.to_vec();
+        shorter.remove(r - 1);
+        let first = &rest[..k - 1];
+        let contains = |word: &[u8]| self.patterns.iter().any(|p| contains_slowly(p, word));
+        let merged = merged(g, p[r - 1] as usize);
+        let belongs = reduce(first) == reduce(&shorter) && spacing(first, n - 1) == merged;
+        belongs && !contains(&rest) && contains(word)
+    }
+
+    /// The bytes of the witness that shows a permutation.
+    fn page(&self, word: &[u8]) -> Vec<u8> {
+        let mut copies = self.patterns.iter().filter_map(|p| first_copy_slowly(p, word));
+        let copy = copies.next().expect("what is shown contains a pattern");
+        let mut page = vec![word.len() as u8];
+        page.extend(word);
+        page.resize(16, 0);
+        page.push(copy.len() as u8);
+        page.extend(copy);
+        page.resize(32, 0);
+        page
+    }
+
+    /// Whether 32 bytes are a witness for an entry, at any length: what they show is lost at a
+    /// compared spacing, and the copy is the right one. That nothing smaller is lost is not looked
+    /// at.
+    pub fn admits(&self, entry: &Entry, bytes: &[u8]) -> bool {
+        let Rule::Delete(r) = entry.rule else { return false };
+        let (p, n) = (entry.prefix.items(), bytes[0] as usize);
+        let m = self.patterns.iter().map(|p| p.len()).max().unwrap_or(0);
+        if n < p.len() || n >= p.len() + m {
+            return false;
+        }
+        let word = &bytes[1..=n];
+        let mut sorted = word.to_vec();
+        sorted.sort();
+        if sorted != (1..=n as u8).collect::<Vec<u8>>() {
+            return false;
+        }
+        let g = spacing(&word[..p.len()], n);
+        !is_covered(entry, &g) && self.is_lost(p, r as usize, &g, word) && self.page(word) == bytes
+    }
+
+    /// The bytes of the witness for an entry at greater lengths: at each compared spacing in order,
+    /// all words that begin with the prefix there are listed in lexicographic order, up to a number
+    /// of words; the first that is lost is shown. None if it is not among them.
+    pub fn witness_among(&self, entry: &Entry, number: usize) -> Option<Vec<u8>> {
+        let Rule::Delete(r) = entry.rule else { return None };
+        let m = self.patterns.iter().map(|p| p.len()).max().unwrap_or(0);
+        let p = entry.prefix.items();
+        let avoids = |word: &[u8]| self.patterns.iter().all(|p| contains(p, word).is_none());
+        let mut listed = 0;
+        for total in 0..m {
+            let orders = permutations(total);
+            for g in spacings(p.len() + 1, total) {
+                if is_covered(entry, &g) {
+                    continue;
+                }
+                listed += orders.len();
+                if listed > number {
+                    return None;
+                }
+                // the value of the prefix's entry x has below it x - 1 others of the prefix, and
+                // the free values of the components before it
+                let value = |x: &u8| x + g[..*x as usize].iter().sum::<usize>() as u8;
+                let first: Vec<u8> = p.iter().map(value).collect();
+                let values = 1..=(p.len() + total) as u8;
+                let free: Vec<u8> = values.filter(|v| !first.contains(v)).collect();
+                for order in &orders {
+                    let mut word = first.clone();
+                    word.extend(order.iter().map(|&i| free[i as usize - 1]));
+                    if !avoids(&word) {
+                        let shown = word.clone();
+                        word.remove(r as usize - 1);
+                        if avoids(&word) {
+                            return Some(self.page(&shown));
+                        }
+                    }
+                }
+            }
+        }
+        None
+    }
+}
+
+/// Whether a spacing is at least one of the entry's vectors in each component.
+fn is_covered(entry: &Entry, g: &[usize]) -> bool {
+    entry.vectors.items().iter().any(|v| v.items().iter().zip(g).all(|(&b, &x)| b as usize <= x))
+}
+
+/// The spacing once the prefix's value is gone: the components on both sides of it are one.
+fn merged(g: &[usize], value: usize) -> Vec<usize> {
+    let mut merged = g.to_vec();
+    merged[value - 1] += merged[value];
+    merged.remove(value);
+    merged
 }
 
 /// The spacing vector of the first entries of a permutation of length n.

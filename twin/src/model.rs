@@ -11,6 +11,8 @@ pub const LONGEST: usize = 20;
 pub const LONGEST_PLAIN: usize = 9;
 pub const PATTERN_TEXT: usize = 1_024;
 pub const SCHEME_TEXT: usize = 32_768;
+/// The bytes of a witness on a lent page.
+pub const WITNESS: usize = 32;
 
 /// A list that keeps its first N items and the number of all of them, so that what is too long is
 /// known to be so and takes no more room.
@@ -72,6 +74,10 @@ pub type Pattern = Kept<u8, PATTERN_LENGTH>;
 pub type Prefix = Kept<u8, PREFIX_LENGTH>;
 pub type Vector = Kept<u16, COMPONENTS>;
 pub type Patterns = Kept<Pattern, PATTERNS>;
+/// The positions of a copy, counted from 1.
+pub type Positions = Kept<u8, PATTERN_LENGTH>;
+/// A permutation that a witness shows: a prefix and as many values as a compared spacing has.
+pub type Shown = Kept<u8, { PREFIX_LENGTH + PATTERN_LENGTH - 1 }>;
 
 #[derive(Clone, Copy, Debug, PartialEq, Eq, Default)]
 pub enum Rule {
@@ -127,3 +133,4 @@ pub const NO_TARGET: u32 = 9;
 pub const LIVE_GAP: u32 = 10;
 pub const IRREVERSIBLE: u32 = 11;
 pub const SHORT_TABLE: u32 = 12;
+pub const SHORT_PAGE: u32 = 13;

@@ -1,6 +1,6 @@
 //! Words of distinct numbers: permutations, containment, deletion, children.
 
-use crate::model::Kept;
+use crate::model::{Kept, Positions, PATTERN_LENGTH};
 
 /// A prefix, or a child of one.
 pub type Short = Kept<u8, 8>;
@@ -17,21 +17,24 @@ pub fn is_permutation(word: &[u8]) -> bool {
     seen.count_ones() as usize == word.len()
 }
 
-/// Whether some entries of the word, in their order, compare pairwise as the pattern's entries do.
-pub fn contains(pattern: &[u8], word: &[u8]) -> bool {
-    if pattern.is_empty() {
-        return true;
-    }
+/// The positions of the lexicographically first copy of the pattern in the word: of entries that,
+/// in their order, compare pairwise as the pattern's entries do. The pattern has at most eight.
+pub fn contains(pattern: &[u8], word: &[u8]) -> Option<Positions> {
     if pattern.len() > word.len() {
-        return false;
+        return None;
     }
-    let mut chosen = [0u8; 32];
-    extend(pattern, word, &mut chosen, 0, 0)
+    let (mut chosen, mut found) = ([0; PATTERN_LENGTH], [0; PATTERN_LENGTH]);
+    let there = extend(pattern, word, &mut chosen, &mut found, 0, 0);
+    there.then(|| Positions::of(&found[..pattern.len()]))
 }
 
+/// Up to eight entries, or as many positions.
+type Eight = [u8; PATTERN_LENGTH];
+
 /// Whether the entries chosen for the pattern's first `depth` entries go on to a copy, with
-/// positions from `from` on.
-fn extend(pattern: &[u8], word: &[u8], chosen: &mut [u8; 32], depth: usize, from: usize) -> bool {
+/// positions from `from` on; those that are found. Positions are tried in ascending order at each
+/// depth, so the first copy met is the lexicographically first.
+fn extend(pattern: &[u8], word: &[u8], chosen: &mut Eight, found: &mut Eight, depth: usize, from: usize) -> bool {
     if depth == pattern.len() {
         return true;
     }
@@ -39,7 +42,8 @@ fn extend(pattern: &[u8], word: &[u8], chosen: &mut [u8; 32], depth: usize, from
     for at in from..=last {
         if fits(pattern, chosen, depth, word[at]) {
             chosen[depth] = word[at];
-            if extend(pattern, word, chosen, depth + 1, at + 1) {
+            if extend(pattern, word, chosen, found, depth + 1, at + 1) {
+                found[depth] = at as u8 + 1;
                 return true;
             }
         }
@@ -50,7 +54,7 @@ fn extend(pattern: &[u8], word: &[u8], chosen: &mut [u8; 32], depth: usize, from
 /// Whether x compares with the chosen entries as the pattern's entry at `depth` does with those
 /// before it.
 #[inline]
-fn fits(pattern: &[u8], chosen: &[u8; 32], depth: usize, x: u8) -> bool {
+fn fits(pattern: &[u8], chosen: &Eight, depth: usize, x: u8) -> bool {
     let p = pattern[depth];
     (0..depth).all(|i| (pattern[i] < p) == (chosen[i] < x))
 }
@@ -61,10 +65,10 @@ pub fn ends_copy(pattern: &[u8], word: &[u8]) -> bool {
     if k == 0 || k > n {
         return k == 0;
     }
-    ending(pattern, word, &mut [0u8; 32], 0, 0)
+    ending(pattern, word, &mut [0; PATTERN_LENGTH], 0, 0)
 }
 
-fn ending(pattern: &[u8], word: &[u8], chosen: &mut [u8; 32], depth: usize, from: usize) -> bool {
+fn ending(pattern: &[u8], word: &[u8], chosen: &mut Eight, depth: usize, from: usize) -> bool {
     let (k, n) = (pattern.len(), word.len());
     let end = word[n - 1];
     if depth + 1 == k {

@@ -80,7 +80,7 @@ fn with_targets(needed: &BTreeMap<Vec<u8>, usize>, prefix: &[u8]) -> BTreeMap<Ve
     all
 }
 
-fn deleting(prefix: &[u8], r: usize) -> Entry {
+pub fn deleting(prefix: &[u8], r: usize) -> Entry {
     Entry { prefix: Prefix::of(prefix), rule: Rule::Delete(r as u16), ..Entry::default() }
 }
 
@@ -164,10 +164,26 @@ pub fn late_gap_vectors() -> Pair {
     let vectors = [[4, 0, 0, 0, 0, 0, 4], [0, 4, 0, 0, 0, 0, 4]];
     let mut entry = deleting(&[1, 6, 3, 2, 4, 5], 2);
     vectors.iter().for_each(|v| entry.vectors.push(Vector::of(v)));
+    Pair { patterns: beginning_with(&[1, 2, 3, 4]), entries: with_needed(entry) }
+}
+
+/// A deletion whose first lost permutation has total 7 and stands late among the spacings of that
+/// total; many candidates before it contain a pattern without the deleted position as well.
+pub fn late_witness() -> Pair {
+    let entry = deleting(&[2, 4, 5, 6, 3, 1], 6);
+    Pair { patterns: beginning_with(&[1, 2, 3, 4]), entries: with_needed(entry) }
+}
+
+/// A well-formed scheme that begins with an entry, which deletes: behind it stand the deletions
+/// that it needs, and ε.
+pub fn with_needed(entry: Entry) -> Vec<Entry> {
+    let Rule::Delete(r) = entry.rule else { panic!("the entry expands") };
+    let target = deleted(entry.prefix.items(), r as usize);
+    let needed = with_targets(&BTreeMap::new(), target.items());
     let mut entries = vec![entry];
-    entries.extend(with_targets(&BTreeMap::new(), &[1, 3, 2, 4, 5]).iter().rev().map(|(p, &r)| deleting(p, r)));
+    entries.extend(needed.iter().rev().map(|(p, &r)| deleting(p, r)));
     entries.push(Entry::default());
-    Pair { patterns: beginning_with(&[1, 2, 3, 4]), entries }
+    entries
 }
 
 /// No patterns, and 128 entries, most of them of length 6 with seven gap vectors. ε has a live gap

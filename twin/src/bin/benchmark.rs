@@ -14,13 +14,17 @@ use twin::counting::{count, need, plain};
 use twin::engine;
 use twin::inputs::{unpatterned, Pair};
 use twin::judging::judge_texts;
+use twin::model::WITNESS;
 use twin::notation::{read_patterns, read_scheme, write_patterns, write_scheme};
 use twin::published::published;
+use twin::witness::judge_texts_on_page;
 use twin::worst::*;
 
 #[derive(Clone, Copy)]
 enum Work {
     Judge,
+    /// judging with a page for the witness
+    Witness,
     Count(usize),
     Plain(usize),
 }
@@ -34,31 +38,42 @@ struct Input {
     target: Option<f64>,
 }
 
-/// A call of the engine or of the second implementation, on an input; its answer as a number: the
-/// count, or 0 and the number of the refusal.
-type Call = fn(&Input) -> Option<u64>;
+/// The answer as a number: the count, or 0 and the number of the refusal; and the page, which only
+/// a witness is written to.
+type Answer = (u64, [u8; WITNESS]);
 
-fn by_engine(input: &Input) -> Option<u64> {
+/// A call of the engine or of the second implementation, on an input.
+type Call = fn(&Input) -> Option<Answer>;
+
+fn by_engine(input: &Input) -> Option<Answer> {
     let (patterns, scheme) = (&input.patterns[..], &input.scheme[..]);
-    match input.work {
+    let mut page = [0; WITNESS];
+    let number = match input.work {
         Work::Judge => Some(engine::judge(patterns, scheme) as u64),
+        Work::Witness => {
+            let number = |answer: Result<u64, u32>| answer.map_or_else(|r| r as u64, |_| 0);
+            engine::JUDGE_ON_PAGE.map(|f| number(f(patterns, scheme, &mut page)))
+        }
         Work::Count(n) => {
             let mut cells = table(input, n);
             engine::COUNT.map(|f| f(patterns, scheme, n, &mut cells).unwrap_or_else(|r| r as u64))
         }
         Work::Plain(n) => engine::PLAIN.map(|f| f(patterns, scheme, n).unwrap_or_else(|r| r as u64)),
-    }
+    };
+    number.map(|number| (number, page))
 }
 
-fn by_twin(input: &Input) -> Option<u64> {
+fn by_twin(input: &Input) -> Option<Answer> {
     let (patterns, scheme) = (&input.patterns[..], &input.scheme[..]);
+    let mut page = [0; WITNESS];
     let lists = || read_patterns(patterns).and_then(|p| Ok((p, read_scheme(scheme)?)));
     let answer = match input.work {
         Work::Judge => judge_texts(patterns, scheme).map(|_| 0),
+        Work::Witness => judge_texts_on_page(patterns, scheme, &mut page).map(|_| 0),
         Work::Count(n) => lists().and_then(|(p, s)| count(&p, &s, n, &mut table(input, n))),
         Work::Plain(n) => lists().and_then(|(p, s)| plain(&p, &s, n)),
     };
-    Some(answer.unwrap_or_else(|r| r.0 as u64))
+    Some((answer.unwrap_or_else(|r| r.0 as u64), page))
 }
 
 fn table(input: &Input, n: usize) -> Vec<u64> {
@@ -122,6 +137,10 @@ fn inputs(wanted: impl Fn(&str) -> bool, each: impl Fn(&Input)) {
     add("worst: a live gap beside true deletions", worst, judge, &|| texts(with_live_gap(true_deletions(beginning_low(3), 100))));
     add("worst: long set, short basis", worst, judge, &|| texts(short_basis()));
 
+    let refused = "{(ε,∅,∅),(1,∅,∅),(12,{⟨0,0,1⟩},{1}),(21,∅,{1})}";
+    add("witness: {123}, 4 entries", None, Work::Witness, &|| (set(), refused.as_bytes().to_vec()));
+    add("witness: long prefix, lost at total 7", None, Work::Witness, &|| texts(late_witness()));
+
     add("count: {2143,2341}, n = 20", Some(2.5), Work::Count(20), &of("{2143,2341}"));
     add("count: 321-hexagon, n = 20", Some(2.5), Work::Count(20), &of("{321,46718235,56718234,46781235,56781234}"));
     add("count: no patterns, 128 entries, n = 20", Some(2.5), Work::Count(20), &|| texts(unpatterned(128)));
@@ -146,10 +165,10 @@ fn main() {
 fn row(input: &Input, instructions: bool) {
     let answer = by_twin(input).expect("the second implementation does all work");
     let found = by_engine(input);
-    assert!(found.is_none() || found == Some(answer), "{}: the engine says {found:?}, the second implementation {answer}", input.name);
-    let said = match (input.work, answer) {
-        (Work::Judge, 0) => "accepted".to_string(),
-        (Work::Judge, number) => format!("refused {number}"),
+    assert!(found.is_none() || found == Some(answer), "{}: the engine says {found:?}, the second implementation {answer:?}", input.name);
+    let said = match (input.work, answer.0) {
+        (Work::Judge | Work::Witness, 0) => "accepted".to_string(),
+        (Work::Judge | Work::Witness, number) => format!("refused {number}"),
         (_, count) => count.to_string(),
     };
     let target = input.target.map_or("-".into(), |t| format!("{t}"));
@@ -222,23 +241,29 @@ fn folder() -> PathBuf {
 
 /// The ratio of instructions, for calls of at most 30 milliseconds.
 fn instruction_ratio(input: &Input, engine: Option<f64>) -> Option<f64> {
-    if engine? > 0.03 || !matches!(input.work, Work::Judge) {
+    let work = match input.work {
+        Work::Judge => "judge",
+        Work::Witness => "witness",
+        _ => return None,
+    };
+    if engine? > 0.03 {
         return None;
     }
     std::fs::write(folder().join("input.patterns"), &input.patterns).ok()?;
     std::fs::write(folder().join("input.scheme"), &input.scheme).ok()?;
     let of = |who: &str| -> Option<f64> {
-        let (none, some) = (collected(who, 0)?, collected(who, 5)?);
+        let (none, some) = (collected(who, 0, work)?, collected(who, 5, work)?);
         Some((some - none) / 5.0)
     };
     Some(of("engine")? / of("twin")?)
 }
 
 /// The instructions of a process that calls the engine or the second implementation so many times.
-fn collected(who: &str, times: usize) -> Option<f64> {
+fn collected(who: &str, times: usize, work: &str) -> Option<f64> {
     let me = std::env::current_exe().ok()?;
     let words = ["--tool=callgrind", "--callgrind-out-file=/dev/null"];
-    let run = Command::new("valgrind").args(words).arg(me).args(["repeat", who, &times.to_string()]).output().ok()?;
+    let repeat = ["repeat", who, &times.to_string(), work];
+    let run = Command::new("valgrind").args(words).arg(me).args(repeat).output().ok()?;
     let said = String::from_utf8_lossy(&run.stderr).into_owned();
     let line = said.lines().find_map(|l| l.split("Collected : ").nth(1))?;
     line.trim().parse().ok()
@@ -248,7 +273,8 @@ fn collected(who: &str, times: usize) -> Option<f64> {
 fn repeat(words: &[String]) {
     let read = |name| std::fs::read(folder().join(name)).expect("the input's file");
     let (patterns, scheme) = (read("input.patterns"), read("input.scheme"));
-    let input = Input { name: "", work: Work::Judge, patterns, scheme, target: None };
+    let work = if words[2] == "witness" { Work::Witness } else { Work::Judge };
+    let input = Input { name: "", work, patterns, scheme, target: None };
     let call: Call = if words[0] == "engine" { by_engine } else { by_twin };
     let times: usize = words[1].parse().expect("a number");
     run(&input, call, times);

@@ -3,7 +3,8 @@
 //!
 //! `differential [COUNT] [SEED]` makes COUNT random inputs beside the fixed ones. It prints how
 //! many there were of each kind, how many were accepted and refused, and each disagreement with its
-//! input. The exit status is 1 where there was a disagreement, a crash or a hang.
+//! input. The exit status is 1 where there was a disagreement, a crash or a hang, or too few
+//! refusals 11.
 
 use std::collections::BTreeMap;
 use std::fs;
@@ -12,22 +13,29 @@ use std::process::{exit, Command};
 use std::sync::atomic::{AtomicU64, Ordering};
 use std::thread;
 use std::time::{Duration, Instant, SystemTime};
+use twin::containment::copy_of;
 use twin::counting::{count, need, plain};
 use twin::engine;
-use twin::guarded::Guarded;
-use twin::inputs::{exact_need, fixed, Case, Maker};
+use twin::guarded::{Guarded, FILL};
+use twin::inputs::{exact_need, examples, fixed, Case, Maker};
 use twin::judging::judge_texts;
-use twin::listing::Listing;
-use twin::model::{Refusal, LONGEST_PLAIN};
+use twin::listing::{first_copy_slowly, Listing};
+use twin::model::{Entry, Refusal, IRREVERSIBLE, LONGEST_PLAIN, WITNESS};
 use twin::notation::{read_patterns, read_scheme, write_patterns, write_scheme};
 use twin::published::published;
 use twin::random::Random;
 use twin::table::table;
+use twin::witness::judge_texts_on_page;
 
 /// The stack that include/judge.h asks of a thread that calls the judge.
 const STACK: usize = 512 * 1024;
 /// A case that takes longer than this is a hang.
 const PATIENCE: u64 = 120;
+/// The lengths of the pages that judging is lent.
+const PAGES: [usize; 5] = [0, 1, 31, WITNESS, 40];
+/// A run that meets fewer refusals 11, or compares fewer witnesses with listing, or finds fewer
+/// copies, than this proves too little, and fails.
+const ENOUGH: usize = 500;
 
 static STARTED: AtomicU64 = AtomicU64::new(0);
 
@@ -88,16 +96,23 @@ fn watch() {
 
 struct Test {
     seed: u64,
-    /// where the engine's two texts stand
+    /// where the engine's two texts stand, and its page
     texts: [Guarded; 2],
+    page: Guarded,
     kinds: BTreeMap<&'static str, (usize, usize)>,
     verdicts: BTreeMap<u32, usize>,
     /// inputs whose claims were judged; the first ones and one in eight of the others are listed
     claims: usize,
     listed: usize,
     counted: usize,
+    /// witnesses; those compared with listing, and with listing at greater lengths
+    witnesses: usize,
+    listed_witnesses: usize,
+    long_witnesses: usize,
+    longest_witness: u8,
     wrong: usize,
     slowest: (Duration, &'static str),
+    calls: Duration,
     /// pairs of lines for the program that judges them, with the lines that it is to print
     lines: Vec<(Vec<u8>, String)>,
 }
@@ -108,13 +123,19 @@ impl Test {
         Test {
             seed,
             texts: [Guarded::new(), Guarded::new()],
+            page: Guarded::new(),
             kinds: BTreeMap::new(),
             verdicts: BTreeMap::new(),
             claims: 0,
             listed: 0,
             counted: 0,
+            witnesses: 0,
+            listed_witnesses: 0,
+            long_witnesses: 0,
+            longest_witness: 0,
             wrong: 0,
             slowest,
+            calls: Duration::ZERO,
             lines: vec![],
         }
     }
@@ -128,6 +149,7 @@ impl Test {
             }
             self.published_counts(&p);
         }
+        self.examples();
         for case in fixed() {
             self.judge(&case);
         }
@@ -137,7 +159,14 @@ impl Test {
             let case = maker.next_case();
             self.judge(&case);
         }
+        for _ in 0..count / 8 {
+            let case = maker.next_deletion();
+            self.judge(&case);
+        }
         self.print();
+        self.enough("refusals 11", self.witnesses);
+        self.enough("witnesses compared with listing", self.listed_witnesses);
+        self.copies();
         self.judgements();
         self.tables(&mut maker);
         println!("{} disagreements", self.wrong);
@@ -151,13 +180,15 @@ impl Test {
         input.push(b'\n');
         input.extend(&case.scheme);
         fs::write(current(), &input).expect("the file of the input at work");
-        let twin = judge_texts(&case.patterns, &case.scheme);
+        let mut page = [FILL; PAGES[4]];
+        let twin = judge_texts_on_page(&case.patterns, &case.scheme, &mut page);
         let number = twin.map_or_else(|r| r.0, |_| 0);
         let [first, second] = &mut self.texts;
         let (first, second) = (first.place(&case.patterns), second.place(&case.scheme));
         let start = Instant::now();
         let engine = engine::judge(first, second);
         let took = start.elapsed();
+        self.calls += took;
         if took > self.slowest.0 {
             self.slowest = (took, case.kind);
         }
@@ -172,16 +203,150 @@ impl Test {
             input.push(b'\n');
             self.lines.push((input, line(twin)));
         }
+        self.pages(case, twin, &page);
         if number == 0 || number >= 10 {
             self.list(case, twin);
         }
+        if let Err(Refusal(IRREVERSIBLE, index)) = twin {
+            self.witness(case, index, &page[..WITNESS]);
+        }
+    }
+
+    /// The engine's judging with pages of several lengths: the answer and the whole page. The
+    /// second implementation has judged on the longest one, and shows the same on any that is long
+    /// enough.
+    fn pages(&mut self, case: &Case, verdict: Result<usize, Refusal>, longest: &[u8]) {
+        let Some(judge) = engine::JUDGE_ON_PAGE else { return };
+        for length in PAGES {
+            let mut page = longest[..length].to_vec();
+            let mut expected = verdict;
+            if length < WITNESS {
+                page.fill(FILL);
+                expected = judge_texts_on_page(&case.patterns, &case.scheme, &mut page);
+            }
+            let expected = (expected.map(|cells| cells as u64).map_err(|r| r.0), &page[..]);
+            let [first, second] = &mut self.texts;
+            let lent = self.page.page(length);
+            let answer = judge(first.place(&case.patterns), second.place(&case.scheme), lent);
+            let found = (answer, &*lent);
+            if found != expected {
+                let (expected, found) = (format!("{expected:?}"), format!("{found:?}"));
+                let what = format!("the engine's page of {length} bytes");
+                self.report(&what, &expected, &found, &case.patterns, &case.scheme);
+            }
+        }
+    }
+
+    /// The witness of the fast mode against the slow one's, where the lengths are small.
+    fn witness(&mut self, case: &Case, index: usize, fast: &[u8]) {
+        let patterns = read_patterns(&case.patterns).expect("a set that was judged");
+        let scheme = read_scheme(&case.scheme).expect("a scheme that was judged");
+        let entry: &Entry = &scheme.entries[index];
+        let mut listing = Listing::of(&patterns);
+        let limit = if self.witnesses.is_multiple_of(32) { 8 } else { 6 };
+        let mut wrong = |what, slow: &str| {
+            self.report(what, slow, &format!("{fast:?}"), &case.patterns, &case.scheme);
+        };
+        if !listing.admits(entry, fast) {
+            wrong("the fast mode's witness", "a permutation that is lost, and its copy");
+        }
+        // What has no witness up to a length is shown with a greater one.
+        let slow = listing.witness(entry, limit);
+        let agrees = match &slow {
+            Some(slow) => slow == fast,
+            None => fast[0] as usize > limit,
+        };
+        if !agrees {
+            wrong("the slow witness and the fast one", &format!("{slow:?}"));
+        }
+        let longer = if slow.is_none() { listing.witness_among(entry, 3_000) } else { None };
+        if longer.as_ref().is_some_and(|longer| longer != fast) {
+            wrong("the longer slow witness and the fast one", &format!("{longer:?}"));
+        }
+        self.witnesses += 1;
+        self.listed_witnesses += slow.is_some() as usize;
+        self.long_witnesses += longer.is_some() as usize;
+        self.longest_witness = self.longest_witness.max(fast[0]);
+    }
+
+    /// The witnesses that were worked out by hand.
+    fn examples(&mut self) {
+        for (patterns, scheme, permutation, copy) in examples() {
+            let mut expected = vec![0; WITNESS];
+            for (half, word) in expected.chunks_mut(WITNESS / 2).zip([permutation, copy]) {
+                half[0] = word.len() as u8;
+                half[1..=word.len()].copy_from_slice(word);
+            }
+            let mut page = vec![FILL; WITNESS];
+            let verdict = judge_texts_on_page(patterns.as_bytes(), scheme.as_bytes(), &mut page);
+            if !matches!(verdict, Err(Refusal(IRREVERSIBLE, _))) || page != expected {
+                let (expected, found) = (format!("{expected:?}"), format!("{verdict:?} {page:?}"));
+                let (patterns, scheme) = (patterns.as_bytes(), scheme.as_bytes());
+                self.report("the witness worked out by hand", &expected, &found, patterns, scheme);
+            }
+        }
+    }
+
+    /// Fails where there was too little of something.
+    fn enough(&mut self, what: &str, number: usize) {
+        if number < ENOUGH {
+            self.wrong += 1;
+            println!("TOO FEW: {number} {what}, fewer than {ENOUGH}");
+        }
+    }
+
+    /// Containment: the engine, the second implementation and, for short permutations, the slow
+    /// mode, on random lists, most of them permutations.
+    fn copies(&mut self) {
+        let mut random = Random::new(self.seed);
+        let (mut inputs, mut found, mut listed, mut refused) = (0, 0, 0, 0);
+        for _ in 0..20_000 {
+            STARTED.fetch_add(1, Ordering::Relaxed);
+            let length = if random.one_in(3) { random.below(10) } else { random.within(1, 5) };
+            let mut pattern = random.permutation(length);
+            let length = if random.one_in(3) { random.below(23) } else { random.within(3, 10) };
+            let mut permutation = random.permutation(length);
+            for list in [&mut pattern, &mut permutation] {
+                if random.one_in(16) && !list.is_empty() {
+                    let at = random.below(list.len());
+                    list[at] = *random.pick(&[0, 1, 2, 9, 10, 21, 32, 64, 255]);
+                }
+            }
+            let mut page = vec![FILL; random.below(10)];
+            let twin = copy_of(&pattern, &permutation, &mut page);
+            inputs += 1;
+            found += matches!(twin, Ok(n) if n > 0) as usize;
+            refused += twin.is_err() as usize;
+            if permutation.len() <= 10 && twin.is_ok() {
+                listed += 1;
+                let slow = first_copy_slowly(&pattern, &permutation);
+                let fast = twin::word::contains(&pattern, &permutation);
+                if slow.as_deref() != fast.as_ref().map(|p| p.items()) {
+                    let (slow, fast) = (format!("{slow:?}"), format!("{fast:?}"));
+                    self.report("the slow and the fast copy", &slow, &fast, &pattern, &permutation);
+                }
+            }
+            let Some(call) = engine::COPY_OF else { continue };
+            let [first, second] = &mut self.texts;
+            let lent = self.page.page(page.len());
+            let answer = call(first.place(&pattern), second.place(&permutation), lent);
+            let expected = twin.map(|n| n as u64).map_err(|r| r.0);
+            if (answer, &*lent) != (expected, &page[..]) {
+                let expected = format!("{expected:?} {page:?}");
+                let found = format!("{answer:?} {lent:?}");
+                self.report("the engine's containment", &expected, &found, &pattern, &permutation);
+            }
+        }
+        println!("{inputs} lists searched for a copy, {found} with one, {refused} refused");
+        println!("copies compared with listing: {listed}");
+        self.enough("copies", found);
     }
 
     /// The fast mode against the slow one, where the lengths are small.
     fn list(&mut self, case: &Case, fast: Result<usize, Refusal>) {
         let (Ok(patterns), Ok(scheme)) = (read_patterns(&case.patterns), read_scheme(&case.scheme)) else { return };
         self.claims += 1;
-        if self.claims > 3_000 && self.claims & 7 != 0 {
+        if self.claims > 3_700 && self.claims & 7 != 0 {
             return;
         }
         let m = twin::judging::longest(patterns.items());
@@ -241,7 +406,12 @@ impl Test {
         let verdicts: Vec<String> = self.verdicts.iter().map(refused).collect();
         println!("{} inputs judged; {}", self.verdicts.values().sum::<usize>(), verdicts.join(", "));
         println!("verdicts compared with listing: {}; schemes whose counts were compared with listing: {}", self.listed, self.counted);
-        println!("longest call of the engine: {:.1} ms ({})", self.slowest.0.as_secs_f64() * 1e3, self.slowest.1);
+        let (listed, long) = (self.listed_witnesses, self.long_witnesses);
+        println!("{} refusals 11, of up to {} entries", self.witnesses, self.longest_witness);
+        println!("witnesses compared with listing: {listed}, at greater lengths: {long}");
+        let (longest, kind) = self.slowest;
+        let (longest, all) = (longest.as_secs_f64() * 1e3, self.calls.as_secs_f64());
+        println!("longest call of the engine: {longest:.1} ms ({kind}); all: {all:.1} s");
     }
 
     /// The program that judges pairs of lines says also the index and the number of compared cells.
