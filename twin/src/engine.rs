@@ -23,7 +23,6 @@ mod library {
             cells: usize,
         ) -> u64;
         pub fn count_texts_plainly(patterns: *const u8, patterns_length: usize, scheme: *const u8, scheme_length: usize, n: usize) -> u64;
-        #[cfg(feature = "witness")]
         pub fn judge_texts_on_page(
             patterns: *const u8,
             patterns_length: usize,
@@ -32,7 +31,6 @@ mod library {
             page: *mut u8,
             page_length: usize,
         ) -> u64;
-        #[cfg(feature = "witness")]
         pub fn copy_of(pattern: *const u8, pattern_length: usize, permutation: *const u8, permutation_length: usize, page: *mut u8, page_length: usize) -> u64;
     }
 }
@@ -80,16 +78,9 @@ fn plain(patterns: &[u8], scheme: &[u8], n: usize) -> Result<u64, u32> {
 pub type OnPage = fn(&[u8], &[u8], &mut [u8]) -> Result<u64, u32>;
 
 /// The engine's judging with a page and its containment.
-#[cfg(feature = "witness")]
 pub const JUDGE_ON_PAGE: Option<OnPage> = Some(judge_on_page);
-#[cfg(feature = "witness")]
 pub const COPY_OF: Option<OnPage> = Some(copy_of);
-#[cfg(not(feature = "witness"))]
-pub const JUDGE_ON_PAGE: Option<OnPage> = None;
-#[cfg(not(feature = "witness"))]
-pub const COPY_OF: Option<OnPage> = None;
 
-#[cfg(feature = "witness")]
 fn judge_on_page(patterns: &[u8], scheme: &[u8], page: &mut [u8]) -> Result<u64, u32> {
     // The library reads the two texts and writes the page, each within its length, and keeps none
     // of them.
@@ -99,7 +90,6 @@ fn judge_on_page(patterns: &[u8], scheme: &[u8], page: &mut [u8]) -> Result<u64,
     answer(code)
 }
 
-#[cfg(feature = "witness")]
 fn copy_of(pattern: &[u8], permutation: &[u8], page: &mut [u8]) -> Result<u64, u32> {
     // As for `judge_on_page`.
     let (first, second) = (start(pattern), start(permutation));

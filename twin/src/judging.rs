@@ -2,7 +2,7 @@
 
 use crate::model::*;
 use crate::notation::{read_patterns, read_scheme};
-use crate::word::{contains, ends_copy};
+use crate::word::{ends_copy, has_copy};
 
 /// Judges two texts: the number of compared cells, or a refusal.
 pub fn judge_texts(patterns: &[u8], scheme: &[u8]) -> Result<usize, Refusal> {
@@ -46,13 +46,13 @@ pub fn longest(patterns: &[Pattern]) -> usize {
 
 /// The patterns that contain no other pattern of the set. The others change no cell.
 pub fn basis(patterns: &[Pattern]) -> Vec<Pattern> {
-    let within = |q: &Pattern, p: &Pattern| q != p && contains(q.items(), p.items()).is_some();
+    let within = |q: &Pattern, p: &Pattern| q != p && has_copy(q.items(), p.items());
     let minimal = |p: &&Pattern| !patterns.iter().any(|q| within(q, p));
     patterns.iter().filter(minimal).copied().collect()
 }
 
 pub fn avoids(patterns: &[Pattern], word: &[u8]) -> bool {
-    patterns.iter().all(|p| contains(p.items(), word).is_none())
+    !patterns.iter().any(|p| has_copy(p.items(), word))
 }
 
 /// Whether g is at least one of the vectors in each component.
@@ -267,7 +267,7 @@ fn rest_avoids(basis: &[Pattern], prefix: &[u8], g: &[u8], r: usize, total: usiz
         n += 1;
     }
     let word = &word[..n];
-    contains(cut.pattern.items(), word).is_none() && avoids(basis, word)
+    !has_copy(cut.pattern.items(), word) && avoids(basis, word)
 }
 
 /// Whether the head goes on from `depth` with positions from `from` on, at the levels that it

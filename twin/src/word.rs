@@ -20,21 +20,23 @@ pub fn is_permutation(word: &[u8]) -> bool {
 /// The positions of the lexicographically first copy of the pattern in the word: of entries that,
 /// in their order, compare pairwise as the pattern's entries do. The pattern has at most eight.
 pub fn contains(pattern: &[u8], word: &[u8]) -> Option<Positions> {
-    if pattern.len() > word.len() {
-        return None;
-    }
-    let (mut chosen, mut found) = ([0; PATTERN_LENGTH], [0; PATTERN_LENGTH]);
-    let there = extend(pattern, word, &mut chosen, &mut found, 0, 0);
+    let mut found = [0; PATTERN_LENGTH];
+    let there = pattern.len() <= word.len() && extend::<true>(pattern, word, &mut [0; PATTERN_LENGTH], &mut found, 0, 0);
     there.then(|| Positions::of(&found[..pattern.len()]))
+}
+
+/// Whether there is a copy.
+pub fn has_copy(pattern: &[u8], word: &[u8]) -> bool {
+    pattern.len() <= word.len() && extend::<false>(pattern, word, &mut [0; PATTERN_LENGTH], &mut [0; PATTERN_LENGTH], 0, 0)
 }
 
 /// Up to eight entries, or as many positions.
 type Eight = [u8; PATTERN_LENGTH];
 
 /// Whether the entries chosen for the pattern's first `depth` entries go on to a copy, with
-/// positions from `from` on; those that are found. Positions are tried in ascending order at each
-/// depth, so the first copy met is the lexicographically first.
-fn extend(pattern: &[u8], word: &[u8], chosen: &mut Eight, found: &mut Eight, depth: usize, from: usize) -> bool {
+/// positions from `from` on; those that are found, where they are to be shown. Positions are tried
+/// in ascending order at each depth, so the first copy met is the lexicographically first.
+fn extend<const SHOW: bool>(pattern: &[u8], word: &[u8], chosen: &mut Eight, found: &mut Eight, depth: usize, from: usize) -> bool {
     if depth == pattern.len() {
         return true;
     }
@@ -42,8 +44,10 @@ fn extend(pattern: &[u8], word: &[u8], chosen: &mut Eight, found: &mut Eight, de
     for at in from..=last {
         if fits(pattern, chosen, depth, word[at]) {
             chosen[depth] = word[at];
-            if extend(pattern, word, chosen, found, depth + 1, at + 1) {
-                found[depth] = at as u8 + 1;
+            if extend::<SHOW>(pattern, word, chosen, found, depth + 1, at + 1) {
+                if SHOW {
+                    found[depth] = at as u8 + 1;
+                }
                 return true;
             }
         }
