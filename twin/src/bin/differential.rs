@@ -201,7 +201,7 @@ impl Test {
         *self.verdicts.entry(number).or_default() += 1;
         if !input[..case.patterns.len()].contains(&b'\n') && !case.scheme.contains(&b'\n') && input.len() < 40_000 {
             input.push(b'\n');
-            self.lines.push((input, line(twin)));
+            self.lines.push((input, shown_line(twin, &page[..WITNESS])));
         }
         self.pages(case, twin, &page);
         if number == 0 || number >= 10 {
@@ -444,6 +444,15 @@ impl Test {
                     self.report("target/bin/test_judge", expected, found, input, b"");
                 }
             }
+            // the program lends pages of several lengths, and checks each witness by a search of
+            // its own
+            let shown = members.iter().filter(|i| lines[**i].1.starts_with("refused 11 ")).count();
+            for begins in [format!("pairs {} wrong pages 0", members.len()), format!("witnesses {shown} wrong 0 ")] {
+                let found = printed.next().unwrap_or("nothing");
+                if !found.starts_with(&begins) {
+                    self.report("target/bin/test_judge", &begins, found, bytes, b"");
+                }
+            }
         }
         println!("{} verdicts with index or compared cells compared with target/bin/test_judge", lines.len());
     }
@@ -498,6 +507,22 @@ fn line(verdict: Result<usize, Refusal>) -> String {
         Ok(cells) => format!("accepted {cells}"),
         Err(Refusal(number, index)) => format!("refused {number} {index}"),
     }
+}
+
+/// The line that the program prints: with refusal 11 the permutation and the positions of the copy
+/// follow, each joined by commas.
+fn shown_line(verdict: Result<usize, Refusal>, witness: &[u8]) -> String {
+    let (permutation, copy) = witness.split_at(WITNESS / 2);
+    match verdict {
+        Err(Refusal(IRREVERSIBLE, _)) => format!("{} {} {}", line(verdict), joined(permutation), joined(copy)),
+        _ => line(verdict),
+    }
+}
+
+/// The numbers of one half of a witness, joined by commas.
+fn joined(half: &[u8]) -> String {
+    let numbers: Vec<String> = half[1..=half[0] as usize].iter().map(u8::to_string).collect();
+    numbers.join(",")
 }
 
 /// Inputs of the table program: published schemes at every N, third lines of all kinds, lines too
