@@ -95,11 +95,15 @@ fn positions(places: usize) -> [u8; ROW] {
 }
 
 // Whether the entries at the positions of a set are a copy of the pattern: reduced they are the
-// pattern.
+// pattern. A set of another size is left at once.
 fn is_copy(p: [u8; ROW], w: [u8; ROW], places: usize) -> bool {
-    let entries = picked(w, places);
-    if size(entries) != size(p) {
+    if !has_size_of(p, places) {
         return false;
     }
-    same(reduced(entries), p)
+    same(reduced(picked(w, places)), p)
+}
+
+// Whether a set has as many positions as the pattern has entries.
+fn has_size_of(p: [u8; ROW], places: usize) -> bool {
+    u64::count_ones(places as u64) == p[0] as u32
 }
