@@ -6,7 +6,7 @@ use native.Mathlib.Omega.{arith}
 use mathlib.Core.Path.{_≡_, refl, sym, ap, ap₂, _∙_}
 use mathlib.Core.Logic.{_⊎_, inl, inr}
 use mathlib.Core.Bool.{Bool, true, false, cond}
-use mathlib.Core.List.{List, [], _∷_, map, List·Memᴰ, List·Memᴰ·head, List·Memᴰ·tail, List·Memᴰ·cases-cons, List·Memᴰ·not-nil}
+use mathlib.Core.List.{List, [], _∷_, List·Memᴰ, List·Memᴰ·head, List·Memᴰ·tail, List·Memᴰ·cases-cons, List·Memᴰ·not-nil}
 use mathlib.Core.List.{Sublistᴰ, Sublistᴰ·nil-sublist, Sublistᴰ·refl}
 use mathlib.Core.Option.{Option, none, some}
 use lib.ListN.{length}
@@ -20,9 +20,9 @@ use Rattle.word.specs.CopyLaws.{before-irrefl}
 use Rattle.word.specs.FirstLaws.{before-chain, before-asym}
 use Rattle.cell.specs.Cell.{total, without, atLeast, free}
 use Rattle.cell.specs.Built.{built}
-use Rattle.cell.specs.Candidate.{hit, violates, violated, restOf, lesser, leastOf}
+use Rattle.cell.specs.Candidate.{hit, violates, violated, restOf, leastOf}
 use Rattle.cell.specs.SpacingWalk.{atLeast-length, atLeast-total, free-down}
-use Rattle.cell.specs.SublistLaws.{sublist-mem, sublist-length, sublist-whole}
+use Rattle.cell.specs.SublistLaws.{sublist-mem, sublist-whole}
 use Rattle.cell.specs.RestLaws.{built-sublist}
 use Rattle.cell.specs.FiniteTest.{Agrees, Copied, Smaller, one-less, finite-test, sublist-of-built}
 use Rattle.cell.specs.WithoutLaws.{without-sublist}

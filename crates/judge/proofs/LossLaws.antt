@@ -2,7 +2,7 @@
 -- definition, for the entry at fault.
 -- Assumes nothing.
 use Prim.Native.Nat.{ℕ, zero, suc, _+_, _≤_, _<_}
-use native.Mathlib.Nat.{add-zero, add-suc, suc-add}
+use native.Mathlib.Nat.{add-zero}
 use native.Mathlib.Omega.{arith}
 use mathlib.Core.Path.{_≡_, refl, sym, ap, _∙_}
 use mathlib.Core.Bool.{Bool, true, false, cond}
@@ -13,15 +13,12 @@ use Rattle.word.specs.Lists.{row}
 use Rattle.word.specs.Ceilings.{DIGITS, PREFIX}
 use Rattle.word.specs.ListLaws.{true-not-false}
 use Rattle.word.specs.Word.{isPerm}
-use Rattle.word.specs.Refusal.{numberOf}
-use Rattle.word.specs.Finding.{Finding, clean, fault}
+use Rattle.word.specs.Finding.{fault}
 use Rattle.word.specs.declared.refusal.Refusal.the-variants.{LiveGap, Irreversible}
 use Rattle.cell.specs.Basis.{basis}
 use Rattle.forms.specs.SchemeList.{Does, expands, deletes, EntryList}
 use Rattle.forms.specs.SchemeMemory.{schemeIn, entryAt, faultOf}
 use Rattle.forms.specs.declared.memory.Scheme.{Scheme}
-use Rattle.forms.specs.declared.memory.Fault.{Fault}
-use Rattle.forms.specs.declared.memory.Fault.the-variants.{Clean, At}
 use Rattle.scheme.specs.WellFormed.{firstAt, outside}
 use Rattle.scheme.specs.Proper.{ProperEntry}
 use Rattle.scheme.specs.ProperLaws.{position-inside}
@@ -89,7 +86,8 @@ module _ (P : List (List ℕ)) (perms : (β : List ℕ) → List·Memᴰ β P �
     loss-word f i (e ∷ l) = go (f e) (loss-word f (suc i) l)
       where
         go : (b : Bool) →
-            wordShown P E (faultOf (firstAt Irreversible f (suc i) l)) ≡ lossShown (basis P) E (faultOf (firstAt Irreversible f (suc i) l)) →
+            wordShown P E (faultOf (firstAt Irreversible f (suc i) l)) ≡
+            lossShown (basis P) E (faultOf (firstAt Irreversible f (suc i) l)) →
             wordShown P E (faultOf (cond b (fault Irreversible i) (firstAt Irreversible f (suc i) l))) ≡
             lossShown (basis P) E (faultOf (cond b (fault Irreversible i) (firstAt Irreversible f (suc i) l)))
         go true below = entry-word i

@@ -75,8 +75,8 @@ pub record JudgesAndReads (s t : List ℕ) (r : TextsJudged) : Type 0 where
   pub formed : accepted (r .verdict) ≡ true → WellFormed (patternsIn (r .patterns)) (schemeIn (r .scheme))
   pub claims : accepted (r .verdict) ≡ true → AllTrue (patternsIn (r .patterns)) (schemeIn (r .scheme))
 
--- what is found where a page of n bytes is lent: "A page under 32 bytes is refused 13, tested before
--- all else" (02, order 1)
+-- what is found where a page of n bytes is lent: "A page under 32 bytes is refused 13, tested
+-- before all else" (02, order 1)
 abbrev pub faultReadOn : ℕ → PatternsRead → SchemeRead → Fault
 faultReadOn n p q = orElse (faultOf (pageTest n)) (faultRead p q)
 

@@ -3,7 +3,7 @@ use Prim.Native.Nat.{ℕ, _≤_, _<_}
 use native.Mathlib.Omega.{arith}
 use mathlib.Core.Path.{_≡_, refl, sym, ap, ap₂, _∙_}
 use mathlib.Core.Bool.{Bool, true, false, cond}
-use mathlib.Core.List.{List, [], _∷_}
+use mathlib.Core.List.{List}
 use mathlib.Core.Logic.{_⊎_, inl, inr}
 use mathlib.Core.Option.{Option, none, some}
 use lib.ListN.{length}
@@ -12,7 +12,6 @@ use borrow.Author.Tests.{lt-ltb, le-ltb}
 use Rattle.word.specs.Ceilings.{PATTERN_TEXT, SCHEME_TEXT, PAGE}
 use Rattle.word.specs.ListLaws.{true-not-false, below-or-not}
 use Rattle.word.specs.Finding.{firstFault, test}
-use Rattle.word.specs.declared.refusal.Refusal.{Refusal}
 use Rattle.word.specs.declared.refusal.Refusal.the-variants.{Oversize, Irreversible, ShortPage}
 use Rattle.forms.specs.SchemeList.{EntryList}
 use Rattle.forms.specs.SchemeMemory.{patternsIn, schemeIn, faultOf, orElse, faulty}
@@ -27,15 +26,13 @@ use Rattle.text_page.specs.Page.{overlay}
 use Rattle.notation.specs.Answers.{answerFrom}
 use Rattle.notation.specs.PatternAnswers.{refusedPatterns, testedPatterns, patternsAnswer, ReadsPatterns}
 use Rattle.notation.specs.SchemeAnswers.{refusedScheme, testedScheme, schemeAnswer, ReadsScheme}
-use Rattle.notation.specs.declared.patterns.PatternsRead.{PatternsRead}
-use Rattle.notation.specs.declared.schemes.SchemeRead.{SchemeRead}
-use Rattle.verdict.specs.Verdict.{claimTests, comparedCells, judgeTests, answered, verdictOf, toldVerdict, accepted}
-use Rattle.verdict.specs.Witness.{witnessBytes, wordShown, bytesShown}
+use Rattle.verdict.specs.Verdict.{claimTests, comparedCells, judgeTests, answered, toldVerdict}
+use Rattle.verdict.specs.Witness.{bytesShown}
 use Rattle.verdict.specs.declared.answer.Verdict.{Verdict}
 use Rattle.verdict.specs.declared.answer.Verdict.the-variants.{Accepted, Refused}
-use Rattle.judge.specs.Judgement.{pageTest, EntryWitness, Judges}
+use Rattle.judge.specs.Judgement.{pageTest, Judges}
 use Rattle.judge.specs.JudgementLaws.{refused-answer, told-answered, verdict-parts}
-use Rattle.judge.specs.TextJudgement.{faultRead, cellsRead, verdictRead, verdictOfTexts, JudgesTextsWithoutPage}
+use Rattle.judge.specs.TextJudgement.{faultRead, cellsRead, verdictOfTexts, JudgesTextsWithoutPage}
 use Rattle.judge.specs.TextJudgement.{faultReadOn, verdictReadOn, pageRead, JudgesTexts}
 use Rattle.judge.specs.TextVerdictLaws.{patterns-short, scheme-short, read-fault, read-scheme-fault, spelt-fault, spelt-list}
 use Rattle.judge.specs.TextVerdictLaws.{spelt-scheme-fault, spelt-scheme-list, refused-texts, judged-texts}
@@ -233,7 +230,8 @@ module _ (s t : List ℕ) (reading : ReadsPatterns s (patternsAnswer s)) (readin
         record {
           verdict = verdict;
           numbers = ap toldVerdict verdict ∙
-              told-answered (faultReadOn (length before) (patternsAnswer s) (schemeAnswer t)) (cellsRead (patternsAnswer s) (schemeAnswer t));
+              told-answered (faultReadOn (length before) (patternsAnswer s) (schemeAnswer t))
+              (cellsRead (patternsAnswer s) (schemeAnswer t));
           page = page;
           spelt = λ Q F a b u v. judges-spelt Q F a b u v;
           exactly = λ long. rw (same-texts long) (texts-without .exactly);

@@ -1,7 +1,6 @@
 -- Laws of judging with a page: no finding but that of test 11 writes on it, and what test 11 writes
 -- is a witness for the refused entry.
-use Prim.Native.Nat.{ℕ, zero, suc, _+_, _-_, _≤_, _<_}
-use native.Mathlib.Nat.{zero-add}
+use Prim.Native.Nat.{ℕ, suc, _+_, _-_, _≤_, _<_}
 use native.Mathlib.Omega.{arith}
 use mathlib.Core.Path.{_≡_, refl, sym, ap, ap₂, _∙_}
 use mathlib.Core.Bool.{Bool, true, false, not, cond}
@@ -10,8 +9,8 @@ use mathlib.Core.Logic.{_⊎_, inl, inr}
 use mathlib.Core.Option.{Option, none, some}
 use lib.ListN.{length, take, drop, replicate, length-append, length-replicate}
 use lib.Seq.{take-append-seam}
-use lib.Dec.{ltb, eqb}
-use borrow.Author.Tests.{lt-ltb, le-ltb, ltb-false, ne-eqb}
+use lib.Dec.{ltb}
+use borrow.Author.Tests.{lt-ltb, le-ltb, ne-eqb}
 use Rattle.word.specs.Ceilings.{DIGITS, PATTERNS, ENTRIES, PREFIX, PAGE, HALF}
 use Rattle.word.specs.Lists.{any}
 use Rattle.word.specs.Word.{isPerm}
@@ -31,7 +30,7 @@ use Rattle.forms.specs.ToldLaws.{told-found}
 use Rattle.forms.specs.declared.memory.Fault.{Fault}
 use Rattle.forms.specs.declared.memory.Fault.the-variants.{Clean, At}
 use Rattle.scheme.specs.WellFormed.{firstAt, firstTwin, listed, twinEntry, outside, prefixes, patternTests, schemeTests}
-use Rattle.scheme.specs.Proper.{ProperPattern, ProperEntry}
+use Rattle.scheme.specs.Proper.{ProperEntry}
 use Rattle.scheme.specs.ProperLaws.{proper, proper-pattern, position-inside}
 use Rattle.scheme.specs.FindingLaws.{clean-append, fault-append}
 use Rattle.text_page.specs.Page.{overlay}
@@ -251,7 +250,8 @@ module _ (P : List (List ℕ)) (E : List EntryList) (before after : List ℕ) (r
   found = firstFault (pageTests (length before) P E)
 
   pub same-verdict : PAGE ≤ length before → r ≡ verdictOf P E
-  same-verdict long = verdict ∙ ap (λ (x : Finding). answered (faultOf x) (comparedCells P E)) (page-long (length before) (judgeTests P E) long)
+  same-verdict long = verdict ∙
+      ap (λ (x : Finding). answered (faultOf x) (comparedCells P E)) (page-long (length before) (judgeTests P E) long)
 
   entry-witness : (i : ℕ) → found ≡ fault Irreversible i → EntryWitness P E i after
   unfolding found differs

@@ -187,7 +187,7 @@ starred =
     record { asked = showing set123 (1 ∷ 2 ∷ []) ((0 ∷ 0 ∷ 1 ∷ []) ∷ []) (1 ∷ []); told = shows (1 ∷ 4 ∷ 2 ∷ 3 ∷ []) (1 ∷ 3 ∷ 4 ∷ []) } ∷
     -- with 12 deleting 2 nothing is lost
     record { asked = showing set123 (1 ∷ 2 ∷ []) ((0 ∷ 0 ∷ 1 ∷ []) ∷ []) (2 ∷ []); told = showsNothing } ∷
-    -- {132,12} with `(132,∅,{1})` shows 132 and the copy of 132, which is superfluous and the earliest
+    -- {132,12} with `(132,∅,{1})` shows 132 and the copy of 132: superfluous, and the earliest
     record {
       asked = showing ((1 ∷ 3 ∷ 2 ∷ []) ∷ (1 ∷ 2 ∷ []) ∷ []) (1 ∷ 3 ∷ 2 ∷ []) [] (1 ∷ []);
       told = shows (1 ∷ 3 ∷ 2 ∷ []) (1 ∷ 2 ∷ 3 ∷ []);

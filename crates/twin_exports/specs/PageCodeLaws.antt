@@ -22,7 +22,6 @@ use Rattle.scheme.specs.FindingLaws.{clean-in, clean-test}
 use Rattle.text_page.specs.Page.{overlay}
 use Rattle.text_page.specs.PageLaws.{overlay-none}
 use Rattle.witness.proofs.ShownLaws.{byte, placed-bytes}
-use Rattle.twin_exports.specs.TextCounts.{largest}
 use Rattle.twin_exports.specs.PageCodes.{copyCode, copyGiven, CopiesOf}
 
 -- which of the three answers it is
@@ -31,17 +30,21 @@ kindOf Yes = 1
 kindOf No = 2
 kindOf (Refused r i) = 3
 
+-- two accounts of one answer are of one kind
+kinds : {c d : Contained} {at : List ℕ} (a : CopyAnswer) → a ≡ record { contained = c; at = at } → a .contained ≡ d → kindOf c ≡ kindOf d
+kinds a e y = ap kindOf (sym (ap (λ (x : CopyAnswer). x .contained) e) ∙ y)
+
 -- a yes comes from clean tests and a copy, whose positions it has
 pub yes-copy : (f : Finding) (o : Option (List ℕ)) (a : CopyAnswer) → a ≡ answerOf f o → a .contained ≡ Yes →
     (at : List ℕ) × (f ≡ clean) × (o ≡ some at) × (a .at ≡ placed at)
-yes-copy (fault r i) o a e y = let n : _≡_ {A = ℕ} 3 1 = ap kindOf (sym (ap (λ (x : CopyAnswer). x .contained) e) ∙ y) in absurd (omega arith)
-yes-copy clean none a e y = let n : _≡_ {A = ℕ} 2 1 = ap kindOf (sym (ap (λ (x : CopyAnswer). x .contained) e) ∙ y) in absurd (omega arith)
+yes-copy (fault r i) o a e y = let n : _≡_ {A = ℕ} 3 1 = kinds a e y in absurd (omega arith)
+yes-copy clean none a e y = let n : _≡_ {A = ℕ} 2 1 = kinds a e y in absurd (omega arith)
 yes-copy clean (some at) a e y = (at, refl, refl, ap (λ (x : CopyAnswer). x .at) e)
 
 pub no-copy : (f : Finding) (o : Option (List ℕ)) (a : CopyAnswer) → a ≡ answerOf f o → a .contained ≡ No → (f ≡ clean) × (o ≡ none)
-no-copy (fault r i) o a e y = let n : _≡_ {A = ℕ} 3 2 = ap kindOf (sym (ap (λ (x : CopyAnswer). x .contained) e) ∙ y) in absurd (omega arith)
+no-copy (fault r i) o a e y = let n : _≡_ {A = ℕ} 3 2 = kinds a e y in absurd (omega arith)
 no-copy clean none a e y = (refl, refl)
-no-copy clean (some at) a e y = let n : _≡_ {A = ℕ} 1 2 = ap kindOf (sym (ap (λ (x : CopyAnswer). x .contained) e) ∙ y) in absurd (omega arith)
+no-copy clean (some at) a e y = let n : _≡_ {A = ℕ} 1 2 = kinds a e y in absurd (omega arith)
 
 pub refused-copy : (f : Finding) (o : Option (List ℕ)) (a : CopyAnswer) (r : Refusal) (i : ℕ) → a ≡ answerOf f o →
     a .contained ≡ Refused r i → f ≡ fault r i
@@ -52,9 +55,8 @@ refused-copy (fault q j) o a r i e y =
     foundBy Yes = clean
     foundBy No = clean
     foundBy (Refused x k) = fault x k
-refused-copy clean none a r i e y = let n : _≡_ {A = ℕ} 2 3 = ap kindOf (sym (ap (λ (x : CopyAnswer). x .contained) e) ∙ y) in absurd (omega arith)
-refused-copy clean (some at) a r i e y =
-    let n : _≡_ {A = ℕ} 1 3 = ap kindOf (sym (ap (λ (x : CopyAnswer). x .contained) e) ∙ y) in absurd (omega arith)
+refused-copy clean none a r i e y = let n : _≡_ {A = ℕ} 2 3 = kinds a e y in absurd (omega arith)
+refused-copy clean (some at) a r i e y = let n : _≡_ {A = ℕ} 1 3 = kinds a e y in absurd (omega arith)
 
 module _ (β w : List ℕ) (a : CopyAnswer) (e : a ≡ containment β w) where
   -- a pattern that went through its tests is short, and so is the permutation

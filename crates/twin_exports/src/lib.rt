@@ -1,5 +1,5 @@
-// Counting on two texts, judging them with a page, and containment, with a C calling convention: for
-// the differential test and the benchmark of twin/.
+// Counting on two texts, judging them with a page, and containment, with a C calling convention:
+// for the differential test and the benchmark of twin/.
 use counting::answer::Counted;
 use counting::answer::count_or;
 use counting::by_table::count;

@@ -10,16 +10,16 @@ use mathlib.Core.List.{List, [], _∷_, _++_, map, List·Memᴰ, List·Memᴰ·c
 use mathlib.Core.List.{List·Memᴰ·head, Memᴰ·cast, Memᴰ·map, Memᴰ·of-map, Memᴰ·append-right}
 use mathlib.Core.Option.{Option, none, some}
 use lib.ListN.{length, take, drop, length-take}
-use lib.Seq.{length-take-le}
 use lib.Dec.{ltb, eqb}
-use borrow.Author.Tests.{eqb-true, lt-ltb}
 use Rattle.word.specs.Lists.{any, all, keep, first, each, row}
 use Rattle.word.specs.Word.{avoids, reduce, within, distinct, isPerm, perms, before}
-use Rattle.word.specs.ListLaws.{true-not-false, below-or-not, and-left, and-right, and-in, any-out, any-in, first-some, keep-out, keep-in, each-append}
+use Rattle.word.specs.ListLaws.{true-not-false, below-or-not, and-left, and-right, and-in, any-out, any-in, first-some}
+use Rattle.word.specs.ListLaws.{keep-out, keep-in, each-append}
 use Rattle.word.specs.PermLaws.{perms-are, perms-all, perm-distinct, length-reduce}
 use Rattle.word.specs.CopyLaws.{found, first-found, before-larger, first-least}
 use Rattle.word.specs.AscendLaws.{ascends, before-first, perms-ascend}
-use Rattle.word.specs.FirstLaws.{first-agree, first-append, first-none, none-first, first-is, first-ordered, ascends-behind, ascends-in-order}
+use Rattle.word.specs.FirstLaws.{first-agree, first-append, first-none, none-first, first-is, first-ordered}
+use Rattle.word.specs.FirstLaws.{ascends-behind, ascends-in-order}
 use Rattle.word.specs.Earliest.{Earliest, positionsOf}
 use Rattle.word.specs.EarliestLaws.{fails-stands, earliest-is}
 use Rattle.word.specs.Ceilings.{PAGE}
@@ -162,7 +162,10 @@ module _ (P : List (List ℕ)) (p R : List ℕ) (perm : isPerm p ≡ true) (insi
 
     -- Sizes differ at a spacing exactly if some word is lost there.
     pub sizes-lost : (sizesDiffer P p R g ≡ true) ↔ ((w : List ℕ) × IsLost P p R g w)
-    sizes-lost = (λ e. some-lost (any (lost P p R g) (perms (length p + total g))) refl e, λ l. differ (l .0) (l .1) (sizesDiffer P p R g) refl)
+    sizes-lost = (
+      λ e. some-lost (any (lost P p R g) (perms (length p + total g))) refl e,
+      λ l. differ (l .0) (l .1) (sizesDiffer P p R g) refl,
+    )
       where
         agree : any (lost P p R g) (perms (length p + total g)) ≡ false → Agrees P p (without R p) g
         agree none-lost σ sp sl a = go (avoids P (built p g σ)) refl

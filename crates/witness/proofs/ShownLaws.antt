@@ -1,9 +1,9 @@
 -- Laws of a copy in memory: its positions as bytes are the positions.
 -- Assumes nothing.
-use Prim.Native.Nat.{ℕ, _-_, _≤_, _<_, min}
+use Prim.Native.Nat.{ℕ, _-_, _≤_, min}
 use native.Mathlib.Omega.{arith}
 use mathlib.Core.Path.{_≡_, refl, sym, ap, _∙_}
-use mathlib.Core.List.{List, [], _∷_, _++_, map, map-append, map-id, List·Memᴰ, List·Memᴰ·not-nil}
+use mathlib.Core.List.{List, _++_, map, map-append, map-id, List·Memᴰ, List·Memᴰ·not-nil}
 use lib.ListN.{length, take, replicate, length-append, length-map, length-replicate}
 use lib.Seq.{take-append-seam}
 use Rattle.word.specs.Ceilings.{DIGITS}

@@ -12,7 +12,7 @@ ghost use Prim.Native.Nat.{_+_, _<_, _≤_, min};
 ghost use lib.ListN.{length};
 ghost use Rattle.word.specs.Ceilings.{HALF, PAGE};
 ghost use Rattle.word.specs.Containment.{patternsOf};
-ghost use Rattle.text_page.specs.Page.{overlay, Writes};
+ghost use Rattle.text_page.specs.Page.{Writes};
 ghost use Rattle.verdict.specs.Witness.{half, witnessBytes};
 
 // the bytes of a half behind its first

@@ -11,7 +11,6 @@ use lib.Seq.{length-take-le}
 use Rattle.word.specs.Ceilings.{DIGITS, HALF}
 use Rattle.word.specs.Containment.{patternsOf}
 use Rattle.word.specs.Earliest.{earliest}
-use Rattle.word.specs.Copy.{shownIn}
 use Rattle.word.specs.declared.containment.SetCopy.{SetCopy}
 use Rattle.text_page.specs.PageLaws.{writes-join, writes-as}
 use Rattle.verdict.specs.Witness.{half}
@@ -29,7 +28,8 @@ short o =
     let start = o .before .before .before in
     let a = start .args in
     let e = o .earliest-in .ensures in
-    rw e (shown-short (earliest (patternsOf (a .set) (a .lengths) (a .count)) (now (a .w))) (ap (λ (r : SetCopy). length (r .at)) (sym e) ∙ eight o))
+    rw e (shown-short (earliest (patternsOf (a .set) (a .lengths) (a .count)) (now (a .w)))
+    (ap (λ (r : SetCopy). length (r .at)) (sym e) ∙ eight o))
 
 -- as many bytes as positions
 bytes-length : (o : tie.After-earliest-in) (l : List ℕ) → l ≡ map byte (o .earliest-in .result .at) → length l ≡ DIGITS

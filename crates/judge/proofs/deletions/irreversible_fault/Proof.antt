@@ -83,7 +83,8 @@ returns-2 c =
     let l = at-loop .loop in
     let P = patternsOf (a .set) (a .lengths) (a .count) in
     record {
-      found = sym (ap faultOf (l .inv .2 ∙ first-end Irreversible (differingEntry P) (entryAt (a .t4)) (a .t4 .count) (l .i) (omega arith)));
+      found = sym (ap faultOf
+          (l .inv .2 ∙ first-end Irreversible (differingEntry P) (entryAt (a .t4)) (a .t4 .count) (l .i) (omega arith)));
       shows = c .no-word .ensures .0;
     }
 

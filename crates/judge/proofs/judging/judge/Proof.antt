@@ -1,10 +1,8 @@
--- `judge::judging::judge` meets its contract: a short page first, then the verdict by its parts, and
--- the witness where test 11 finds an entry.
+-- `judge::judging::judge` meets its contract: a short page first, then the verdict by its parts,
+-- and the witness where test 11 finds an entry.
 -- Assumes nothing.
 use denote.Ref.{now}
-use Prim.Native.Nat.{ℕ}
 use mathlib.Core.Path.{sym, ap, _∙_}
-use mathlib.Core.List.{List}
 use native.Mathlib.Omega.{arith}
 use Rattle.word.specs.Finding.{firstFault}
 use Rattle.forms.specs.SchemeMemory.{patternsIn, schemeIn, faultOf}

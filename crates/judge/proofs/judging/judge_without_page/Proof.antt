@@ -1,4 +1,5 @@
--- `judge::judging::judge_without_page` meets its contract: the verdict by its parts, and the theorem on it.
+-- `judge::judging::judge_without_page` meets its contract: the verdict by its parts, and the
+-- theorem on it.
 -- Assumes nothing.
 use mathlib.Core.Path.{sym, _∙_}
 use Rattle.forms.specs.SchemeMemory.{patternsIn, schemeIn}

@@ -1,5 +1,5 @@
--- `judge::judging::show_lost` meets its contract: the arrays hold the set as it was given, and a word
--- that is not there writes nothing.
+-- `judge::judging::show_lost` meets its contract: the arrays hold the set as it was given, and a
+-- word that is not there writes nothing.
 -- Assumes nothing.
 use denote.Ref.{now}
 use Prim.Native.Nat.{ℕ, _+_, _≤_}

@@ -3,14 +3,13 @@
 -- Assumes nothing.
 use denote.Ref.{now}
 use Prim.Native.Nat.{ℕ, _≤_}
-use mathlib.Core.Path.{_≡_, refl, sym, ap, ap₂, _∙_}
-use mathlib.Core.Bool.{Bool, true, false}
+use mathlib.Core.Path.{_≡_, sym, ap, ap₂, _∙_}
+use mathlib.Core.Bool.{true, false}
 use mathlib.Core.List.{List}
 use native.Mathlib.Omega.{arith}
 use lib.ListN.{length}
 use Rattle.word.specs.Ceilings.{PAGE}
 use Rattle.word.specs.Finding.{firstFault}
-use Rattle.forms.specs.SchemeList.{EntryList}
 use Rattle.forms.specs.SchemeMemory.{patternsIn, schemeIn, faultOf, orElse, faulty}
 use Rattle.forms.specs.declared.memory.Fault.{Fault}
 use Rattle.notation.specs.PatternAnswers.{patternsAnswer, ReadsPatterns}
@@ -119,7 +118,8 @@ returns-3 c =
     let judged = at-claims .judge-claims .ensures in
     judged-by (now (a .patterns)) (now (a .scheme)) (p .result) (q .result) (p .ensures) (q .ensures) (f .result) (f .ensures)
     (sym (tested .is-fault .ensures) ∙ clean .if2 .left) (now (a .page)) _ (at-claims .judge-claims .result .verdict)
-    (omega (arith, tested .before .before .before .before .if1 .left)) (judged .verdict) (at-show .show-lost .ensures (wordShown P E (faultOf (firstFault (claimTests P E)))) (judged .shows))
+    (omega (arith, tested .before .before .before .before .if1 .left)) (judged .verdict)
+    (at-show .show-lost .ensures (wordShown P E (faultOf (firstFault (claimTests P E)))) (judged .shows))
 
 pub judge-texts-spec : {M : Type 1} → statement M
 judge-texts-spec =

@@ -1,4 +1,5 @@
--- `judge::texts::judge_texts_without_page` meets its contract: what reading found decides, and then the claims.
+-- `judge::texts::judge_texts_without_page` meets its contract: what reading found decides, and then
+-- the claims.
 -- Assumes nothing.
 use mathlib.Core.Path.{sym, _∙_}
 use Rattle.judge.specs.TextVerdictLaws.{refused-texts, texts-formed, judged-texts}
