@@ -1,5 +1,4 @@
--- `test_judge::pairs` is safe and ends: what is left of the text falls.
--- Assumes nothing.
+-- `test_judge::pairs` is safe and ends: what is left of the text falls. Assumes nothing.
 use borrow.Author.Needs.{needs}
 use Prim.Native.Nat.{_-_}
 use lib.ListN.{length}
@@ -8,7 +7,6 @@ use Rattle.test_judge.proofs.pairs.Tie as tie
 
 pub pairs-spec : {M : Type 1} → statement M
 pairs-spec = tie.close (tie.spec
-    (λ text at₀ at. Unit) (λ text at₀ at. length text - at) (λ c. search needs)
+    (λ text t₀ at₀ t at. Unit) (λ text t₀ at₀ t at. length text - at) (λ c. search needs)
     (λ c κs. search needs) (λ c κs. search needs) (λ c κs. search needs) (λ c κs. search needs)
-    (λ c κs. search needs) (λ c κs. search needs) (λ c. search needs) (λ c. search needs)
-    (λ c. search needs))
+    (λ c κs. search needs) (λ c. search needs) (λ c. search needs) (λ c. search needs))
