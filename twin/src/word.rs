@@ -1,6 +1,6 @@
 //! Words of distinct numbers: permutations, containment, deletion, children.
 
-use crate::model::{Kept, Positions, PATTERN_LENGTH};
+use crate::model::{Kept, Positions};
 
 /// A prefix, or a child of one.
 pub type Short = Kept<u8, 8>;
@@ -17,26 +17,30 @@ pub fn is_permutation(word: &[u8]) -> bool {
     seen.count_ones() as usize == word.len()
 }
 
-/// The positions of the lexicographically first copy of the pattern in the word: of entries that,
-/// in their order, compare pairwise as the pattern's entries do. The pattern has at most eight.
-pub fn contains(pattern: &[u8], word: &[u8]) -> Option<Positions> {
-    let mut found = [0; PATTERN_LENGTH];
-    let there = pattern.len() <= word.len() && extend::<true>(pattern, word, &mut [0; PATTERN_LENGTH], &mut found, 0, 0);
-    there.then(|| Positions::of(&found[..pattern.len()]))
-}
-
-/// Whether there is a copy.
+/// Whether some entries of the word, in their order, compare pairwise as the pattern's entries do.
 pub fn has_copy(pattern: &[u8], word: &[u8]) -> bool {
-    pattern.len() <= word.len() && extend::<false>(pattern, word, &mut [0; PATTERN_LENGTH], &mut [0; PATTERN_LENGTH], 0, 0)
+    pattern.is_empty() || first_entries(pattern, word).is_some()
 }
 
-/// Up to eight entries, or as many positions.
-type Eight = [u8; PATTERN_LENGTH];
+/// The positions of the lexicographically first copy of the pattern in the word, whose entries are
+/// distinct.
+pub fn contains(pattern: &[u8], word: &[u8]) -> Option<Positions> {
+    let entries = first_entries(pattern, word)?;
+    let place = |x: &u8| word.iter().position(|y| y == x).map_or(0, |at| at as u8 + 1);
+    let places: Vec<u8> = entries[..pattern.len()].iter().map(place).collect();
+    Some(Positions::of(&places))
+}
+
+/// The entries of the lexicographically first copy: positions are tried in ascending order for each
+/// entry of the pattern, so the first copy met is that one.
+fn first_entries(pattern: &[u8], word: &[u8]) -> Option<[u8; 32]> {
+    let mut chosen = [0u8; 32];
+    (pattern.len() <= word.len() && extend(pattern, word, &mut chosen, 0, 0)).then_some(chosen)
+}
 
 /// Whether the entries chosen for the pattern's first `depth` entries go on to a copy, with
-/// positions from `from` on; those that are found, where they are to be shown. Positions are tried
-/// in ascending order at each depth, so the first copy met is the lexicographically first.
-fn extend<const SHOW: bool>(pattern: &[u8], word: &[u8], chosen: &mut Eight, found: &mut Eight, depth: usize, from: usize) -> bool {
+/// positions from `from` on.
+fn extend(pattern: &[u8], word: &[u8], chosen: &mut [u8; 32], depth: usize, from: usize) -> bool {
     if depth == pattern.len() {
         return true;
     }
@@ -44,10 +48,7 @@ fn extend<const SHOW: bool>(pattern: &[u8], word: &[u8], chosen: &mut Eight, fou
     for at in from..=last {
         if fits(pattern, chosen, depth, word[at]) {
             chosen[depth] = word[at];
-            if extend::<SHOW>(pattern, word, chosen, found, depth + 1, at + 1) {
-                if SHOW {
-                    found[depth] = at as u8 + 1;
-                }
+            if extend(pattern, word, chosen, depth + 1, at + 1) {
                 return true;
             }
         }
@@ -58,7 +59,7 @@ fn extend<const SHOW: bool>(pattern: &[u8], word: &[u8], chosen: &mut Eight, fou
 /// Whether x compares with the chosen entries as the pattern's entry at `depth` does with those
 /// before it.
 #[inline]
-fn fits(pattern: &[u8], chosen: &Eight, depth: usize, x: u8) -> bool {
+fn fits(pattern: &[u8], chosen: &[u8; 32], depth: usize, x: u8) -> bool {
     let p = pattern[depth];
     (0..depth).all(|i| (pattern[i] < p) == (chosen[i] < x))
 }
@@ -69,10 +70,10 @@ pub fn ends_copy(pattern: &[u8], word: &[u8]) -> bool {
     if k == 0 || k > n {
         return k == 0;
     }
-    ending(pattern, word, &mut [0; PATTERN_LENGTH], 0, 0)
+    ending(pattern, word, &mut [0u8; 32], 0, 0)
 }
 
-fn ending(pattern: &[u8], word: &[u8], chosen: &mut Eight, depth: usize, from: usize) -> bool {
+fn ending(pattern: &[u8], word: &[u8], chosen: &mut [u8; 32], depth: usize, from: usize) -> bool {
     let (k, n) = (pattern.len(), word.len());
     let end = word[n - 1];
     if depth + 1 == k {

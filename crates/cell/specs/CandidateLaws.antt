@@ -21,7 +21,7 @@ use Rattle.cell.specs.Claim.{DeletionClaim}
 use Rattle.cell.specs.Built.{level, built}
 use Rattle.cell.specs.Candidate.{place, hit, violates, violated, restOf, irreversible}
 use Rattle.cell.specs.SpacingWalk.{compared-are, compared-all}
-use Rattle.cell.specs.SublistLaws.{sublist-mem}
+use Rattle.word.specs.ListLaws.{sublist-mem}
 use Rattle.cell.specs.RestLaws.{Within, built-sublist}
 use Rattle.cell.specs.FiniteTest.{Agrees, Clean}
 use Rattle.cell.specs.WithoutLaws.{withoutFrom, without-from}

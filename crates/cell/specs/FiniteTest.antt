@@ -14,7 +14,8 @@ use Rattle.word.specs.ContainsLaws.{contains-out, contains-in, avoids-fails, av
 use Rattle.cell.specs.Cell.{total, atLeast}
 use Rattle.cell.specs.Built.{val, lift, built}
 use Rattle.cell.specs.SpacingWalk.{atLeast-refl, atLeast-trans}
-use Rattle.cell.specs.SublistLaws.{sublist-mem, sublist-length, sublist-whole, sublist-spare, sublist-of-append, sublist-of-map}
+use Rattle.word.specs.ListLaws.{sublist-mem}
+use Rattle.cell.specs.SublistLaws.{sublist-length, sublist-whole, sublist-spare, sublist-of-append, sublist-of-map}
 use Rattle.cell.specs.BuiltWords.{built-length}
 use Rattle.cell.specs.RestLaws.{lowered, total-lowered, at-least-lowered}
 use Rattle.cell.specs.RestLaws.{take-out, Within, within-lowered, copy-lowered, avoids-lowered, built-sublist}

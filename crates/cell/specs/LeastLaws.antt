@@ -22,7 +22,8 @@ use Rattle.cell.specs.Cell.{total, without, atLeast, free}
 use Rattle.cell.specs.Built.{built}
 use Rattle.cell.specs.Candidate.{hit, violates, violated, restOf, leastOf}
 use Rattle.cell.specs.SpacingWalk.{atLeast-length, atLeast-total, free-down}
-use Rattle.cell.specs.SublistLaws.{sublist-mem, sublist-whole}
+use Rattle.word.specs.ListLaws.{sublist-mem}
+use Rattle.cell.specs.SublistLaws.{sublist-whole}
 use Rattle.cell.specs.RestLaws.{built-sublist}
 use Rattle.cell.specs.FiniteTest.{Agrees, Copied, Smaller, one-less, finite-test, sublist-of-built}
 use Rattle.cell.specs.WithoutLaws.{without-sublist}

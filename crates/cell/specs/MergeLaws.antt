@@ -16,7 +16,7 @@ use Rattle.word.specs.ListLaws.{true-not-false, not-in, below-or-not, all-out}
 use Rattle.word.specs.PermLaws.{has-out, has-in, within-out, distinct-out, perm-bounds, perm-distinct, perm-has, length-reduce}
 use Rattle.cell.specs.Cell.{total, without, deleted, mergeFrom, merged}
 use Rattle.cell.specs.Built.{level}
-use Rattle.cell.specs.SublistLaws.{sublist-mem}
+use Rattle.word.specs.ListLaws.{sublist-mem}
 use Rattle.cell.specs.WithoutLaws.{without-sublist, entry-onto, entry-injective, without-out, without-in, distinct-sublist}
 
 -- how many of the n numbers from v on are not in the list

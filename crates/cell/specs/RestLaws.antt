@@ -20,7 +20,8 @@ use Rattle.cell.specs.Cell.{total, atLeast}
 use Rattle.cell.specs.BuiltLaws.{iso-built}
 use Rattle.cell.specs.Built.{level, val, lift, built}
 use Rattle.cell.specs.SpacingWalk.{atLeast-refl}
-use Rattle.cell.specs.SublistLaws.{sublist-map, sublist-mem, sublist-without}
+use Rattle.word.specs.ListLaws.{sublist-mem}
+use Rattle.cell.specs.SublistLaws.{sublist-map, sublist-without}
 
 -- Lowering a spacing
 

@@ -18,13 +18,6 @@ module _ {A : Type 0} where
   sublist-without [] x v = Sublistᴰ·cons (Sublistᴰ·refl v)
   sublist-without (y ∷ u) x v = Sublistᴰ·cons-cons refl (sublist-without u x v)
 
-  -- the entries of a sublist are entries of the list
-  pub sublist-mem : {x : A} {s l : List A} → Sublistᴰ s l → List·Memᴰ x s → List·Memᴰ x l
-  sublist-mem Sublistᴰ·slnil m = m
-  sublist-mem (Sublistᴰ·cons d) m = List·Memᴰ·tail (sublist-mem d m)
-  sublist-mem (Sublistᴰ·cons-cons e d) (List·Memᴰ·head f) = List·Memᴰ·head (f ∙ e)
-  sublist-mem (Sublistᴰ·cons-cons e d) (List·Memᴰ·tail m) = List·Memᴰ·tail (sublist-mem d m)
-
   pub sublist-length : {s l : List A} → Sublistᴰ s l → length s ≤ length l
   sublist-length Sublistᴰ·slnil = omega arith
   sublist-length (Sublistᴰ·cons d) = omega (arith, sublist-length d)

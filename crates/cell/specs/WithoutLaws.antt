@@ -14,7 +14,7 @@ use Rattle.word.specs.Word.{has, within, distinct, entry}
 use Rattle.word.specs.ListLaws.{not-in, all-out, keep-out, keep-in, row-out, row-in, getD-mem}
 use Rattle.word.specs.PermLaws.{has-out, within-out, distinct-out, distinct-in}
 use Rattle.cell.specs.Cell.{without}
-use Rattle.cell.specs.SublistLaws.{sublist-mem}
+use Rattle.word.specs.ListLaws.{sublist-mem}
 
 -- the entries of w at the positions that are not in R, where the first position of w is i
 unfoldable pub withoutFrom : List ℕ → ℕ → List ℕ → List ℕ

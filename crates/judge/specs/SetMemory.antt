@@ -14,7 +14,7 @@ use Rattle.forms.specs.declared.memory.Scheme.{Scheme}
 use Rattle.forms.specs.declared.memory.Fault.{Fault}
 use Rattle.forms.specs.declared.memory.Fault.the-variants.{Clean, At}
 use Rattle.scheme.specs.WellFormed.{firstAt}
-use Rattle.text_page.specs.Page.{overlay}
+use Rattle.text_page.specs.Page.{Writes}
 use Rattle.candidate.specs.Ready.{ShowsWord}
 use Rattle.candidate.specs.declared.least.LostWord.{LostWord}
 use Rattle.claims.specs.EntryMemory.{ruleCandidate}
@@ -50,6 +50,6 @@ pub record ClaimsJudged (P : List (List ℕ)) (E : List EntryList) (r : Judged) 
 abbrev pub IsShort : LostWord → Type 0
 IsShort word = word .found ≡ true → word .length ≤ PREFIX + DIGITS
 
--- the page with the witness for the word that is shown, if there is one
-abbrev pub ShowsLost : List (List ℕ) → LostWord → List ℕ → List ℕ → Type 0
-ShowsLost P word before after = (o : Option (List ℕ)) → ShowsWord o word → after ≡ overlay 0 (witnessBytes P o) before
+-- the witness for the word that is shown, if there is one, is written over the page: so many bytes
+abbrev pub ShowsLost : List (List ℕ) → LostWord → List ℕ → List ℕ → ℕ → Type 0
+ShowsLost P word before after r = (o : Option (List ℕ)) → ShowsWord o word → Writes (witnessBytes P o) 0 before after r

@@ -10,7 +10,7 @@ use lib.ListN.{length}
 use lib.Dec.{ltb}
 use borrow.Author.Tests.{lt-ltb, le-ltb}
 use Rattle.word.specs.Ceilings.{PATTERN_TEXT, SCHEME_TEXT, PAGE}
-use Rattle.word.specs.ListLaws.{true-not-false, below-or-not}
+use Rattle.word.specs.ListLaws.{below-or-not}
 use Rattle.word.specs.Finding.{firstFault, test}
 use Rattle.word.specs.declared.refusal.Refusal.the-variants.{Oversize, Irreversible, ShortPage}
 use Rattle.forms.specs.SchemeList.{EntryList}
@@ -31,11 +31,11 @@ use Rattle.verdict.specs.Witness.{bytesShown}
 use Rattle.verdict.specs.declared.answer.Verdict.{Verdict}
 use Rattle.verdict.specs.declared.answer.Verdict.the-variants.{Accepted, Refused}
 use Rattle.judge.specs.Judgement.{pageTest, Judges}
-use Rattle.judge.specs.JudgementLaws.{refused-answer, told-answered, verdict-parts}
+use Rattle.judge.specs.JudgementLaws.{refused-answer, told-answered, or-else-assoc, verdict-parts}
 use Rattle.judge.specs.TextJudgement.{faultRead, cellsRead, verdictOfTexts, JudgesTextsWithoutPage}
 use Rattle.judge.specs.TextJudgement.{faultReadOn, verdictReadOn, pageRead, JudgesTexts}
 use Rattle.judge.specs.TextVerdictLaws.{patterns-short, scheme-short, read-fault, read-scheme-fault, spelt-fault, spelt-list}
-use Rattle.judge.specs.TextVerdictLaws.{spelt-scheme-fault, spelt-scheme-list, refused-texts, judged-texts}
+use Rattle.judge.specs.TextVerdictLaws.{spelt-scheme-fault, spelt-scheme-list, refused-texts, judged-texts, or-else-clean-both}
 use Rattle.judge.specs.WitnessPageLaws.{patterns-nine, scheme-nine, numberIn, number-found, earlier-nine, nothing-shown, page-kept}
 use Rattle.judge.specs.WitnessPageLaws.{judges-short, judges-long}
 
@@ -70,15 +70,6 @@ on-short n f h = ap (λ (b : Bool). orElse (faultOf (test ShortPage b)) f) (lt-l
 
 on-long : (n : ℕ) (f : Fault) → PAGE ≤ n → orElse (faultOf (pageTest n)) f ≡ f
 on-long n f h = ap (λ (b : Bool). orElse (faultOf (test ShortPage b)) f) (le-ltb n PAGE h)
-
-either-clean : (a b : Fault) → faulty (orElse a b) ≡ false → (a ≡ Clean) × (b ≡ Clean)
-either-clean Clean Clean h = (refl, refl)
-either-clean Clean (At r i) h = absurd (true-not-false h)
-either-clean (At r i) b h = absurd (true-not-false h)
-
-or-assoc : (a b c : Fault) → orElse a (orElse b c) ≡ orElse (orElse a b) c
-or-assoc Clean b c = refl
-or-assoc (At r i) b c = refl
 
 -- the number of a verdict
 abbrev numberOn : Verdict → ℕ
@@ -119,7 +110,7 @@ module _ (s t : List ℕ) (reading : ReadsPatterns s (patternsAnswer s)) (readin
   claimed = faultOf (firstFault (claimTests P E))
 
   found-parts : faultRead (patternsAnswer s) (schemeAnswer t) ≡ orElse readFault claimed
-  found-parts = or-assoc ((patternsAnswer s) .fault) ((schemeAnswer t) .fault) claimed
+  found-parts = or-else-assoc ((patternsAnswer s) .fault) ((schemeAnswer t) .fault) claimed
 
   read-small : numberIn readFault ≤ 9
   read-small = earlier-nine ((patternsAnswer s) .fault) ((schemeAnswer t) .fault) (read-nine s) (scheme-read-nine t)
@@ -182,7 +173,7 @@ module _ (s t : List ℕ) (reading : ReadsPatterns s (patternsAnswer s)) (readin
               ap (bytesShown P E) (found-reading h) ∙ nothing-shown P E readFault other ∙ sym (nothing-shown Q F readFault other) ∙
               ap (bytesShown Q F) (sym (list-parts ∙ or-else-fault readFault (faultOf (firstFault (claimTests Q F))) h))
           go false h =
-              let (x, y) = either-clean ((patternsAnswer s) .fault) ((schemeAnswer t) .fault) h in
+              let (x, y) = or-else-clean-both ((patternsAnswer s) .fault) ((schemeAnswer t) .fault) h in
               ap (bytesShown P E) (found-claimed h) ∙
               ap₂ (λ (X : List (List ℕ)) (Y : List EntryList). bytesShown X Y (faultOf (firstFault (claimTests X Y))))
               (spelt-list s (patternsAnswer s) reading Q a u x) (spelt-scheme-list t (schemeAnswer t) reading-scheme F b v y) ∙
@@ -237,7 +228,7 @@ module _ (s t : List ℕ) (reading : ReadsPatterns s (patternsAnswer s)) (readin
           exactly = λ long. rw (same-texts long) (texts-without .exactly);
           same = same-texts;
           witness = λ i e.
-              let (x, y) = either-clean ((patternsAnswer s) .fault) ((schemeAnswer t) .fault) (read-clean i e) in
+              let (x, y) = or-else-clean-both ((patternsAnswer s) .fault) ((schemeAnswer t) .fault) (read-clean i e) in
               let u = reading .reads x in
               let v = reading-scheme .reads y in
               (P, E, u, v, judges-spelt P E (patterns-short s x) (scheme-short t y) u v .witness i e);

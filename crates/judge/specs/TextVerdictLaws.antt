@@ -97,7 +97,7 @@ module _ (t : List ℕ) (q : SchemeRead) (reading : ReadsScheme t q) (E : List E
 refusal : (f g : Fault) (n : ℕ) → faulty f ≡ true → answered f 0 ≡ answered (orElse f g) n
 refusal f g n h = refused-answer f 0 n h ∙ ap (λ (x : Fault). answered x n) (sym (or-else-fault f g h))
 
-or-else-clean-both : (a b : Fault) → faulty (orElse a b) ≡ false → (a ≡ Clean) × (b ≡ Clean)
+pub or-else-clean-both : (a b : Fault) → faulty (orElse a b) ≡ false → (a ≡ Clean) × (b ≡ Clean)
 or-else-clean-both Clean Clean h = (refl, refl)
 or-else-clean-both Clean (At r i) h = absurd (true-not-false h)
 or-else-clean-both (At r i) b h = absurd (true-not-false h)

@@ -7,7 +7,7 @@ use mathlib.Core.Bool.{Bool, true, false, not, cond}
 use mathlib.Core.List.{List, [], _∷_, _++_, List·Memᴰ, List·Memᴰ·head, List·Memᴰ·tail}
 use mathlib.Core.Logic.{_⊎_, inl, inr}
 use mathlib.Core.Option.{Option, none, some}
-use lib.ListN.{length, take, drop, replicate, length-append, length-replicate}
+use lib.ListN.{length, take, drop, length-append}
 use lib.Seq.{take-append-seam}
 use lib.Dec.{ltb}
 use borrow.Author.Tests.{lt-ltb, le-ltb, ne-eqb}
@@ -40,7 +40,7 @@ use Rattle.verdict.specs.Verdict.{verdictOf, toldVerdict, accepted}
 use Rattle.verdict.specs.Truth.{WellFormed}
 use Rattle.verdict.specs.VerdictLaws.{accepted-exactly}
 use Rattle.verdict.specs.Witness.{half, witnessBytes, shownWord, ruleWord, indexedEntry, entryWord, bytesShown, Witnesses}
-use Rattle.verdict.specs.WitnessLaws.{shown-there, shown-length, witnesses}
+use Rattle.verdict.specs.WitnessLaws.{half-length, shown-there, shown-length, witnesses}
 use Rattle.verdict.specs.declared.answer.Verdict.{Verdict}
 use Rattle.verdict.specs.declared.answer.Verdict.the-variants.{Accepted, Refused}
 use Rattle.judge.specs.Judgement.{pageTest, pageTests, verdictOn, pageAfter, EntryWitness, Judges}
@@ -208,11 +208,6 @@ entry-found f (e ∷ E) i j q = go (f e) refl q (entry-found f E (suc i) j)
     go true t h below = let same : i ≡ j = ap indexIn h in (0, e, omega arith, refl, List·Memᴰ·head refl, t)
     go false t h below =
         let (k, d, at, here, m, u) = below h in (suc k, d, omega arith, here, List·Memᴰ·tail m, u)
-
--- a half has HALF bytes
-pub half-length : (u : List ℕ) → length u < HALF → length (half u) ≡ HALF
-half-length u h =
-    omega (arith, length-append u (replicate (HALF - 1 - length u) 0), length-replicate {A = ℕ} (HALF - 1 - length u) 0)
 
 module _ (P : List (List ℕ)) (formed : firstFault (patternTests P) ≡ clean) where
   -- no pattern is longer than DIGITS

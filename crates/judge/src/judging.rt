@@ -72,7 +72,7 @@ pub fn judge_without_page(patterns: Patterns, scheme: Scheme) -> Verdict
 // as it was given. The number of bytes is returned.
 pub fn show_lost(patterns: Patterns, word: LostWord, page: &mut [u8]) -> usize
     requires { ⌜ (firstFault (patternTests (patternsIn patterns)) ≡ clean) × IsShort word ⌝ }
-    ensures { λ r. ⌜ ShowsLost (patternsIn patterns) word (now (page .entry)) (now (page .exit)) ⌝ }
+    ensures { λ r. ⌜ ShowsLost (patternsIn patterns) word (now (page .entry)) (now (page .exit)) r ⌝ }
 {
     if !word.found {
         return 0;

@@ -9,7 +9,7 @@ use mathlib.Core.Bool.{Bool, true, false, not, cond, _&&_}
 use mathlib.Core.List.{List, [], _∷_, _++_, map, List·Memᴰ, List·Memᴰ·cases-cons, List·Memᴰ·not-nil, List·Memᴰ·append-cases}
 use mathlib.Core.List.{List·Memᴰ·head, Memᴰ·cast, Memᴰ·map, Memᴰ·of-map, Memᴰ·append-right}
 use mathlib.Core.Option.{Option, none, some}
-use lib.ListN.{length, take, drop, length-take}
+use lib.ListN.{length, take, drop, replicate, length-take, length-append, length-replicate}
 use lib.Dec.{ltb, eqb}
 use Rattle.word.specs.Lists.{any, all, keep, first, each, row}
 use Rattle.word.specs.Word.{avoids, reduce, within, distinct, isPerm, perms, before}
@@ -22,7 +22,7 @@ use Rattle.word.specs.FirstLaws.{first-agree, first-append, first-none, none-fi
 use Rattle.word.specs.FirstLaws.{ascends-behind, ascends-in-order}
 use Rattle.word.specs.Earliest.{Earliest, positionsOf}
 use Rattle.word.specs.EarliestLaws.{fails-stands, earliest-is}
-use Rattle.word.specs.Ceilings.{PAGE}
+use Rattle.word.specs.Ceilings.{PAGE, HALF}
 use Rattle.cell.specs.Cell.{same, total, spacing, cell, without, deleted, merged, free, mOf, vectors, compared}
 use Rattle.cell.specs.Basis.{basis}
 use Rattle.cell.specs.Built.{built}
@@ -452,6 +452,11 @@ module _ (P : List (List ℕ)) (p R : List ℕ) (perm : isPerm p ≡ true) (insi
       let s = shown-is w e in
       let (size, t, f) = compared-are P (length p) B (s .at-compared) in
       omega (arith, lost-length P p R (s .at) w (s .is-lost), t)
+
+-- a half has HALF bytes
+pub half-length : (u : List ℕ) → length u < HALF → length (half u) ≡ HALF
+half-length u h =
+    omega (arith, length-append u (replicate (HALF - 1 - length u) 0), length-replicate {A = ℕ} (HALF - 1 - length u) 0)
 
 -- "With refusal 11 the judge's lent page .. receives a witness for the refused entry" (02): with
 -- test 11 the word of the entry at fault is shown, with test 10 none

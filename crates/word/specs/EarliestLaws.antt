@@ -5,14 +5,13 @@ use Prim.Native.Nat.{ℕ, zero, suc, _+_, _≤_, _<_}
 use mathlib.Core.Path.{_≡_, refl, sym, ap, _∙_}
 use mathlib.Core.Bool.{true, false, not, _&&_}
 use mathlib.Core.List.{List, [], _∷_, map, List·Memᴰ, List·Memᴰ·head, List·Memᴰ·tail}
-use mathlib.Core.List.{Sublistᴰ, Sublistᴰ·cons, Sublistᴰ·cons-cons}
 use mathlib.Core.Option.{Option, none, some}
 use native.Mathlib.Omega.{arith}
 use lib.ListN.{length, getD, length-map}
 use Rattle.word.specs.Word.{entry, contains, firstCopy, avoids}
 use Rattle.word.specs.Earliest.{Earliest, nowhere, stands, copyOr, earliestFrom, earliest, isNowhere, positionsOf}
 use Rattle.word.specs.Copy.{shownIn}
-use Rattle.word.specs.ListLaws.{true-not-false, row-out}
+use Rattle.word.specs.ListLaws.{sublist-mem, true-not-false, row-out}
 use Rattle.word.specs.IsoLaws.{iso-length}
 use Rattle.word.specs.CopyLaws.{found, copy-exactly, copy-is}
 
@@ -23,15 +22,10 @@ pub copy-length : (β w at : List ℕ) → firstCopy β w ≡ some at → length
 copy-length β w at h =
     sym (length-map at (entry w)) ∙ sym (iso-length β (map (entry w) at) (copy-is β w at h .1))
 
-sublist-member : {A : Type 0} {s l : List A} {x : A} → Sublistᴰ s l → List·Memᴰ x s → List·Memᴰ x l
-sublist-member (Sublistᴰ·cons d) m = List·Memᴰ·tail (sublist-member d m)
-sublist-member (Sublistᴰ·cons-cons e d) (List·Memᴰ·head q) = List·Memᴰ·head (q ∙ e)
-sublist-member (Sublistᴰ·cons-cons e d) (List·Memᴰ·tail m) = List·Memᴰ·tail (sublist-member d m)
-
 -- its positions are positions of the word
 pub copy-within : (β w at : List ℕ) {x : ℕ} → firstCopy β w ≡ some at → List·Memᴰ x at → (1 ≤ x) × (x ≤ length w)
 copy-within β w at h m =
-    let r = row-out 1 (length w) (sublist-member (copy-is β w at h .0) m) in
+    let r = row-out 1 (length w) (sublist-mem (copy-is β w at h .0) m) in
     (r .0, omega (arith, r .1))
 
 -- a pattern with a copy is contained, one without is not

@@ -268,6 +268,13 @@ module _ {A B : Type 0} where
 
 -- rows
 
+-- the entries of a sublist are entries of the list
+pub sublist-mem : {A : Type 0} {x : A} {s l : List A} → Sublistᴰ s l → List·Memᴰ x s → List·Memᴰ x l
+sublist-mem Sublistᴰ·slnil m = m
+sublist-mem (Sublistᴰ·cons d) m = List·Memᴰ·tail (sublist-mem d m)
+sublist-mem (Sublistᴰ·cons-cons e d) (List·Memᴰ·head f) = List·Memᴰ·head (f ∙ e)
+sublist-mem (Sublistᴰ·cons-cons e d) (List·Memᴰ·tail m) = List·Memᴰ·tail (sublist-mem d m)
+
 pub length-row : (a n : ℕ) → length (row a n) ≡ n
 length-row a zero = refl
 length-row a (suc n) = ap suc (length-row (suc a) n)

@@ -139,7 +139,8 @@ fn inputs(wanted: impl Fn(&str) -> bool, each: impl Fn(&Input)) {
 
     let refused = "{(ε,∅,∅),(1,∅,∅),(12,{⟨0,0,1⟩},{1}),(21,∅,{1})}";
     add("witness: {123}, 4 entries", None, Work::Witness, &|| (set(), refused.as_bytes().to_vec()));
-    add("witness: long prefix, lost at total 7", None, Work::Witness, &|| texts(late_witness()));
+    add("witness: long prefix, lost at total 7", worst, Work::Witness, &|| texts(late_witness()));
+    add("witness: the worst file with 1234", worst, Work::Witness, &|| texts(true_deletions(beginning_with(&[1, 2, 3, 4]), 100)));
 
     add("count: {2143,2341}, n = 20", Some(2.5), Work::Count(20), &of("{2143,2341}"));
     add("count: 321-hexagon, n = 20", Some(2.5), Work::Count(20), &of("{321,46718235,56718234,46781235,56781234}"));

@@ -1,19 +1,20 @@
 -- `witness::show_witness` meets its contract: the two halves one after the other are the witness.
 -- Assumes nothing.
 use denote.Ref.{now}
-use Prim.Native.Nat.{ℕ, _+_, _-_, _≤_, _<_}
+use Prim.Native.Nat.{ℕ, _+_, _-_, _≤_}
 use mathlib.Core.Path.{_≡_, sym, ap, ap₂, _∙_}
 use mathlib.Core.List.{List, _++_, map}
 use native.Mathlib.Omega.{arith}
 use borrow.Author.Needs.{needs}
-use lib.ListN.{length, take, replicate, length-map, length-append, length-replicate}
+use lib.ListN.{length, take, length-map}
 use lib.Seq.{length-take-le}
-use Rattle.word.specs.Ceilings.{DIGITS, HALF}
+use Rattle.word.specs.Ceilings.{DIGITS}
 use Rattle.word.specs.Containment.{patternsOf}
 use Rattle.word.specs.Earliest.{earliest}
 use Rattle.word.specs.declared.containment.SetCopy.{SetCopy}
 use Rattle.text_page.specs.PageLaws.{writes-join, writes-as}
 use Rattle.verdict.specs.Witness.{half}
+use Rattle.verdict.specs.WitnessLaws.{half-length}
 use Rattle.witness.proofs.ShownLaws.{byte, shown-short, shown-positions}
 use Rattle.witness.proofs.show_witness.Statement.{statement}
 use Rattle.witness.proofs.show_witness.Tie as tie
@@ -34,11 +35,6 @@ short o =
 -- as many bytes as positions
 bytes-length : (o : tie.After-earliest-in) (l : List ℕ) → l ≡ map byte (o .earliest-in .result .at) → length l ≡ DIGITS
 bytes-length o l e = ap length e ∙ length-map (o .earliest-in .result .at) byte ∙ eight o
-
--- a half has HALF bytes
-half-length : (u : List ℕ) → length u < HALF → length (half u) ≡ HALF
-half-length u h =
-    omega (arith, length-append u (replicate (HALF - 1 - length u) 0), length-replicate {A = ℕ} (HALF - 1 - length u) 0)
 
 array-share-prefix-positions : tie.Need-array-share-prefix-positions
 array-share-prefix-positions c =

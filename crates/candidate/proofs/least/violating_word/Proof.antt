@@ -4,7 +4,7 @@
 use denote.Ref.{now}
 use Prim.Native.Nat.{ℕ, _≤_}
 use mathlib.Core.Path.{_≡_, sym, ap, _∙_}
-use mathlib.Core.Bool.{true, false}
+use mathlib.Core.Bool.{Bool, true, false}
 use mathlib.Core.List.{[]}
 use borrow.Author.Needs.{needs}
 use borrow.Author.Tests.{not-true, not-false}
@@ -12,9 +12,11 @@ use native.Mathlib.Omega.{arith}
 use lib.ListN.{length, getD, take}
 use lib.Seq.{length-take-le}
 use Rattle.word.specs.Ceilings.{DIGITS, PREFIX}
+use Rattle.word.specs.Word.{avoids}
+use Rattle.word.specs.Containment.{patternsOf}
 use Rattle.candidate.specs.Ready.{patternAt}
 use Rattle.candidate.proofs.BasisWalk.{take-again}
-use Rattle.candidate.proofs.CandidateWalk.{violates-short, violates-not, violates-by, word-made}
+use Rattle.candidate.proofs.CandidateWalk.{Violates, violates-short, violates-not, violates-by, word-made}
 use Rattle.candidate.proofs.LeastWalk.{word-none, word-some, whole-made}
 use Rattle.candidate.proofs.least.violating_word.Statement.{statement}
 use Rattle.candidate.proofs.least.violating_word.Tie as tie
@@ -22,6 +24,11 @@ use Rattle.candidate.proofs.least.violating_word.Tie as tie
 -- the prefix has all its places
 six-digits : (start : tie.Start) → length (start .args .spot .prefix) ≡ PREFIX
 six-digits start = (let o = start .good in search needs)
+
+wide : (start : tie.Start) → length (take (start .args .spot .length) (start .args .spot .prefix)) ≡ start .args .spot .length
+wide start =
+    let six = six-digits start in
+    length-take-le (start .args .spot .length) (start .args .spot .prefix) (omega (arith, start .pre .2))
 
 returns : tie.Need-returns
 returns c =
@@ -65,69 +72,61 @@ returns-2 c =
           (not-true _ (c .before .if2 .taken))) (c .no-word2 .ensures .0),
     )
 
-returns-3 : tie.Need-returns-3
-returns-3 c =
-    let at-hits = c .before .before .before .before .before .before in
+-- whether a pattern that hits violates: whether its candidate avoids
+hits-violates : (o : tie.After-contained-by) (b : Bool) →
+    let w = o .before .before .candidate-word in
+    let a = o .before .before .before .before .before .before .before .before .before .before .before .before .before .args in
+    avoids (patternsOf (a .t1) (a .t2) (a .count)) (take (w .result .length) (w .result .entries)) ≡ b →
+    Violates (a .t1) (a .t2) (a .count) (now (a .needs)) (take (a .spot .length) (a .spot .prefix)) (a .spot .gone)
+    (a .spot .levels) (a .spot .total) (a .i) b
+hits-violates o b avoiding =
+    let at-hits = o .before .before .before .before in
     let at-need = at-hits .before in
     let at-digits = at-need .before .before in
     let start = at-digits .before .before .before .before .before .before in
     let a = start .args in
     let d = at-digits .digits in
     let eight : length (patternAt (a .t1) (a .t2) (a .i)) ≤ DIGITS = omega (arith, d .ensures .0, d .ensures .1) in
-    let six = six-digits start in
-    let wide : length (take (a .spot .length) (a .spot .prefix)) ≡ a .spot .length =
-    length-take-le (a .spot .length) (a .spot .prefix) (omega (arith, start .pre .2)) in
     let need = at-need .need-at .ensures in
     let hits = at-hits .hits in
-    let found = rw (cut at-digits, need) at (hits .ensures) in
-    let w = c .before .before .before .before .candidate-word in
-    let made = word-made (a .t1) (a .t2) (a .count) (now (a .needs)) (a .spot .prefix) (a .spot .gone)
-    (a .spot .levels) (a .spot .length) (a .spot .total) (a .i) (d .result) wide (start .pre .1) (d .ensures .0)
+    let w = o .before .before .candidate-word in
+    violates-by (a .t1) (a .t2) (a .count) (now (a .needs)) (take (a .spot .length) (a .spot .prefix)) (a .spot .gone)
+    (a .spot .levels) (a .spot .total) (a .i) (start .pre .1) eight (hits .result) (rw (cut at-digits, need) at (hits .ensures))
+    (not-false _ (o .before .before .before .if2 .left)) (take (w .result .length) (w .result .entries))
+    (word-made (a .t1) (a .t2) (a .count) (now (a .needs)) (a .spot .prefix) (a .spot .gone)
+    (a .spot .levels) (a .spot .length) (a .spot .total) (a .i) (d .result) (wide start) (start .pre .1) (d .ensures .0)
     (d .ensures .1) (omega (arith, at-need .before .if1 .left)) (take (w .result .length) (w .result .entries))
-    (rw need at (w .ensures .1)) in (
+    (rw need at (w .ensures .1))) b avoiding
+
+returns-3 : tie.Need-returns-3
+returns-3 c =
+    let at-contained = c .before .before in
+    let a = at-contained .before .before .before .before .before .before .before .before .before .before .before .before .before .args in (
       omega (arith, c .no-word3 .ensures .1),
       word-none (a .t1) (a .t2) (a .count) (now (a .needs)) (take (a .spot .length) (a .spot .prefix)) (a .spot .gone)
           (a .spot .levels) (a .spot .total) (a .i) (c .no-word3 .result)
-          (violates-by (a .t1) (a .t2) (a .count) (now (a .needs)) (take (a .spot .length) (a .spot .prefix)) (a .spot .gone)
-          (a .spot .levels) (a .spot .total) (a .i) (start .pre .1) eight (hits .result) found
-          (not-false _ (c .before .before .before .before .before .if2 .left))
-          (take (w .result .length) (w .result .entries)) made false
-          (not-true _ (sym (c .before .before .contained-by .ensures) ∙ c .before .if3 .taken))) (c .no-word3 .ensures .0),
+          (hits-violates at-contained false (not-true _ (sym (at-contained .contained-by .ensures) ∙ c .before .if3 .taken)))
+          (c .no-word3 .ensures .0),
     )
 
 returns-4 : tie.Need-returns-4
 returns-4 c =
-    let at-hits = c .before .before .before .before .before .before in
-    let at-need = at-hits .before in
+    let at-contained = c .before .before in
+    let at-need = at-contained .before .before .before .before .before in
     let at-digits = at-need .before .before in
     let start = at-digits .before .before .before .before .before .before in
     let a = start .args in
     let d = at-digits .digits in
-    let eight : length (patternAt (a .t1) (a .t2) (a .i)) ≤ DIGITS = omega (arith, d .ensures .0, d .ensures .1) in
-    let six = six-digits start in
-    let wide : length (take (a .spot .length) (a .spot .prefix)) ≡ a .spot .length =
-    length-take-le (a .spot .length) (a .spot .prefix) (omega (arith, start .pre .2)) in
-    let need = at-need .need-at .ensures in
-    let hits = at-hits .hits in
-    let found = rw (cut at-digits, need) at (hits .ensures) in
-    let w = c .before .before .before .before .candidate-word in
-    let made = word-made (a .t1) (a .t2) (a .count) (now (a .needs)) (a .spot .prefix) (a .spot .gone)
-    (a .spot .levels) (a .spot .length) (a .spot .total) (a .i) (d .result) wide (start .pre .1) (d .ensures .0)
-    (d .ensures .1) (omega (arith, at-need .before .if1 .left)) (take (w .result .length) (w .result .entries))
-    (rw need at (w .ensures .1)) in
     let v = c .whole-word in (
       v .ensures .1,
       word-some (a .t1) (a .t2) (a .count) (now (a .needs)) (take (a .spot .length) (a .spot .prefix)) (a .spot .gone)
           (a .spot .levels) (a .spot .total) (a .i) (v .result)
-          (violates-by (a .t1) (a .t2) (a .count) (now (a .needs)) (take (a .spot .length) (a .spot .prefix)) (a .spot .gone)
-          (a .spot .levels) (a .spot .total) (a .i) (start .pre .1) eight (hits .result) found
-          (not-false _ (c .before .before .before .before .before .if2 .left))
-          (take (w .result .length) (w .result .entries)) made true
-          (not-false _ (sym (c .before .before .contained-by .ensures) ∙ c .before .if3 .left))) (v .ensures .0)
+          (hits-violates at-contained true (not-false _ (sym (at-contained .contained-by .ensures) ∙ c .before .if3 .left)))
+          (v .ensures .0)
           (whole-made (a .t1) (a .t2) (a .count) (now (a .needs)) (a .spot .prefix) (a .spot .gone) (a .spot .levels)
-          (a .spot .length) (a .spot .total) (a .i) (d .result) wide (start .pre .1) (d .ensures .0) (d .ensures .1)
+          (a .spot .length) (a .spot .total) (a .i) (d .result) (wide start) (start .pre .1) (d .ensures .0) (d .ensures .1)
           (omega (arith, at-need .before .if1 .left)) (take (v .result .length) (v .result .entries))
-          (rw need at (v .ensures .2))),
+          (rw (at-need .need-at .ensures) at (v .ensures .2))),
     )
 
 pub violating-word-spec : {M : Type 1} → statement M

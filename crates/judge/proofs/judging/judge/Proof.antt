@@ -72,7 +72,7 @@ returns-3 c =
     let judged = at-claims .judge-claims .ensures in
     judges-long P E (now (a .page)) _ (at-claims .judge-claims .result .verdict) (omega arith)
     (judged .verdict ∙ verdict-claims P E (f .result) (f .ensures) h)
-    (at-show .show-lost .ensures (wordShown P E (faultOf (firstFault (claimTests P E)))) (judged .shows) ∙
+    (at-show .show-lost .ensures (wordShown P E (faultOf (firstFault (claimTests P E)))) (judged .shows) .page ∙
     ap (λ (x : Fault). overlay 0 (bytesShown P E x) (now (a .page))) (sym (found-claims P E (f .result) (f .ensures) h)))
 
 pub judge-spec : {M : Type 1} → statement M

@@ -2,10 +2,9 @@
 -- word that is not there writes nothing.
 -- Assumes nothing.
 use denote.Ref.{now}
-use Prim.Native.Nat.{ℕ, _+_, _≤_}
-use mathlib.Core.Path.{_≡_, sym, ap, ap₂, _∙_}
-use mathlib.Core.List.{List}
-use mathlib.Core.Option.{Option}
+use Prim.Native.Nat.{_+_, _≤_}
+use mathlib.Core.Path.{_≡_, sym, ap, ap₂}
+use mathlib.Core.List.{[]}
 use native.Mathlib.Omega.{arith}
 use borrow.Author.Needs.{needs}
 use borrow.Author.Tests.{not-true, not-false}
@@ -13,8 +12,7 @@ use lib.ListN.{length}
 use lib.Seq.{length-take-le}
 use Rattle.word.specs.Ceilings.{DIGITS, PATTERNS, PREFIX, WORD}
 use Rattle.forms.specs.SchemeMemory.{patternsIn}
-use Rattle.text_page.specs.Page.{overlay}
-use Rattle.text_page.specs.PageLaws.{overlay-none}
+use Rattle.text_page.specs.PageLaws.{start as unwritten, finish, writes-as}
 use Rattle.verdict.specs.Witness.{witnessBytes}
 use Rattle.judge.specs.SetLaws.{set-holds}
 use Rattle.judge.proofs.LossLaws.{shows-nothing, shows-some}
@@ -23,11 +21,10 @@ use Rattle.judge.proofs.judging.show_lost.Tie as tie
 
 returns : tie.Need-returns
 returns c =
-    let start = c .before .before .before in
-    let a = start .args in
+    let a = c .before .before .before .args in
     let page = now (a .page) in
-    λ o s. sym (ap (λ (x : Option (List ℕ)). overlay 0 (witnessBytes (patternsIn (a .patterns)) x) page)
-    (shows-nothing o (a .word) s (not-true _ (c .if1 .taken))) ∙ overlay-none 0 page)
+    λ o s. writes-as (finish (unwritten [] 0 page)) (sym (ap (witnessBytes (patternsIn (a .patterns)))
+    (shows-nothing o (a .word) s (not-true _ (c .if1 .taken)))))
 
 -- the arrays have all their places
 all-entries : (start : tie.Start) → length (start .args .word .entries) ≡ WORD
@@ -77,9 +74,8 @@ returns-2 c =
     let k = at-lengths .lengths-of in
     let holds = set-holds (a .patterns) (start .pre .0) (r .result) (k .result) (all-rows at-rows) (all-lengths at-lengths)
     (r .ensures) (k .ensures) in
-    λ o s. at-show .show-witness .ensures .page ∙
-    ap₂ (λ (P : List (List ℕ)) (x : Option (List ℕ)). overlay 0 (witnessBytes P x) (now (a .page))) holds
-    (sym (shows-some o (a .word) s (not-false _ (at-test .if1 .left))))
+    λ o s. writes-as (at-show .show-witness .ensures)
+    (ap₂ witnessBytes holds (sym (shows-some o (a .word) s (not-false _ (at-test .if1 .left)))))
 
 pub show-lost-spec : {M : Type 1} → statement M
 show-lost-spec =

@@ -119,7 +119,7 @@ returns-3 c =
     judged-by (now (a .patterns)) (now (a .scheme)) (p .result) (q .result) (p .ensures) (q .ensures) (f .result) (f .ensures)
     (sym (tested .is-fault .ensures) ∙ clean .if2 .left) (now (a .page)) _ (at-claims .judge-claims .result .verdict)
     (omega (arith, tested .before .before .before .before .if1 .left)) (judged .verdict)
-    (at-show .show-lost .ensures (wordShown P E (faultOf (firstFault (claimTests P E)))) (judged .shows))
+    (at-show .show-lost .ensures (wordShown P E (faultOf (firstFault (claimTests P E)))) (judged .shows) .page)
 
 pub judge-texts-spec : {M : Type 1} → statement M
 judge-texts-spec =
