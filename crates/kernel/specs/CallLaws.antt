@@ -11,7 +11,7 @@ use Rattle.word.specs.Refusal.{numberOf}
 use Rattle.word.specs.declared.refusal.Refusal.{Refusal}
 use Rattle.word.specs.declared.refusal.Refusal.the-variants.{Misspelt, Oversize, NoPermutation, Repeated, Rootless}
 use Rattle.word.specs.declared.refusal.Refusal.the-variants.{Width, NoPosition, Childless, NoTarget, LiveGap}
-use Rattle.word.specs.declared.refusal.Refusal.the-variants.{Irreversible, ShortTable, ShortPage}
+use Rattle.word.specs.declared.refusal.Refusal.the-variants.{Irreversible, ShortTable, ShortPage, NoAvoider}
 use Rattle.verdict.specs.Verdict.{toldVerdict, accepted}
 use Rattle.verdict.specs.declared.answer.Verdict.{Verdict}
 use Rattle.verdict.specs.declared.answer.Verdict.the-variants.{Accepted, Refused}
@@ -33,6 +33,7 @@ not-zero LiveGap = refl
 not-zero Irreversible = refl
 not-zero ShortTable = refl
 not-zero ShortPage = refl
+not-zero NoAvoider = refl
 
 zero-accepted : (v : Verdict) → ((toldVerdict v) .number ≡ 0) ↔ (accepted v ≡ true)
 zero-accepted (Accepted n) = (λ e. refl, λ e. refl)

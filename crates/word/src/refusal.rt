@@ -1,4 +1,5 @@
-// The refusals: a case for each row of the table of document 01, in its order.
+// The refusals: a case for each row of the table of document 01, in its order, and then those of
+// the orders of document 02.
 ghost use mathlib.Core.Path.{_≡_};
 ghost use Rattle.word.specs.Refusal.{numberOf};
 
@@ -29,6 +30,8 @@ pub enum Refusal {
     ShortTable,
     // fewer bytes than the text
     ShortPage,
+    // the permutation contains a pattern (02, order 2)
+    NoAvoider,
 }
 
 // The number of a refusal in the table.
@@ -49,5 +52,6 @@ pub fn number(r: Refusal) -> u8
         Refusal::Irreversible => 11,
         Refusal::ShortTable => 12,
         Refusal::ShortPage => 13,
+        Refusal::NoAvoider => 14,
     }
 }

@@ -1,0 +1,5 @@
+-- The definitions of the crate arrangement, and then its laws.
+pub mod Exchange
+pub mod Searching
+pub mod OccurrenceLaws
+pub mod ExchangeLaws

@@ -1,0 +1,43 @@
+// What a search for a completion says.
+use word::limits::WORD;
+ghost use mathlib.Core.Path.{_≡_};
+ghost use Rattle.arrangement.specs.declared.searched.Searched.{Searched};
+
+// Yes with a completion, no, or neither where the budget did not last; and how many words of the
+// budget are left.
+pub struct Searched {
+    pub found: bool,
+    pub none: bool,
+    pub left: usize,
+    pub word: [u8; WORD],
+}
+
+// Yes: this word is a completion.
+pub fn found_as(word: [u8; WORD], left: usize) -> Searched {
+    Searched {
+        found: true,
+        none: false,
+        left,
+        word,
+    }
+}
+
+// No: there is no completion.
+pub fn found_none(word: [u8; WORD], left: usize) -> Searched {
+    Searched {
+        found: false,
+        none: true,
+        left,
+        word,
+    }
+}
+
+// The budget did not last.
+pub fn undecided(word: [u8; WORD]) -> Searched {
+    Searched {
+        found: false,
+        none: false,
+        left: 0,
+        word,
+    }
+}
