@@ -2,6 +2,7 @@
 pub mod Ceilings
 pub mod Lists
 pub mod Word
+pub mod Listing
 pub mod Vocabulary
 pub mod Refusal
 pub mod Finding
@@ -18,3 +19,4 @@ pub mod BumpLaws
 pub mod PermLaws
 pub mod AscendLaws
 pub mod FirstLaws
+pub mod ListingLaws
