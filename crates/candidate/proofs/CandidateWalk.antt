@@ -26,7 +26,8 @@ use Rattle.cell.specs.SpacingWalk.{compared-are}
 use Rattle.cell.specs.Built.{level, built}
 use Rattle.cell.specs.Candidate.{headLength, hit, violates, violated, irreversible, violatedFirst}
 use Rattle.candidate.specs.Lookup.{needAt, Says, Flags}
-use Rattle.candidate.specs.Ready.{Ready, patternAt, Needs, Given, Looked, FlaggedFor, FreeAnswer, FoundAt, TotalAnswer, EntryAnswer}
+use Rattle.forms.specs.SetMemory.{patternAt}
+use Rattle.candidate.specs.Ready.{Ready, Needs, Given, Looked, FlaggedFor, FreeAnswer, FoundAt, TotalAnswer, EntryAnswer}
 use Rattle.candidate.specs.declared.search.Lost.{Lost}
 use Rattle.candidate.specs.BasisMemory.{pattern-member}
 use Rattle.spacing.specs.Following.{firstVector, later, Follows}

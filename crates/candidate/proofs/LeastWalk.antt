@@ -23,7 +23,8 @@ use Rattle.cell.specs.Built.{built}
 use Rattle.cell.specs.Candidate.{violates, violated, restOf, violatedFirst, lostWords, leastOf, leastAt, leastCandidate}
 use Rattle.candidate.specs.Lookup.{VALUES, needAt, flagged}
 use Rattle.candidate.specs.Tabled.{IsCandidate}
-use Rattle.candidate.specs.Ready.{patternAt, Looked, FoundAt, ShowsWord}
+use Rattle.forms.specs.SetMemory.{patternAt}
+use Rattle.candidate.specs.Ready.{Looked, FoundAt, ShowsWord}
 use Rattle.candidate.specs.Shown.{shown, lesserShown, lostBy, WordAnswer}
 use Rattle.candidate.specs.declared.search.Lost.{Lost}
 use Rattle.candidate.specs.declared.least.LostWord.{LostWord}

@@ -12,7 +12,8 @@ use Rattle.word.specs.Word.{under}
 use Rattle.word.specs.ListLaws.{same-or-not}
 use Rattle.cell.specs.Candidate.{headLength}
 use Rattle.candidate.specs.Lookup.{VALUES, NEEDS}
-use Rattle.candidate.specs.Ready.{patternAt, Needs, AllNeeds}
+use Rattle.forms.specs.SetMemory.{patternAt}
+use Rattle.candidate.specs.Ready.{Needs, AllNeeds}
 use Rattle.candidate.proofs.BasisWalk.{take-again}
 
 -- y is the level that x needs as a head entry of the pattern, where its last t entries are the rest

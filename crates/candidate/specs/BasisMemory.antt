@@ -5,7 +5,7 @@ use mathlib.Core.Path.{refl}
 use mathlib.Core.List.{List, [], _∷_, List·Memᴰ, List·Memᴰ·head, List·Memᴰ·tail}
 use lib.ListN.{length}
 use Rattle.word.specs.Containment.{patternsOf}
-use Rattle.candidate.specs.Ready.{patternAt}
+use Rattle.forms.specs.SetMemory.{patternAt}
 
 -- the pattern at a place of a set is one of its patterns
 pub pattern-member : (rows : List (List ℕ)) (lengths : List ℕ) (n i : ℕ) → i < n → n ≤ length rows → n ≤ length lengths →

@@ -5,6 +5,7 @@ use mathlib.Core.Bool.{Bool, true, false, _&&_}
 use mathlib.Core.Logic.{_↔_}
 use mathlib.Core.List.{List, [], map}
 use mathlib.Core.Option.{Option, none, some}
+use Rattle.forms.specs.SetMemory.{patternAt}
 use lib.ListN.{length, getD, take, drop}
 use Rattle.word.specs.Ceilings.{DIGITS, PATTERNS, PREFIX}
 use Rattle.word.specs.Lists.{all, first}
@@ -29,10 +30,6 @@ pub record Ready (p R g β levels gone need : List ℕ) : Type 0 where
   pub said-levels : Says levels (suc (length p)) (level g)
   pub said-gone : Flags gone VALUES (λ v. has v (map (entry p) R))
   pub said-need : total g ≤ length β → Says need VALUES (under (drop (headLength β (total g)) β))
-
--- the pattern at place i of a set in memory
-abbrev pub patternAt : List (List ℕ) → List ℕ → ℕ → List ℕ
-patternAt set lengths i = take (getD lengths i 0) (getD set i [])
 
 -- for each pattern that is at least t long the levels that its head entries need, where its last t
 -- entries are the rest

@@ -9,7 +9,8 @@ use Rattle.word.specs.Containment.{patternsOf}
 use Rattle.cell.specs.Cell.{total}
 use Rattle.cell.specs.Built.{built}
 use Rattle.cell.specs.Candidate.{violates, restOf, lesser}
-use Rattle.candidate.specs.Ready.{patternAt, Looked}
+use Rattle.forms.specs.SetMemory.{patternAt}
+use Rattle.candidate.specs.Ready.{Looked}
 use Rattle.candidate.specs.declared.least.LostWord.{LostWord}
 
 -- the word that r holds

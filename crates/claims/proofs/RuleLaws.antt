@@ -19,7 +19,8 @@ use Rattle.cell.specs.Cell.{total, free, vectors, mOf, compared}
 use Rattle.cell.specs.Candidate.{violatedFirst, lostWords, leastOf, leastCandidate}
 use Rattle.cell.specs.Claim.{DeletionClaim}
 use Rattle.forms.specs.GapRows.{gapsOf}
-use Rattle.candidate.specs.Ready.{patternAt, Given, FoundAt, ShowsWord, EntryAnswer}
+use Rattle.forms.specs.SetMemory.{patternAt}
+use Rattle.candidate.specs.Ready.{Given, FoundAt, ShowsWord, EntryAnswer}
 use Rattle.candidate.specs.declared.search.Lost.{Lost}
 use Rattle.candidate.specs.declared.least.LostWord.{LostWord}
 use Rattle.candidate.proofs.CandidateWalk.{located-total}

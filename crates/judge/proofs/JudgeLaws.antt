@@ -36,7 +36,7 @@ use Rattle.judge.specs.SetMemory.{ComparesCells, lossShown, Loses}
 use Rattle.judge.specs.declared.deletions.Loss.{Loss}
 use Rattle.judge.proofs.LossLaws.{live-word, loss-word}
 use Rattle.scheme.specs.Proper.{Proper}
-use Rattle.judge.specs.SetLaws.{set-held}
+use Rattle.scheme.specs.SetLaws.{set-held}
 use Rattle.judge.specs.JudgementLaws.{verdict-parts, live-same, differs-same, refused-answer}
 use Rattle.judge.specs.WitnessPageLaws.{patterns-nine, scheme-nine, numberIn, number-found, earlier-nine, page-kept}
 use Rattle.judge.proofs.EntryWalkLaws.{liveEntry, differingEntry}

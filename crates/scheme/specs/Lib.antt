@@ -8,3 +8,4 @@ pub mod FindingLaws
 pub mod Proper
 pub mod ProperLaws
 pub mod EntryMemoryLaws
+pub mod SetLaws

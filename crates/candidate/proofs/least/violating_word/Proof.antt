@@ -14,7 +14,7 @@ use lib.Seq.{length-take-le}
 use Rattle.word.specs.Ceilings.{DIGITS, PREFIX}
 use Rattle.word.specs.Word.{avoids}
 use Rattle.word.specs.Containment.{patternsOf}
-use Rattle.candidate.specs.Ready.{patternAt}
+use Rattle.forms.specs.SetMemory.{patternAt}
 use Rattle.candidate.proofs.BasisWalk.{take-again}
 use Rattle.candidate.proofs.CandidateWalk.{Violates, violates-short, violates-not, violates-by, word-made}
 use Rattle.candidate.proofs.LeastWalk.{word-none, word-some, whole-made}

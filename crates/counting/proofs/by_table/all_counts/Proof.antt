@@ -3,7 +3,7 @@
 use mathlib.Core.Path.{_≡_}
 use lib.ListN.{length}
 use Rattle.word.specs.Ceilings.{PATTERNS}
-use Rattle.judge.specs.SetLaws.{set-holds}
+use Rattle.scheme.specs.SetLaws.{set-holds}
 use borrow.Author.Needs.{needs}
 use Rattle.counting.proofs.by_table.all_counts.Statement.{statement}
 use Rattle.counting.proofs.by_table.all_counts.Tie as tie

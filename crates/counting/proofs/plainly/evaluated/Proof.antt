@@ -6,7 +6,7 @@ use mathlib.Core.List.{List}
 use lib.ListN.{length}
 use Rattle.word.specs.Ceilings.{PATTERNS}
 use Rattle.forms.specs.SchemeMemory.{schemeIn}
-use Rattle.judge.specs.SetLaws.{set-holds}
+use Rattle.scheme.specs.SetLaws.{set-holds}
 use Rattle.verdict.specs.Value.{countOf}
 use borrow.Author.Needs.{needs}
 use Rattle.counting.proofs.plainly.evaluated.Statement.{statement}

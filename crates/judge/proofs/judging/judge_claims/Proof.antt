@@ -20,7 +20,8 @@ use Rattle.scheme.specs.ProperLaws.{proper as proper-scheme}
 use Rattle.judge.proofs.EntryWalkLaws.{differingEntry}
 use Rattle.forms.specs.declared.memory.Fault.{Fault}
 use Rattle.verdict.specs.Verdict.{claimTests, comparedCells, answered}
-use Rattle.judge.specs.SetLaws.{set-holds, proper-set}
+use Rattle.scheme.specs.SetLaws.{set-holds}
+use Rattle.judge.specs.ProperSetLaws.{proper-set}
 use Rattle.judge.proofs.JudgeLaws.{basis-proper, claims-live, claims-lost, claims-answer, live-shown, lost-shown}
 use Rattle.judge.proofs.LossLaws.{shows-none}
 use Rattle.candidate.specs.Ready.{ShowsWord}

@@ -14,7 +14,7 @@ use Rattle.word.specs.Ceilings.{DIGITS, PATTERNS, PREFIX, WORD}
 use Rattle.forms.specs.SchemeMemory.{patternsIn}
 use Rattle.text_page.specs.PageLaws.{start as unwritten, finish, writes-as}
 use Rattle.verdict.specs.Witness.{witnessBytes}
-use Rattle.judge.specs.SetLaws.{set-holds}
+use Rattle.scheme.specs.SetLaws.{set-holds}
 use Rattle.judge.proofs.LossLaws.{shows-nothing, shows-some}
 use Rattle.judge.proofs.judging.show_lost.Statement.{statement}
 use Rattle.judge.proofs.judging.show_lost.Tie as tie

@@ -2,21 +2,22 @@
 use Prim.Native.Nat.{ℕ, zero, suc, _≤_, _<_}
 use native.Mathlib.Omega.{arith}
 use mathlib.Core.Path.{_≡_, refl, sym, ap, ap₂, _∙_}
+use mathlib.Core.Bool.{true}
 use mathlib.Core.List.{List, [], _∷_, map, List·Memᴰ, Memᴰ·map}
 use lib.ListN.{length, getD, take}
 use Rattle.word.specs.Ceilings.{DIGITS, PATTERNS}
 use Rattle.word.specs.Lists.{row}
+use Rattle.word.specs.Word.{isPerm}
 use Rattle.word.specs.ListLaws.{map-same, row-out, row-in}
 use Rattle.word.specs.Finding.{clean, firstFault}
 use Rattle.word.specs.Containment.{patternsOf}
-use Rattle.candidate.specs.Ready.{patternAt}
+use Rattle.forms.specs.SetMemory.{patternAt}
 use Rattle.scheme.specs.WellFormed.{patternTests}
 use Rattle.forms.specs.SchemeMemory.{noPattern, patternIn, patternsIn}
 use Rattle.forms.specs.MemoryLaws.{padded-within, length-padded}
 use Rattle.scheme.specs.TestLaws.{length-items}
 use Rattle.forms.specs.declared.memory.Patterns.{Patterns}
 use Rattle.scheme.specs.ProperLaws.{few-patterns, proper-pattern}
-use Rattle.claims.specs.EntryMemory.{ProperSet}
 use Rattle.forms.specs.SetMemory.{HasDigits, HasLengths}
 
 -- the patterns of a set, place by place
@@ -52,7 +53,7 @@ module _ (s : Patterns) (few : s .count ≤ PATTERNS) (short : (i : ℕ) → i <
           ap₂ take size same ∙ sym (padded-within (p .length) (p .digits) (omega (arith, d)))
 
 module _ (s : Patterns) (formed : firstFault (patternTests (patternsIn s)) ≡ clean) where
-  few : s .count ≤ PATTERNS
+  pub few : s .count ≤ PATTERNS
   few = omega (arith, few-patterns (patternsIn s) formed, length-items (λ i. patternIn (getD (s .items) i noPattern)) (s .count))
 
   short : (i : ℕ) → i < s .count → (getD (s .items) i noPattern) .length ≤ DIGITS
@@ -68,10 +69,6 @@ module _ (s : Patterns) (formed : firstFault (patternTests (patternsIn s)) ≡ c
     pub set-holds : patternsOf rows lengths (s .count) ≡ patternsIn s
     set-holds = set-held s few short rows lengths hr hl has sizes
 
-    pub proper-set : ProperSet rows lengths (s .count)
-    proper-set =
-        record {
-          few = few;
-          perms = λ (β : List ℕ) (m : List·Memᴰ β (patternsOf rows lengths (s .count))). proper-pattern
-              (patternsIn s) formed β (rw set-holds at m) .perm;
-        }
+    -- each of them is a permutation
+    pub set-perms : (β : List ℕ) → List·Memᴰ β (patternsOf rows lengths (s .count)) → isPerm β ≡ true
+    set-perms β m = proper-pattern (patternsIn s) formed β (rw set-holds at m) .perm
