@@ -1,7 +1,7 @@
 // What a search for a completion says.
 use word::limits::WORD;
 ghost use mathlib.Core.Path.{_≡_};
-ghost use Rattle.arrangement.specs.declared.searched.Searched.{Searched};
+ghost use mathlib.Core.Bool.{true, false};
 
 // Yes with a completion, no, or neither where the budget did not last; and how many words of the
 // budget are left.
@@ -13,7 +13,9 @@ pub struct Searched {
 }
 
 // Yes: this word is a completion.
-pub fn found_as(word: [u8; WORD], left: usize) -> Searched {
+pub fn found_as(word: [u8; WORD], left: usize) -> Searched
+    ensures { λ r. ⌜ (r .found ≡ true) × (r .none ≡ false) × (r .word ≡ word) ⌝ }
+{
     Searched {
         found: true,
         none: false,
@@ -23,7 +25,9 @@ pub fn found_as(word: [u8; WORD], left: usize) -> Searched {
 }
 
 // No: there is no completion.
-pub fn found_none(word: [u8; WORD], left: usize) -> Searched {
+pub fn found_none(word: [u8; WORD], left: usize) -> Searched
+    ensures { λ r. ⌜ (r .found ≡ false) × (r .none ≡ true) ⌝ }
+{
     Searched {
         found: false,
         none: true,
@@ -33,7 +37,9 @@ pub fn found_none(word: [u8; WORD], left: usize) -> Searched {
 }
 
 // The budget did not last.
-pub fn undecided(word: [u8; WORD]) -> Searched {
+pub fn undecided(word: [u8; WORD]) -> Searched
+    ensures { λ r. ⌜ (r .found ≡ false) × (r .none ≡ false) ⌝ }
+{
     Searched {
         found: false,
         none: false,
