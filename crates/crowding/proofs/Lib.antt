@@ -1,0 +1,4 @@
+-- The laws that the proofs of the crate crowding cite.
+pub mod EndLaws
+pub mod OverLaws
+pub mod PatternLaws
