@@ -11,18 +11,19 @@ use native.Mathlib.Numerals.{add-one}
 use native.Mathlib.Omega.{arith}
 use lib.ListN.{length, getD, take, drop, take-append-drop}
 use lib.Dec.{eqb}
-use lib.Seq.{take-suc, take-take, take-at, take-add, drop-cons, take-append-le, length-take-le, slice-empty}
+use lib.Seq.{take-suc, take-take, take-at, take-append-le, length-take-le, slice-empty}
 use Rattle.word.specs.Word.{isPerm, avoids, has}
 use Rattle.word.specs.ListLaws.{true-not-false, same-or-not}
 use Rattle.word.specs.ContainsLaws.{avoids-sublist}
 use Rattle.word.specs.PermLaws.{has-out, has-in, perm-has}
 use Rattle.cell.specs.SublistLaws.{sublist-length}
-use Rattle.completion.specs.Completion.{begins, begun, completable}
-use Rattle.completion.specs.CompletionLaws.{begins-in, begun-last, completable-out}
+use Rattle.completion.specs.Completion.{begins, completable}
+use Rattle.completion.specs.CompletionLaws.{begins-in, completable-out}
 use Rattle.arrangement.specs.declared.searched.Searched.{Searched}
 use Rattle.arrangement.specs.Exchange.{exchange, Rearranged}
 use Rattle.arrangement.specs.ExchangeLaws.{take-exchange, rearranged-none, rearranged-more}
 use Rattle.arrangement.specs.Searching.{Searches}
+use Rattle.insertion.specs.UnusedLaws.{next-value}
 use Rattle.insertion.specs.Insertion.{putIn, NoneAround, PutsIn}
 
 -- a value of a larger word fits in at some place
@@ -93,19 +94,6 @@ none-put P n fixed v x h low high fresh none w a =
       front = a .front ∙ sym (put-front fixed p v x k l);
       part = t;
     })
-
--- the value behind the first `len` entries of a permutation is new
-next-value : (n len : ℕ) (w : List ℕ) → len < n → n ≤ length w → isPerm (take n w) ≡ true →
-    (1 ≤ getD w len 0) × (getD w len 0 ≤ n) × (has (getD w len 0) (take len w) ≡ false)
-unfolding isPerm begun
-next-value n len w h k p =
-    begun-last n (take len w) (getD w len 0) (take (n - suc len) (drop (suc len) w))
-    (ap (begun n) (sym cut) ∙ ap (λ (m : ℕ). begun m (take n w)) (sym (length-take-le n w k)) ∙ p)
-  where
-    cut : take n w ≡ take len w ++ (getD w len 0 ∷ take (n - suc len) (drop (suc len) w))
-    cut =
-        let e : n ≡ len + suc (n - suc len) = omega arith in
-        ap (λ (m : ℕ). take m w) e ∙ take-add len (suc (n - suc len)) w ∙ rw (drop-cons w len 0 (omega arith)) refl
 
 -- The places from the last one down: the value stands at `place` in w, and there is none around
 -- the word with the value at a place behind that one.

@@ -1,3 +1,4 @@
 -- The definitions of the crate insertion, and then its laws.
 pub mod Insertion
+pub mod UnusedLaws
 pub mod InsertionLaws
