@@ -4,3 +4,4 @@ pub mod Searching
 pub mod OccurrenceLaws
 pub mod ExchangeLaws
 pub mod UnusedLaws
+pub mod SearchingLaws
