@@ -52,6 +52,13 @@ lists-refused (fault v i) o n page r e h = record {
   rest = λ g. absurd (not-given (fault v i) o v i refl r e g);
 }
 
+-- an avoider put on the page, or nothing
+pub puts-some : (o : Option (List ℕ)) (w page after : List ℕ) → o ≡ some w → after ≡ overlay 0 w page → Puts o page after Given
+puts-some o w page after e q = rw e (record { answer = refl; written = q })
+
+pub puts-none : (o : Option (List ℕ)) (page after : List ℕ) → o ≡ none → after ≡ page → Puts o page after Nothing
+puts-none o page after e q = rw e (record { answer = refl; written = q })
+
 -- what was put on the page
 pub lists-put : (f : Finding) (o : Option (List ℕ)) (n : ℕ) (page after : List ℕ) (r : Listed) → f ≡ clean → Puts o page after r →
     ((w : List ℕ) → o ≡ some w → length w ≡ n) → n ≤ length page → Lists f o n page after r

@@ -10,25 +10,20 @@ use native.Mathlib.Numerals.{add-one}
 use lib.ListN.{length, getD, take, drop, length-append, take-append-drop}
 use lib.Seq.{take-take, take-suc, length-take-le, getD-take, drop-cons}
 use Rattle.word.specs.Lists.{first}
-use Rattle.word.specs.Word.{isPerm, avoids, avoiders, before}
+use Rattle.word.specs.Word.{isPerm, avoiders, before}
 use Rattle.word.specs.Listing.{nextAvoider}
 use Rattle.word.specs.ListLaws.{getD-mem}
 use Rattle.word.specs.PermLaws.{perm-bounds}
 use Rattle.word.specs.AscendLaws.{avoiders-all}
 use Rattle.cell.specs.BuiltCells.{same-out}
-use Rattle.completion.specs.Completion.{begins, completable}
-use Rattle.completion.specs.CompletionLaws.{begins-out, completable-in}
+use Rattle.completion.specs.Completion.{begins}
 use Rattle.arrangement.specs.Searching.{Completes}
+use Rattle.arrangement.specs.SearchingLaws.{completes-can}
 use Rattle.lexicographic.specs.Values.{NoneBetween, LeastValue, Avoider, leastFrom, Lowers}
 use Rattle.lexicographic.specs.StepLaws.{completes-next, least-value, NoneAfter, after-none, after-less, after-found}
 use Rattle.lexicographic.specs.WordLaws.{zero-value}
 
--- a word with a completion in hand can be completed
-pub completes-can : (P : List (List ℕ)) (n : ℕ) (u w : List ℕ) → Completes P n u w → completable P n u ≡ true
-completes-can P n u w c =
-    let (r, q) = begins-out u w (c .front) in
-    completable-in P n u r (ap isPerm q ∙ c .perm) (ap length q ∙ c .size) (ap (avoids P) q ∙ c .avoids-all)
-
+-- a completion is an avoider
 pub completes-avoider : (P : List (List ℕ)) (n : ℕ) (u w : List ℕ) → Completes P n u w → Avoider P n w
 completes-avoider P n u w c = record { perm = c .perm; size = c .size; avoids-all = c .avoids-all }
 

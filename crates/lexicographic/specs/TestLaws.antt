@@ -3,12 +3,14 @@ use Prim.Native.Nat.{ℕ, _≤_, _<_}
 use mathlib.Core.Path.{_≡_, refl, sym, ap, _∙_}
 use mathlib.Core.Bool.{Bool, true, false, not}
 use mathlib.Core.List.{List, [], _∷_, _++_, List·Memᴰ·head}
-use native.Mathlib.Omega.{arith}
+use mathlib.Core.Option.{Option}
 use lib.ListN.{length}
 use lib.Dec.{ltb}
 use borrow.Author.Tests.{lt-ltb, le-ltb, ltb-false}
 use Rattle.word.specs.Ceilings.{WORD}
 use Rattle.word.specs.Word.{isPerm, avoids}
+use Rattle.word.specs.Listing.{firstAvoider, nextAvoider}
+use Rattle.word.specs.ListingLaws.{first-given, next-given}
 use Rattle.word.specs.ListLaws.{true-not-false}
 use Rattle.word.specs.Finding.{Finding, clean, fault, test, firstFault}
 use Rattle.word.specs.declared.refusal.Refusal.the-variants.{Oversize, NoPermutation, ShortPage, NoAvoider}
@@ -17,7 +19,9 @@ use Rattle.forms.specs.declared.memory.Fault.{Fault}
 use Rattle.forms.specs.declared.memory.Fault.the-variants.{Clean, At}
 use Rattle.scheme.specs.WellFormed.{patternTests}
 use Rattle.scheme.specs.FindingLaws.{clean-in, clean-left, clean-right, clean-append, clean-test}
-use Rattle.lexicographic.specs.Answers.{lengthTests, wordTests, firstTests, nextTests}
+use Rattle.lexicographic.specs.Answers.{lengthTests, wordTests, firstTests, nextTests, listedOr, Puts, ListsFirst, ListsNext}
+use Rattle.lexicographic.specs.AnswerLaws.{lists-refused, lists-put, lists-first, lists-next}
+use Rattle.lexicographic.specs.declared.answer.Listed.{Listed}
 
 -- the first tests find a fault
 pub found-before : (l m : List Finding) (f : Fault) → f ≡ faultOf (firstFault l) → faulty f ≡ true → f ≡ faultOf (firstFault (l ++ m))
@@ -29,12 +33,12 @@ found-before l m f e h = go l e
     go (fault r i ∷ l) q = q
 
 -- they find none
+pub found-nothing : (x : Finding) (f : Fault) → f ≡ faultOf x → faulty f ≡ false → x ≡ clean
+found-nothing clean f e h = refl
+found-nothing (fault r i) f e h = absurd (true-not-false (sym (ap faulty e) ∙ h))
+
 pub found-none : (l : List Finding) (f : Fault) → f ≡ faultOf (firstFault l) → faulty f ≡ false → firstFault l ≡ clean
-found-none l f e h = go (firstFault l) (sym h ∙ ap faulty e)
-  where
-    go : (x : Finding) → false ≡ faulty (faultOf x) → x ≡ clean
-    go clean q = refl
-    go (fault r i) q = absurd (true-not-false (sym q))
+found-none l f e h = found-nothing (firstFault l) f e h
 
 -- a test in front that finds nothing
 behind-one : (x : Finding) (l : List Finding) → firstFault (x ∷ l) ≡ clean → firstFault l ≡ clean
@@ -117,3 +121,29 @@ next-passed P w room e =
       avoids-all = not-false (avoids P w) (clean-test NoAvoider (not (avoids P w)) (front-one holds (short ∷ []) r3));
       fits = ltb-false room (length w) (clean-test ShortPage (ltb room (length w)) (front-one short [] (behind-one holds (short ∷ []) r3)));
     }
+
+-- the first avoider: the call is refused, or the avoider is put on the page
+pub first-refused : (P : List (List ℕ)) (n : ℕ) (page : List ℕ) (f : Fault) (r : Listed) →
+    f ≡ faultOf (firstFault (firstTests P n (length page))) → faulty f ≡ true → r ≡ listedOr f → ListsFirst P n page page r
+first-refused P n page f r e h q =
+    lists-first P n page page r (lists-refused (firstFault (firstTests P n (length page))) (firstAvoider P n) n page r
+    (q ∙ ap listedOr e) (ap faulty (sym e) ∙ h))
+
+pub first-put : (P : List (List ℕ)) (n : ℕ) (page after : List ℕ) (o : Option (List ℕ)) (r : Listed) →
+    firstFault (firstTests P n (length page)) ≡ clean → o ≡ firstAvoider P n → Puts o page after r → ListsFirst P n page after r
+first-put P n page after o r c e p =
+    lists-first P n page after r (lists-put (firstFault (firstTests P n (length page))) (firstAvoider P n) n page after r c
+    (rw e at p) (λ w q. first-given P n w q .size) (first-passed P n (length page) c .fits))
+
+-- the next, likewise
+pub next-refused : (P : List (List ℕ)) (w page : List ℕ) (f : Fault) (r : Listed) →
+    f ≡ faultOf (firstFault (nextTests P w (length page))) → faulty f ≡ true → r ≡ listedOr f → ListsNext P w page page r
+next-refused P w page f r e h q =
+    lists-next P w page page r (lists-refused (firstFault (nextTests P w (length page))) (nextAvoider P w) (length w) page r
+    (q ∙ ap listedOr e) (ap faulty (sym e) ∙ h))
+
+pub next-put : (P : List (List ℕ)) (w page after : List ℕ) (o : Option (List ℕ)) (r : Listed) →
+    firstFault (nextTests P w (length page)) ≡ clean → o ≡ nextAvoider P w → Puts o page after r → ListsNext P w page after r
+next-put P w page after o r c e p =
+    lists-next P w page after r (lists-put (firstFault (nextTests P w (length page))) (nextAvoider P w) (length w) page after r c
+    (rw e at p) (λ v q. next-given P w v q .size) (next-passed P w (length page) c .fits))

@@ -21,7 +21,7 @@ use Rattle.completion.specs.CompletionLaws.{not-begun, begun-last}
 use Rattle.arrangement.specs.Exchange.{exchange}
 use Rattle.arrangement.specs.ExchangeLaws.{exchange-next}
 use Rattle.arrangement.specs.declared.searched.Searched.{Searched}
-use Rattle.lexicographic.specs.Turns.{Decides}
+use Rattle.arrangement.specs.Searching.{Decides}
 use Rattle.lexicographic.specs.Values.{NoneBetween, SeeksValue, givenIn}
 
 -- numbers in a row are distinct, so 1 to n is a permutation

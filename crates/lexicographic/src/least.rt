@@ -1,11 +1,11 @@
 // The first avoider that begins with given entries, the first of all, and the next after an
 // avoider, place by place.
-use crate::stub::completed;
 use crate::values::Values;
 use crate::values::least_value;
 use arrangement::searched::Searched;
 use arrangement::searched::found_as;
 use arrangement::searched::found_none;
+use turns::completed;
 use word::bytes::wide;
 use word::limits::DIGITS;
 use word::limits::PATTERNS;

@@ -2,5 +2,4 @@
 pub mod answer;
 pub mod least;
 pub mod listing;
-pub mod stub;
 pub mod values;

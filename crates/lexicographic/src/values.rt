@@ -1,8 +1,8 @@
 // The least of some values with which the first entries of a word can be completed.
-use crate::stub::completed;
 use arrangement::exchange::exchanged;
 use arrangement::searched::Searched;
 use arrangement::searched::found_none;
+use turns::completed;
 use word::limits::DIGITS;
 use word::limits::PATTERNS;
 use word::limits::WORD;
@@ -14,7 +14,7 @@ ghost use lib.ListN.{take};
 ghost use Rattle.word.specs.Ceilings.{WORD};
 ghost use Rattle.word.specs.Word.{isPerm};
 ghost use Rattle.word.specs.Containment.{patternsOf};
-ghost use Rattle.lexicographic.specs.Turns.{Decides};
+ghost use Rattle.arrangement.specs.Searching.{Decides};
 ghost use Rattle.lexicographic.specs.Values.{PlaceOf, SeeksValue};
 
 // The values from `low` to below `high`, for an avoider of length n.

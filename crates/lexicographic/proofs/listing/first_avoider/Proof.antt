@@ -1,55 +1,63 @@
+-- `lexicographic::listing::first_avoider` meets its contract: the call is refused, or what was found is put on
+-- the page.
+-- Assumes nothing.
+use mathlib.Core.Path.{_≡_, sym, _∙_}
+use lib.ListN.{length}
 use borrow.Author.Needs.{needs}
+use Rattle.word.specs.Finding.{clean, firstFault}
+use Rattle.forms.specs.SchemeMemory.{patternsIn}
+use Rattle.lexicographic.specs.Answers.{firstTests}
+use Rattle.lexicographic.specs.Values.{givenIn}
+use Rattle.lexicographic.specs.TestLaws.{found-nothing, first-passed, first-refused, first-put}
 use Rattle.lexicographic.proofs.listing.first_avoider.Statement.{statement}
 use Rattle.lexicographic.proofs.listing.first_avoider.Tie as tie
-use Rattle.lexicographic.proofs.listing.first_avoider.Reads as reads
-use Rattle.lexicographic.proofs.listing.first_avoider.Lts as lts
-use Rattle.forms.proofs.order.is_fault.Reads as is-fault-reads
-use Rattle.lexicographic.proofs.answer.refused_or_nothing.Reads as refused-or-nothing-reads
-use Rattle.lexicographic.proofs.listing.first_fault.Reads as first-fault-reads
-use Rattle.lexicographic.proofs.listing.first_listed.Reads as first-listed-reads
-use Rattle.lexicographic.proofs.listing.put_listed.Reads as put-listed-reads
 
--- src/listing.rt:37:9
-first-fault-requires : tie.Need-first-fault-requires
-first-fault-requires c κs = search needs
+-- the place behind which the tests have found nothing
+abbrev first : tie.Else1 → tie.Start
+first c = c .before .before .before .before
 
--- src/listing.rt:38:8
-is-fault-requires : tie.Need-is-fault-requires
-is-fault-requires c κs = search needs
+nothing-found : (c : tie.Else1) → let a = first c .args in firstFault (firstTests (patternsIn (a .patterns)) (a .n) (length (a .page .now))) ≡ clean
+nothing-found c =
+    let a = first c .args in
+    let f = c .before .before .first-fault in
+    found-nothing (firstFault (firstTests (patternsIn (a .patterns)) (a .n) (length (a .page .now)))) (f .result) (f .ensures)
+    (sym (c .before .is-fault .ensures) ∙ c .if1 .left)
 
--- src/listing.rt:39:9
-refused-or-nothing-requires : tie.Need-refused-or-nothing-requires
-refused-or-nothing-requires c κs = search needs
-
--- src/listing.rt:39:9
 returns : tie.Need-returns
-returns c = ?
+returns c =
+    let a = c .before .before .before .before .before .args in
+    let f = c .before .before .before .first-fault in
+    first-refused (patternsIn (a .patterns)) (a .n) (a .page .now) (f .result) (c .refused-or-nothing .result) (f .ensures)
+    (sym (c .before .before .is-fault .ensures) ∙ c .before .if1 .taken) (c .refused-or-nothing .ensures)
 
--- src/listing.rt:41:9
 first-listed-requires : tie.Need-first-listed-requires
-first-listed-requires c κs = ?
+first-listed-requires c κs =
+    let a = first c .args in
+    let p = first-passed (patternsIn (a .patterns)) (a .n) (length (a .page .now)) (nothing-found c) in
+    (p .formed, p .small)
 
--- src/listing.rt:42:5
 put-listed-requires : tie.Need-put-listed-requires
-put-listed-requires c κs = ?
+put-listed-requires c κs =
+    let a = first (c .before .before) .args in
+    first-passed (patternsIn (a .patterns)) (a .n) (length (a .page .now)) (nothing-found (c .before .before)) .small
 
--- src/listing.rt:34:1
-same-length : tie.Need-same-length
-same-length c = search needs
-
--- src/listing.rt:34:1
 returns-2 : tie.Need-returns-2
-returns-2 c = ?
+returns-2 c =
+    let at-listed = c .before .before .before .before in
+    let a = first (at-listed .before) .args in
+    let put = c .before .before .put-listed in
+    first-put (patternsIn (a .patterns)) (a .n) (a .page .now) _ _ (put .result) (nothing-found (at-listed .before))
+    (at-listed .first-listed .ensures) (put .ensures)
 
 pub first-avoider-spec : {M : Type 1} → statement M
 first-avoider-spec =
     tie.close
     (tie.spec
-    first-fault-requires
-    is-fault-requires
-    refused-or-nothing-requires
+    (λ c κs. search needs)
+    (λ c κs. search needs)
+    (λ c κs. search needs)
     returns
     first-listed-requires
     put-listed-requires
-    same-length
+    (λ c. search needs)
     returns-2)

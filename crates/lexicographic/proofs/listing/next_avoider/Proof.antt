@@ -1,55 +1,63 @@
+-- `lexicographic::listing::next_avoider` meets its contract: the call is refused, or what was found is put on
+-- the page.
+-- Assumes nothing.
+use mathlib.Core.Path.{_≡_, sym, _∙_}
+use lib.ListN.{length}
 use borrow.Author.Needs.{needs}
+use Rattle.word.specs.Finding.{clean, firstFault}
+use Rattle.forms.specs.SchemeMemory.{patternsIn}
+use Rattle.lexicographic.specs.Answers.{nextTests}
+use Rattle.lexicographic.specs.Values.{givenIn}
+use Rattle.lexicographic.specs.TestLaws.{found-nothing, next-passed, next-refused, next-put}
 use Rattle.lexicographic.proofs.listing.next_avoider.Statement.{statement}
 use Rattle.lexicographic.proofs.listing.next_avoider.Tie as tie
-use Rattle.lexicographic.proofs.listing.next_avoider.Reads as reads
-use Rattle.lexicographic.proofs.listing.next_avoider.Lts as lts
-use Rattle.forms.proofs.order.is_fault.Reads as is-fault-reads
-use Rattle.lexicographic.proofs.answer.refused_or_nothing.Reads as refused-or-nothing-reads
-use Rattle.lexicographic.proofs.listing.next_fault.Reads as next-fault-reads
-use Rattle.lexicographic.proofs.listing.next_listed.Reads as next-listed-reads
-use Rattle.lexicographic.proofs.listing.put_listed.Reads as put-listed-reads
 
--- src/listing.rt:49:9
-next-fault-requires : tie.Need-next-fault-requires
-next-fault-requires c κs = search needs
+-- the place behind which the tests have found nothing
+abbrev first : tie.Else1 → tie.Start
+first c = c .before .before .before .before .before
 
--- src/listing.rt:50:8
-is-fault-requires : tie.Need-is-fault-requires
-is-fault-requires c κs = search needs
+nothing-found : (c : tie.Else1) → let a = first c .args in firstFault (nextTests (patternsIn (a .patterns)) (a .permutation .now) (length (a .page .now))) ≡ clean
+nothing-found c =
+    let a = first c .args in
+    let f = c .before .before .next-fault in
+    found-nothing (firstFault (nextTests (patternsIn (a .patterns)) (a .permutation .now) (length (a .page .now)))) (f .result) (f .ensures)
+    (sym (c .before .is-fault .ensures) ∙ c .if1 .left)
 
--- src/listing.rt:51:9
-refused-or-nothing-requires : tie.Need-refused-or-nothing-requires
-refused-or-nothing-requires c κs = search needs
-
--- src/listing.rt:51:9
 returns : tie.Need-returns
-returns c = ?
+returns c =
+    let a = c .before .before .before .before .before .before .args in
+    let f = c .before .before .before .next-fault in
+    next-refused (patternsIn (a .patterns)) (a .permutation .now) (a .page .now) (f .result) (c .refused-or-nothing .result) (f .ensures)
+    (sym (c .before .before .is-fault .ensures) ∙ c .before .if1 .taken) (c .refused-or-nothing .ensures)
 
--- src/listing.rt:53:9
 next-listed-requires : tie.Need-next-listed-requires
-next-listed-requires c κs = ?
+next-listed-requires c κs =
+    let a = first c .args in
+    let p = next-passed (patternsIn (a .patterns)) (a .permutation .now) (length (a .page .now)) (nothing-found c) in
+    (p .formed, p .small, p .perm, p .avoids-all)
 
--- src/listing.rt:54:5
 put-listed-requires : tie.Need-put-listed-requires
-put-listed-requires c κs = ?
+put-listed-requires c κs =
+    let a = first (c .before .before) .args in
+    next-passed (patternsIn (a .patterns)) (a .permutation .now) (length (a .page .now)) (nothing-found (c .before .before)) .small
 
--- src/listing.rt:46:1
-same-length : tie.Need-same-length
-same-length c = search needs
-
--- src/listing.rt:46:1
 returns-2 : tie.Need-returns-2
-returns-2 c = ?
+returns-2 c =
+    let at-listed = c .before .before .before .before in
+    let a = first (at-listed .before) .args in
+    let put = c .before .before .put-listed in
+    next-put (patternsIn (a .patterns)) (a .permutation .now) (a .page .now) _ _ (put .result) (nothing-found (at-listed .before))
+    (at-listed .next-listed .ensures) (put .ensures)
 
 pub next-avoider-spec : {M : Type 1} → statement M
 next-avoider-spec =
     tie.close
     (tie.spec
-    next-fault-requires
-    is-fault-requires
-    refused-or-nothing-requires
+    (λ c κs. search needs)
+    (λ c κs. search needs)
+    (λ c κs. search needs)
     returns
     next-listed-requires
     put-listed-requires
-    same-length
+    (λ c. search needs)
     returns-2)
