@@ -2,6 +2,7 @@
 //! from the engine's code. The differential test holds the engine to it, and the benchmark compares
 //! their times.
 
+pub mod avoiders;
 pub mod clock;
 pub mod containment;
 pub mod counting;
