@@ -11,6 +11,7 @@ pub mod finder;
 pub mod guarded;
 pub mod inputs;
 pub mod judging;
+pub mod list_inputs;
 pub mod listing;
 pub mod model;
 pub mod notation;
