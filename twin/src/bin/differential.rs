@@ -40,7 +40,7 @@ const PAGES: [usize; 5] = [0, 1, 31, WITNESS, 40];
 const ENOUGH: usize = 500;
 /// The words that the second implementation may look at for one avoider. An input that takes more is
 /// left out.
-const WORDS: u64 = 20_000;
+const WORDS: u64 = 10_000;
 /// Avoiders up to this length are compared with listing.
 const LISTED: usize = 7;
 
