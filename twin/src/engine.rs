@@ -107,8 +107,8 @@ fn copy_of(pattern: &[u8], permutation: &[u8], page: &mut [u8]) -> Result<u64, u
     answer(code)
 }
 
-/// The first avoider: a set's text, a length and a page; the next: a set's text, a permutation and a
-/// page. The answer is 1 where one is given, 0 for nothing, or the number of the refusal.
+/// The first avoider: a set's text, a length and a page; the next: a set's text, a permutation and
+/// a page. The answer is 1 where one is given, 0 for nothing, or the number of the refusal.
 pub type First = fn(&[u8], usize, &mut [u8]) -> Result<u64, u32>;
 
 /// The engine's first and next avoider.

@@ -38,8 +38,8 @@ const PAGES: [usize; 5] = [0, 1, 31, WITNESS, 40];
 /// A run that meets fewer refusals 11, or compares fewer witnesses with listing, or finds fewer
 /// copies, than this proves too little, and fails.
 const ENOUGH: usize = 500;
-/// The words that the second implementation may look at for one avoider. An input that takes more is
-/// left out.
+/// The words that the second implementation may look at for one avoider. An input that takes more
+/// is left out.
 const WORDS: u64 = 10_000;
 /// Avoiders up to this length are compared with listing.
 const LISTED: usize = 7;
@@ -394,7 +394,7 @@ impl Test {
     fn follow(&mut self, tally: &mut Tally, set: &[u8], mut start: Start, steps: usize) -> Vec<Vec<u8>> {
         let mut given = vec![];
         while given.len() <= steps {
-            let input = Listed { kind: "walk", patterns: set.to_vec(), start };
+            let input = Listed { kind: "walks", patterns: set.to_vec(), start };
             let Some(word) = self.list_one(tally, &input) else { break };
             given.push(word.clone());
             start = Start::After(word);
@@ -428,39 +428,45 @@ impl Test {
                 tally.skipped += 1;
                 return None;
             };
-            let lent = self.page.page(length);
-            let [first, second] = &mut self.texts;
-            let patterns = first.place(&input.patterns);
-            let started = Instant::now();
-            let found = match &input.start {
-                Start::Length(n) => engine::FIRST.map(|call| call(patterns, *n, lent)),
-                Start::After(word) => engine::NEXT.map(|call| call(patterns, second.place(word), lent)),
-            };
-            tally.took(started.elapsed(), input);
-            let expected = answer.map(|given| given as u64).map_err(|r| r.0);
-            if found.is_some_and(|found| (found, &*lent) != (expected, &page[..])) {
-                let expected = format!("{expected:?} {page:?}");
-                let found = format!("{found:?} {lent:?}");
-                self.report("the engine's avoider", &expected, &found, &input.patterns, asked.as_bytes());
-            }
+            self.list_by_engine(tally, input, answer, &page);
             tally.count(answer);
             last = Some((answer, page));
         }
         let (answer, page) = last?;
         let given = (answer == Ok(true)).then(|| page[..n].to_vec());
+        let kind = tally.kinds.entry(input.kind).or_default();
+        kind.0 += 1;
+        kind.1 += given.is_some() as usize;
         if answer.is_ok() && n <= LISTED {
-            tally.listed += 1;
-            let listing = tally.listing(&input.patterns);
-            let slow = match &input.start {
-                Start::Length(n) => listing.first(*n),
-                Start::After(word) => listing.next(word),
-            };
+            let slow = tally.slowly(input);
             if slow != given {
                 let (slow, fast) = (format!("{slow:?}"), format!("{given:?}"));
                 self.report("the slow and the fast avoider", &slow, &fast, &input.patterns, asked.as_bytes());
             }
         }
         given
+    }
+
+    /// The engine on an input of listing, with a page as long as the given one, which shows what is
+    /// expected.
+    fn list_by_engine(&mut self, tally: &mut Tally, input: &Listed, answer: Answer, page: &[u8]) {
+        let lent = self.page.page(page.len());
+        let [first, second] = &mut self.texts;
+        let patterns = first.place(&input.patterns);
+        let started = Instant::now();
+        let found = match &input.start {
+            Start::Length(n) => engine::FIRST.map(|call| call(patterns, *n, lent)),
+            Start::After(word) => engine::NEXT.map(|call| call(patterns, second.place(word), lent)),
+        };
+        tally.took(started.elapsed(), input);
+        let Some(found) = found else { return };
+        let (found, expected) = ((found, &*lent), (answer.map(u64::from).map_err(|r| r.0), page));
+        if found != expected {
+            let (expected, found) = (format!("{expected:?}"), format!("{found:?}"));
+            let what = format!("the engine's avoider on a page of {} bytes", page.len());
+            let asked = format!("{:?}", input.start);
+            self.report(&what, &expected, &found, &input.patterns, asked.as_bytes());
+        }
     }
 
     /// The fast mode against the slow one, where the lengths are small.
@@ -638,6 +644,8 @@ struct Tally {
     given: usize,
     nothing: usize,
     refused: BTreeMap<u32, usize>,
+    /// inputs of each kind, and how many of them were given an avoider
+    kinds: BTreeMap<&'static str, (usize, usize)>,
     /// inputs that are left out
     skipped: usize,
     listed: usize,
@@ -664,6 +672,16 @@ impl Tally {
         }
     }
 
+    /// The avoider by listing.
+    fn slowly(&mut self, input: &Listed) -> Option<Vec<u8>> {
+        self.listed += 1;
+        let listing = self.listing(&input.patterns);
+        match &input.start {
+            Start::Length(n) => listing.first(*n),
+            Start::After(word) => listing.next(word),
+        }
+    }
+
     /// The listing of a set that can be read.
     fn listing(&mut self, set: &[u8]) -> &mut Listing {
         if self.listing.as_ref().is_none_or(|(other, _)| other != set) {
@@ -675,6 +693,10 @@ impl Tally {
     }
 
     fn print(&self) {
+        println!("{:<28}{:>8}{:>10}", "kind of set and start", "inputs", "given");
+        for (kind, (inputs, given)) in &self.kinds {
+            println!("{kind:<28}{inputs:>8}{given:>10}");
+        }
         let refused: Vec<String> = self.refused.iter().map(|(number, count)| format!("{number}: {count}")).collect();
         println!("calls for an avoider: {} given, {} nothing, refused {}", self.given, self.nothing, refused.join(", "));
         println!("avoiders compared with listing: {}; inputs left out after {WORDS} words: {}", self.listed, self.skipped);
