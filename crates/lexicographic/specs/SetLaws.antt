@@ -16,7 +16,7 @@ use Rattle.forms.specs.declared.memory.Patterns.{Patterns}
 use Rattle.scheme.specs.WellFormed.{patternTests}
 use Rattle.scheme.specs.ProperLaws.{proper-pattern}
 use Rattle.scheme.specs.SetLaws.{set-held}
-use Rattle.lexicographic.specs.Values.{HoldsBasis}
+use Rattle.lexicographic.specs.BasisSet.{HoldsBasis}
 use Rattle.lexicographic.specs.AnswerLaws.{basis-first, basis-next}
 
 module _ (P : List (List ℕ)) (formed : firstFault (patternTests P) ≡ clean) (s : Patterns) (b : HoldsBasis P s) (rows : List (List ℕ))

@@ -84,7 +84,8 @@ module _ (s : List ℕ) (p : PatternsRead) (is : p ≡ patternsAnswer s) where
     pub next-done : (w page after : List ℕ) (c : Listed) (r : ℕ) → ListsNext (patternsIn (p .patterns)) w page after c →
         r ≡ listedCode c → NextOfText s w page after r
     next-done w page after c r d k =
-        let l : Lists (firstFault (nextTests (patternsOfText s) w (length page))) (nextAvoider (patternsOfText s) w) (length w) page after c =
+        let l : Lists (firstFault (nextTests (patternsOfText s) w (length page))) (nextAvoider (patternsOfText s) w) (length w)
+        page after c =
         rw is at (d .lists) in
         record {
           answer = done-code (λ P. nextTests P w (length page)) (nextAvoider (patternsOfText s) w) (length w) page after c l r k;

@@ -6,7 +6,7 @@ use lib.ListN.{length, take}
 use lib.Seq.{length-take-le}
 use borrow.Author.Needs.{needs}
 use Rattle.word.specs.Ceilings.{WORD}
-use Rattle.lexicographic.specs.WordLaws.{given-some, given-none}
+use Rattle.successor.specs.WordLaws.{given-some, given-none}
 use Rattle.lexicographic.specs.AnswerLaws.{puts-some, puts-none}
 use Rattle.lexicographic.proofs.listing.put_listed.Statement.{statement}
 use Rattle.lexicographic.proofs.listing.put_listed.Tie as tie

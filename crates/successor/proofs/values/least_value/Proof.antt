@@ -1,4 +1,4 @@
--- `lexicographic::values::least_value` meets its contract: with none of the values before can the
+-- `successor::values::least_value` meets its contract: with none of the values before can the
 -- front be completed.
 -- Assumes nothing.
 use Prim.Native.Nat.{ℕ, _-_, _≤_}
@@ -7,10 +7,10 @@ use native.Mathlib.Omega.{arith}
 use lib.ListN.{take}
 use borrow.Author.Needs.{needs}
 use Rattle.word.specs.Containment.{patternsOf}
-use Rattle.lexicographic.specs.Values.{NoneBetween}
-use Rattle.lexicographic.specs.WordLaws.{none-more, seeks-found, seeks-none}
-use Rattle.lexicographic.proofs.values.least_value.Statement.{statement}
-use Rattle.lexicographic.proofs.values.least_value.Tie as tie
+use Rattle.successor.specs.Values.{NoneBetween}
+use Rattle.successor.specs.WordLaws.{none-more, seeks-found, seeks-none}
+use Rattle.successor.proofs.values.least_value.Statement.{statement}
+use Rattle.successor.proofs.values.least_value.Tie as tie
 
 abbrev Inv-loop : tie.InvT-loop
 Inv-loop set lengths count word i n high value₀ value =

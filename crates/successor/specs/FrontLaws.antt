@@ -19,9 +19,9 @@ use Rattle.cell.specs.BuiltCells.{same-out}
 use Rattle.completion.specs.Completion.{begins}
 use Rattle.arrangement.specs.Searching.{Completes}
 use Rattle.arrangement.specs.SearchingLaws.{completes-can}
-use Rattle.lexicographic.specs.Values.{NoneBetween, LeastValue, Avoider, leastFrom, Lowers}
-use Rattle.lexicographic.specs.StepLaws.{completes-next, least-value, NoneAfter, after-none, after-less, after-found}
-use Rattle.lexicographic.specs.WordLaws.{zero-value}
+use Rattle.successor.specs.Values.{NoneBetween, LeastValue, Avoider, leastFrom, Lowers}
+use Rattle.successor.specs.StepLaws.{completes-next, least-value, NoneAfter, after-none, after-less, after-found}
+use Rattle.successor.specs.WordLaws.{zero-value}
 
 -- a completion is an avoider
 pub completes-avoider : (P : List (List ℕ)) (n : ℕ) (u w : List ℕ) → Completes P n u w → Avoider P n w

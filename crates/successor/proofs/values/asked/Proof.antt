@@ -1,4 +1,4 @@
--- `lexicographic::values::asked` meets its contract: a value that is not unused completes nothing,
+-- `successor::values::asked` meets its contract: a value that is not unused completes nothing,
 -- and an unused one is brought behind the first i entries.
 -- Assumes nothing.
 use Prim.Native.Nat.{_<_}
@@ -11,9 +11,9 @@ use borrow.Author.Needs.{needs}
 use Rattle.word.specs.Ceilings.{WORD}
 use Rattle.word.specs.Containment.{patternsOf}
 use Rattle.arrangement.specs.ExchangeLaws.{exchange-perm}
-use Rattle.lexicographic.specs.WordLaws.{behind-or-used, used-value, decides-none, brought}
-use Rattle.lexicographic.proofs.values.asked.Statement.{statement}
-use Rattle.lexicographic.proofs.values.asked.Tie as tie
+use Rattle.successor.specs.WordLaws.{behind-or-used, used-value, decides-none, brought}
+use Rattle.successor.proofs.values.asked.Statement.{statement}
+use Rattle.successor.proofs.values.asked.Tie as tie
 
 returns : tie.Need-returns
 returns c =

@@ -7,10 +7,6 @@ use mathlib.Core.Option.{Option, none, some}
 use lib.ListN.{length, getD, take, drop}
 use Rattle.word.specs.Lists.{first}
 use Rattle.word.specs.Word.{isPerm, avoids, avoiders, has}
-use Rattle.word.specs.Ceilings.{DIGITS, PATTERNS}
-use Rattle.cell.specs.Basis.{basis}
-use Rattle.forms.specs.SchemeMemory.{noPattern, patternsIn}
-use Rattle.forms.specs.declared.memory.Patterns.{Patterns}
 use Rattle.completion.specs.Completion.{begins, completable}
 use Rattle.arrangement.specs.Searching.{Completes}
 use Rattle.arrangement.specs.declared.searched.Searched.{Searched}
@@ -58,9 +54,3 @@ pub record Lowers (P : List (List ℕ)) (n i j : ℕ) (w r : List ℕ) : Type 0 
 -- the avoider that an answer gives, or none
 abbrev pub givenIn : ℕ → Searched → Option (List ℕ)
 givenIn n r = cond (r .found) (some (take n (r .word))) none
-
--- a set in memory that holds the basis of P, within the ceilings
-pub record HoldsBasis (P : List (List ℕ)) (r : Patterns) : Type 0 where
-  pub holds : patternsIn r ≡ basis P
-  pub few : r .count ≤ PATTERNS
-  pub short : (i : ℕ) → i < r .count → (getD (r .items) i noPattern) .length ≤ DIGITS

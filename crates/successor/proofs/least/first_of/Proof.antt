@@ -1,4 +1,4 @@
--- `lexicographic::least::first_of` meets its contract: the first avoider that begins with ε.
+-- `successor::least::first_of` meets its contract: the first avoider that begins with ε.
 -- Assumes nothing.
 use mathlib.Core.Path.{sym, ap, _∙_}
 use native.Mathlib.Omega.{arith}
@@ -8,11 +8,11 @@ use borrow.Author.Needs.{needs}
 use Rattle.word.specs.Ceilings.{WORD}
 use Rattle.word.specs.Word.{isPerm}
 use Rattle.word.specs.Containment.{patternsOf}
-use Rattle.lexicographic.specs.StepLaws.{first-least, least-none}
-use Rattle.lexicographic.specs.WordLaws.{perm-row, take-row, given-some, given-none}
-use Rattle.lexicographic.specs.FrontLaws.{completes-avoider}
-use Rattle.lexicographic.proofs.least.first_of.Statement.{statement}
-use Rattle.lexicographic.proofs.least.first_of.Tie as tie
+use Rattle.successor.specs.StepLaws.{first-least, least-none}
+use Rattle.successor.specs.WordLaws.{perm-row, take-row, given-some, given-none}
+use Rattle.successor.specs.FrontLaws.{completes-avoider}
+use Rattle.successor.proofs.least.first_of.Statement.{statement}
+use Rattle.successor.proofs.least.first_of.Tie as tie
 
 completed-requires : tie.Need-completed-requires
 completed-requires c κs =

@@ -1,4 +1,4 @@
--- `lexicographic::least::lowered` meets its contract: the least smaller value, or the entry itself.
+-- `successor::least::lowered` meets its contract: the least smaller value, or the entry itself.
 -- Assumes nothing.
 use mathlib.Core.Path.{_≡_}
 use native.Mathlib.Omega.{arith}
@@ -6,9 +6,9 @@ use lib.ListN.{length}
 use borrow.Author.Needs.{needs}
 use Rattle.word.specs.Ceilings.{WORD}
 use Rattle.word.specs.Containment.{patternsOf}
-use Rattle.lexicographic.specs.FrontLaws.{entry-within, lowers-found, lowers-own}
-use Rattle.lexicographic.proofs.least.lowered.Statement.{statement}
-use Rattle.lexicographic.proofs.least.lowered.Tie as tie
+use Rattle.successor.specs.FrontLaws.{entry-within, lowers-found, lowers-own}
+use Rattle.successor.proofs.least.lowered.Statement.{statement}
+use Rattle.successor.proofs.least.lowered.Tie as tie
 
 least-value-requires : tie.Need-least-value-requires
 least-value-requires c κs =

@@ -1,4 +1,4 @@
--- `lexicographic::least::least_from` meets its contract: at each place the first avoider with the
+-- `successor::least::least_from` meets its contract: at each place the first avoider with the
 -- front so far is the one that is sought.
 -- Assumes nothing.
 use Prim.Native.Nat.{ℕ, _-_, _≤_}
@@ -7,10 +7,10 @@ use native.Mathlib.Omega.{arith}
 use lib.ListN.{take}
 use borrow.Author.Needs.{needs}
 use Rattle.word.specs.Containment.{patternsOf}
-use Rattle.lexicographic.specs.Values.{Avoider, leastFrom}
-use Rattle.lexicographic.specs.StepLaws.{least-whole}
-use Rattle.lexicographic.proofs.least.least_from.Statement.{statement}
-use Rattle.lexicographic.proofs.least.least_from.Tie as tie
+use Rattle.successor.specs.Values.{Avoider, leastFrom}
+use Rattle.successor.specs.StepLaws.{least-whole}
+use Rattle.successor.proofs.least.least_from.Statement.{statement}
+use Rattle.successor.proofs.least.least_from.Tie as tie
 
 abbrev Inv-loop : tie.InvT-loop
 Inv-loop set lengths count k n best₀ i₀ best i =

@@ -21,7 +21,7 @@ use Rattle.word.specs.AscendLaws.{ascends, before-first, avoiders-are, avoiders
 use Rattle.word.specs.FirstLaws.{first-is, first-none, first-ordered, before-asym}
 use Rattle.completion.specs.Completion.{begins, completable}
 use Rattle.completion.specs.CompletionLaws.{begins-out, begins-in, completable-in}
-use Rattle.lexicographic.specs.Values.{NoneBetween, Avoider, leastFrom}
+use Rattle.successor.specs.Values.{NoneBetween, Avoider, leastFrom}
 
 -- words with the same front are compared behind it
 pub before-behind : (u s t : List ℕ) → before (u ++ s) (u ++ t) ≡ before s t

@@ -15,7 +15,7 @@ ghost use Rattle.word.specs.Ceilings.{WORD};
 ghost use Rattle.word.specs.Word.{isPerm};
 ghost use Rattle.word.specs.Containment.{patternsOf};
 ghost use Rattle.arrangement.specs.Searching.{Decides};
-ghost use Rattle.lexicographic.specs.Values.{PlaceOf, SeeksValue};
+ghost use Rattle.successor.specs.Values.{PlaceOf, SeeksValue};
 
 // The values from `low` to below `high`, for an avoider of length n.
 pub struct Values {

@@ -18,7 +18,7 @@ ghost use Rattle.word.specs.Ceilings.{WORD};
 ghost use Rattle.word.specs.Lists.{oneTo};
 ghost use Rattle.word.specs.Listing.{firstAvoider, nextAvoider};
 ghost use Rattle.word.specs.Containment.{patternsOf};
-ghost use Rattle.lexicographic.specs.Values.{SeeksValue, Avoider, leastFrom, Lowers, givenIn};
+ghost use Rattle.successor.specs.Values.{SeeksValue, Avoider, leastFrom, Lowers, givenIn};
 
 // The first avoider of length n that begins with the first k entries of an avoider. At each further
 // place only the values below the entry that stands there are asked for: with that entry the word

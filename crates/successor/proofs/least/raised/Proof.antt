@@ -1,9 +1,9 @@
--- `lexicographic::least::raised` meets its contract.
+-- `successor::least::raised` meets its contract.
 -- Assumes nothing.
 use native.Mathlib.Omega.{arith}
 use borrow.Author.Needs.{needs}
-use Rattle.lexicographic.proofs.least.raised.Statement.{statement}
-use Rattle.lexicographic.proofs.least.raised.Tie as tie
+use Rattle.successor.proofs.least.raised.Statement.{statement}
+use Rattle.successor.proofs.least.raised.Tie as tie
 
 least-value-requires : tie.Need-least-value-requires
 least-value-requires c κs =

@@ -1,4 +1,4 @@
--- `lexicographic::least::next_of` meets its contract: no avoider with a longer front comes
+-- `successor::least::next_of` meets its contract: no avoider with a longer front comes
 -- after the word.
 -- Assumes nothing.
 use Prim.Native.Nat.{ℕ, _+_, _-_, _≤_}
@@ -9,11 +9,11 @@ use lib.ListN.{length, take}
 use borrow.Author.Needs.{needs}
 use Rattle.word.specs.Ceilings.{WORD}
 use Rattle.word.specs.Containment.{patternsOf}
-use Rattle.lexicographic.specs.StepLaws.{NoneAfter, after-whole}
-use Rattle.lexicographic.specs.WordLaws.{given-some, given-none}
-use Rattle.lexicographic.specs.FrontLaws.{next-less, next-found, next-end, completes-avoider}
-use Rattle.lexicographic.proofs.least.next_of.Statement.{statement}
-use Rattle.lexicographic.proofs.least.next_of.Tie as tie
+use Rattle.successor.specs.StepLaws.{NoneAfter, after-whole}
+use Rattle.successor.specs.WordLaws.{given-some, given-none}
+use Rattle.successor.specs.FrontLaws.{next-less, next-found, next-end, completes-avoider}
+use Rattle.successor.proofs.least.next_of.Statement.{statement}
+use Rattle.successor.proofs.least.next_of.Tie as tie
 
 abbrev Inv-loop : tie.InvT-loop
 Inv-loop set lengths count word n i₀ i = NoneAfter (patternsOf set lengths count) n (take n word) (take i word) × (i ≤ n)

@@ -22,7 +22,7 @@ use Rattle.arrangement.specs.Exchange.{exchange}
 use Rattle.arrangement.specs.ExchangeLaws.{exchange-next}
 use Rattle.arrangement.specs.declared.searched.Searched.{Searched}
 use Rattle.arrangement.specs.Searching.{Decides}
-use Rattle.lexicographic.specs.Values.{NoneBetween, SeeksValue, givenIn}
+use Rattle.successor.specs.Values.{NoneBetween, SeeksValue, givenIn}
 
 -- numbers in a row are distinct, so 1 to n is a permutation
 row-distinct : (a n : ℕ) → distinct (row a n) ≡ true

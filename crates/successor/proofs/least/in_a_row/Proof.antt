@@ -1,4 +1,4 @@
--- `lexicographic::least::in_a_row` meets its contract: the first i entries are 1 to i.
+-- `successor::least::in_a_row` meets its contract: the first i entries are 1 to i.
 -- Assumes nothing.
 use Prim.Native.Nat.{ℕ, suc, _-_, _+_, _≤_, _<_}
 use mathlib.Core.Path.{_≡_, refl, sym, ap, ap₂, _∙_}
@@ -10,9 +10,9 @@ use lib.Seq.{take-all, take-suc-set}
 use borrow.Author.Needs.{needs}
 use Rattle.word.specs.Ceilings.{WORD}
 use Rattle.word.specs.Lists.{oneTo}
-use Rattle.lexicographic.specs.WordLaws.{row-more}
-use Rattle.lexicographic.proofs.least.in_a_row.Statement.{statement}
-use Rattle.lexicographic.proofs.least.in_a_row.Tie as tie
+use Rattle.successor.specs.WordLaws.{row-more}
+use Rattle.successor.proofs.least.in_a_row.Statement.{statement}
+use Rattle.successor.proofs.least.in_a_row.Tie as tie
 
 abbrev Inv-loop : tie.InvT-loop
 Inv-loop word₀ i₀ word i = (take i word ≡ oneTo i) × (length word ≡ WORD) × (i ≤ WORD)

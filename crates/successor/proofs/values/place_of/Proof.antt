@@ -1,4 +1,4 @@
--- `lexicographic::values::place_of` meets its contract: what is still to come has the value exactly
+-- `successor::values::place_of` meets its contract: what is still to come has the value exactly
 -- if the entries from the place i on have it.
 -- Assumes nothing.
 use Prim.Native.Nat.{ℕ, _-_, _≤_}
@@ -8,9 +8,9 @@ use lib.ListN.{length, take, drop}
 use borrow.Author.Needs.{needs}
 use Rattle.word.specs.Ceilings.{WORD}
 use Rattle.word.specs.Word.{has}
-use Rattle.lexicographic.specs.WordLaws.{has-later, has-end}
-use Rattle.lexicographic.proofs.values.place_of.Statement.{statement}
-use Rattle.lexicographic.proofs.values.place_of.Tie as tie
+use Rattle.successor.specs.WordLaws.{has-later, has-end}
+use Rattle.successor.proofs.values.place_of.Statement.{statement}
+use Rattle.successor.proofs.values.place_of.Tie as tie
 
 abbrev Inv-loop : tie.InvT-loop
 Inv-loop i n value word j₀ j = (i ≤ j) × (j ≤ n) × (has value (drop i (take n word)) ≡ has value (drop j (take n word)))
