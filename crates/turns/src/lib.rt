@@ -25,7 +25,7 @@ ghost use Rattle.turns.specs.Turns.{Ready};
 
 // how many words each search may try in the first turn
 const FIRST: usize = 32;
-// The budget from which on appending also tests the unused values in pairs. That takes up to 400
+// The budget from which on appending also tests the unused values in pairs. That takes up to 380
 // tests of containment a word, where the other tests take 20: too many for the questions that a few
 // words decide, which are most of them.
 const PAIRS: usize = 256;
