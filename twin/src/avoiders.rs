@@ -7,6 +7,9 @@ use crate::word::{copy_through, ends_copy, is_permutation};
 
 /// The words that each search may look at in the first turn; from turn to turn they double.
 const FIRST_TURN: u64 = 32;
+/// From this turn on appending also looks at pairs of unused values: up to 380 tests for a copy of
+/// a pattern a word, which do not pay where a few words decide.
+const PAIRS_TURN: u64 = 256;
 
 /// Whether an avoider is given, or a refusal.
 pub type Answer = Result<bool, Refusal>;
@@ -145,6 +148,8 @@ pub struct Search<'a> {
     effort: &'a mut Effort,
     /// the words that the search at work may still look at in this turn
     left: u64,
+    /// whether pairs of unused values are looked at in this turn
+    pairs: bool,
 }
 
 impl Search<'_> {
@@ -156,7 +161,7 @@ impl Search<'_> {
             kind.map(|p| p.count()).min()
         };
         let monotone = shortest(true).zip(shortest(false));
-        Search { basis, n, monotone, effort, left: 0 }
+        Search { basis, n, monotone, effort, left: 0, pairs: false }
     }
 
     /// The first avoider of length n.
@@ -227,6 +232,7 @@ impl Search<'_> {
         let descending = word;
         let mut turn = FIRST_TURN;
         loop {
+            self.pairs = turn >= PAIRS_TURN;
             for kind in KINDS {
                 self.left = turn;
                 let outcome = match kind {
@@ -256,7 +262,8 @@ impl Search<'_> {
     }
 
     /// Appends the unused values, which ascend, in every order. A value that cannot follow now
-    /// cannot follow later, so one such value ends the search. The word avoids.
+    /// cannot follow later, so one such value ends the search; in later turns two values that can
+    /// follow in neither order do too. The word avoids.
     fn append(&mut self, word: &Word, length: usize) -> Outcome {
         if length == self.n {
             return Outcome::Found(*word);
@@ -265,6 +272,9 @@ impl Search<'_> {
             return Outcome::Undecided;
         }
         if self.is_crowded(word, length) || !self.all_follow(word, length) {
+            return Outcome::Nothing;
+        }
+        if self.pairs && !self.pairs_follow(word, length) {
             return Outcome::Nothing;
         }
         let mut longer = *word;
@@ -285,6 +295,18 @@ impl Search<'_> {
             longer[length] = value;
             !self.basis.iter().any(|p| ends_copy(p.items(), &longer[..=length]))
         })
+    }
+
+    /// Whether each two unused values can follow the word in one of the two orders. Each of them
+    /// alone can.
+    fn pairs_follow(&self, word: &Word, length: usize) -> bool {
+        let unused = &word[length..self.n];
+        let mut longer = *word;
+        let mut follow = |x: u8, y: u8| {
+            (longer[length], longer[length + 1]) = (x, y);
+            !self.basis.iter().any(|p| ends_copy(p.items(), &longer[..length + 2]))
+        };
+        unused.iter().enumerate().all(|(i, &x)| unused[i + 1..].iter().all(|&y| follow(x, y) || follow(y, x)))
     }
 
     /// Whether more values are unused than the theorem of Erdős and Szekeres leaves room for. The
