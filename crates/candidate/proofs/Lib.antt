@@ -6,4 +6,3 @@ pub mod LookupLaws
 pub mod CandidateMade
 pub mod NeedLaws
 pub mod CandidateWalk
-pub mod LeastWalk

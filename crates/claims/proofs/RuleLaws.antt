@@ -20,11 +20,12 @@ use Rattle.cell.specs.Candidate.{violatedFirst, lostWords, leastOf, leastCandid
 use Rattle.cell.specs.Claim.{DeletionClaim}
 use Rattle.forms.specs.GapRows.{gapsOf}
 use Rattle.forms.specs.SetMemory.{patternAt}
-use Rattle.candidate.specs.Ready.{Given, FoundAt, ShowsWord, EntryAnswer}
+use Rattle.candidate.specs.Ready.{Given, FoundAt, EntryAnswer}
+use Rattle.lost_word.specs.Shown.{ShowsWord}
 use Rattle.candidate.specs.declared.search.Lost.{Lost}
-use Rattle.candidate.specs.declared.least.LostWord.{LostWord}
+use Rattle.lost_word.specs.declared.least.LostWord.{LostWord}
 use Rattle.candidate.proofs.CandidateWalk.{located-total}
-use Rattle.candidate.proofs.LeastWalk.{candidate-none, candidate-some, candidate-found, shows-found}
+use Rattle.lost_word.proofs.LeastWalk.{candidate-none, candidate-some, candidate-found, shows-found}
 use Rattle.candidate.specs.BasisMemory.{pattern-member}
 use Rattle.forms.specs.SchemeList.{deletes}
 use Rattle.scheme.specs.WellFormed.{outside}

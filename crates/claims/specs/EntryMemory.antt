@@ -12,8 +12,8 @@ use Rattle.cell.specs.Candidate.{leastCandidate}
 use Rattle.forms.specs.SchemeList.{Does, expands, deletes, EntryList}
 use Rattle.forms.specs.declared.memory.Rule.the-variants.{Delete}
 use Rattle.forms.specs.declared.memory.Entry.{Entry}
-use Rattle.candidate.specs.Ready.{ShowsWord}
-use Rattle.candidate.specs.declared.least.LostWord.{LostWord}
+use Rattle.lost_word.specs.Shown.{ShowsWord}
+use Rattle.lost_word.specs.declared.least.LostWord.{LostWord}
 use Rattle.verdict.specs.Verdict.{differs, comparedWith}
 
 -- a set in memory of at most PATTERNS permutations

@@ -1,14 +1,14 @@
 // The claims of one entry in memory: whether a gap vector's cell is not empty, whether the deletion
 // is irreversible and what it loses then, how many cells are compared.
 use crate::gaps::is_live;
-use candidate::least::LostWord;
-use candidate::least::least_lost;
-use candidate::least::no_word;
 use candidate::search::Deletion;
 use candidate::search::irreversible;
 use forms::gaps::entry_gap;
 use forms::memory::Entry;
 use forms::memory::Rule;
+use lost_word::least::LostWord;
+use lost_word::least::least_lost;
+use lost_word::least::no_word;
 use spacing::compared_count;
 use word::limits::DIGITS;
 use word::limits::PATTERNS;

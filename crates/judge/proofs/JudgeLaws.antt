@@ -30,7 +30,7 @@ use Rattle.verdict.specs.Verdict.{claimTests, comparedCells, judgeTests, answer
 use Rattle.verdict.specs.Truth.{WellFormed}
 use Rattle.claims.specs.EntryMemory.{ProperSet}
 use Rattle.forms.specs.SetMemory.{HasDigits, HasLengths}
-use Rattle.candidate.specs.Ready.{ShowsWord}
+use Rattle.lost_word.specs.Shown.{ShowsWord}
 use Rattle.verdict.specs.Witness.{wordShown, bytesShown}
 use Rattle.judge.specs.SetMemory.{ComparesCells, lossShown, Loses}
 use Rattle.judge.specs.declared.deletions.Loss.{Loss}

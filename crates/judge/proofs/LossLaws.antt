@@ -22,8 +22,8 @@ use Rattle.forms.specs.declared.memory.Scheme.{Scheme}
 use Rattle.scheme.specs.WellFormed.{firstAt, outside}
 use Rattle.scheme.specs.Proper.{ProperEntry}
 use Rattle.scheme.specs.ProperLaws.{position-inside}
-use Rattle.candidate.specs.Ready.{ShowsWord}
-use Rattle.candidate.specs.declared.least.LostWord.{LostWord}
+use Rattle.lost_word.specs.Shown.{ShowsWord}
+use Rattle.lost_word.specs.declared.least.LostWord.{LostWord}
 use Rattle.claims.specs.EntryMemory.{ruleCandidate}
 use Rattle.verdict.specs.Witness.{ruleWord, indexedEntry, entryWord, wordShown}
 use Rattle.verdict.specs.WitnessLaws.{shown-candidate}

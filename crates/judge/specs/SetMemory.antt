@@ -15,8 +15,8 @@ use Rattle.forms.specs.declared.memory.Fault.{Fault}
 use Rattle.forms.specs.declared.memory.Fault.the-variants.{Clean, At}
 use Rattle.scheme.specs.WellFormed.{firstAt}
 use Rattle.text_page.specs.Page.{Writes}
-use Rattle.candidate.specs.Ready.{ShowsWord}
-use Rattle.candidate.specs.declared.least.LostWord.{LostWord}
+use Rattle.lost_word.specs.Shown.{ShowsWord}
+use Rattle.lost_word.specs.declared.least.LostWord.{LostWord}
 use Rattle.claims.specs.EntryMemory.{ruleCandidate}
 use Rattle.verdict.specs.Verdict.{differs, claimTests, comparedCells, answered}
 use Rattle.verdict.specs.Witness.{witnessBytes, indexedEntry, wordShown}

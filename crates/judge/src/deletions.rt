@@ -1,11 +1,11 @@
 // Test 11 over all entries, one entry at a time.
 use candidate::basis::longest_length;
-use candidate::least::LostWord;
-use candidate::least::no_word;
 use candidate::needed::all_needs;
 use claims::entries::is_irreversible;
 use forms::memory::Fault;
 use forms::memory::Scheme;
+use lost_word::least::LostWord;
+use lost_word::least::no_word;
 use word::limits::DIGITS;
 use word::limits::PATTERNS;
 use word::refusal::Refusal;

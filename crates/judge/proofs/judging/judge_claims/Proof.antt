@@ -24,7 +24,7 @@ use Rattle.scheme.specs.SetLaws.{set-holds}
 use Rattle.judge.specs.ProperSetLaws.{proper-set}
 use Rattle.judge.proofs.JudgeLaws.{basis-proper, claims-live, claims-lost, claims-answer, live-shown, lost-shown}
 use Rattle.judge.proofs.LossLaws.{shows-none}
-use Rattle.candidate.specs.Ready.{ShowsWord}
+use Rattle.lost_word.specs.Shown.{ShowsWord}
 use Rattle.verdict.specs.Witness.{wordShown}
 use Rattle.judge.specs.JudgementLaws.{refused-answer}
 use borrow.Author.Needs.{needs}

@@ -21,16 +21,17 @@ use Rattle.word.specs.ListLaws.{true-not-false, first-some}
 use Rattle.cell.specs.Cell.{total, without, compared}
 use Rattle.cell.specs.Built.{built}
 use Rattle.cell.specs.Candidate.{violates, violated, restOf, violatedFirst, lostWords, leastOf, leastAt, leastCandidate}
 use Rattle.candidate.specs.Lookup.{VALUES, needAt, flagged}
 use Rattle.candidate.specs.Tabled.{IsCandidate}
 use Rattle.forms.specs.SetMemory.{patternAt}
-use Rattle.candidate.specs.Ready.{Looked, FoundAt, ShowsWord}
-use Rattle.candidate.specs.Shown.{shown, lesserShown, lostBy, WordAnswer}
+use Rattle.candidate.specs.Ready.{Looked, FoundAt}
+use Rattle.lost_word.specs.Shown.{ShowsWord}
+use Rattle.lost_word.specs.Shown.{shown, lesserShown, lostBy, WordAnswer}
 use Rattle.candidate.specs.declared.search.Lost.{Lost}
-use Rattle.candidate.specs.declared.least.LostWord.{LostWord}
+use Rattle.lost_word.specs.declared.least.LostWord.{LostWord}
 use Rattle.candidate.proofs.BasisWalk.{from, from-start, from-counted, from-cons}
 use Rattle.candidate.proofs.LookupLaws.{flag-none}
 use Rattle.candidate.proofs.CandidateWalk.{Violates, word-made}
 
 -- comparing two words from index i on
 

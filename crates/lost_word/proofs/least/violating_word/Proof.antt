@@ -1,4 +1,4 @@
--- `candidate::least::violating_word` meets its contract: the tests decide whether the pattern
+-- `lost_word::least::violating_word` meets its contract: the tests decide whether the pattern
 -- violates, and the word is made with nothing gone.
 -- Assumes nothing.
 use denote.Ref.{now}
@@ -15,11 +15,11 @@ use Rattle.word.specs.Ceilings.{DIGITS, PREFIX}
 use Rattle.word.specs.Word.{avoids}
 use Rattle.word.specs.Containment.{patternsOf}
 use Rattle.forms.specs.SetMemory.{patternAt}
 use Rattle.candidate.proofs.BasisWalk.{take-again}
 use Rattle.candidate.proofs.CandidateWalk.{Violates, violates-short, violates-not, violates-by, word-made}
-use Rattle.candidate.proofs.LeastWalk.{word-none, word-some, whole-made}
-use Rattle.candidate.proofs.least.violating_word.Statement.{statement}
-use Rattle.candidate.proofs.least.violating_word.Tie as tie
+use Rattle.lost_word.proofs.LeastWalk.{word-none, word-some, whole-made}
+use Rattle.lost_word.proofs.least.violating_word.Statement.{statement}
+use Rattle.lost_word.proofs.least.violating_word.Tie as tie
 
 -- the prefix has all its places
 six-digits : (start : tie.Start) → length (start .args .spot .prefix) ≡ PREFIX

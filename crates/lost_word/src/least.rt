@@ -1,16 +1,16 @@
 // The least word that a deletion loses at one spacing. All patterns are looked at: the word of the
 // first that violates need not be the least.
-use crate::basis::digits;
-use crate::needed::need_at;
-use crate::search::Deletion;
-use crate::search::Lost;
-use crate::search::contained_by;
-use crate::search::hits;
-use crate::tables::Tables;
-use crate::tables::VALUES;
-use crate::tables::candidate_word;
-use crate::tables::deleted_values;
-use crate::tables::levels_of;
+use candidate::basis::digits;
+use candidate::needed::need_at;
+use candidate::search::Deletion;
+use candidate::search::Lost;
+use candidate::search::contained_by;
+use candidate::search::hits;
+use candidate::tables::Tables;
+use candidate::tables::VALUES;
+use candidate::tables::candidate_word;
+use candidate::tables::deleted_values;
+use candidate::tables::levels_of;
 use word::limits::DIGITS;
 use word::limits::PATTERNS;
 use word::limits::PREFIX;
@@ -25,10 +25,11 @@ ghost use Rattle.word.specs.Word.{before};
 ghost use Rattle.word.specs.Containment.{patternsOf};
 ghost use Rattle.cell.specs.Cell.{total};
 ghost use Rattle.cell.specs.Candidate.{lostWords, leastOf};
 ghost use Rattle.candidate.specs.Lookup.{VALUES, NEEDS};
 ghost use Rattle.candidate.specs.Tabled.{IsCandidate};
-ghost use Rattle.candidate.specs.Ready.{AllNeeds, Given, ShowsWord};
-ghost use Rattle.candidate.specs.Shown.{shown, lesserShown, WordAnswer};
+ghost use Rattle.candidate.specs.Ready.{AllNeeds, Given};
+ghost use Rattle.lost_word.specs.Shown.{ShowsWord};
+ghost use Rattle.lost_word.specs.Shown.{shown, lesserShown, WordAnswer};
 
 // A word that is lost, if there is one: so many of the entries.
 pub struct LostWord {

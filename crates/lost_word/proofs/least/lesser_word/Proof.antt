@@ -1,13 +1,13 @@
--- `candidate::least::lesser_word` meets its contract: by the cases of what is there.
+-- `lost_word::least::lesser_word` meets its contract: by the cases of what is there.
 -- Assumes nothing.
 use mathlib.Core.Path.{_≡_}
 use native.Mathlib.Omega.{arith}
 use lib.ListN.{length, length-take}
 use Rattle.word.specs.Ceilings.{WORD}
-use Rattle.candidate.proofs.LeastWalk.{lesser-missing, lesser-first, lesser-next, lesser-stays}
+use Rattle.lost_word.proofs.LeastWalk.{lesser-missing, lesser-first, lesser-next, lesser-stays}
 use borrow.Author.Needs.{needs}
-use Rattle.candidate.proofs.least.lesser_word.Statement.{statement}
-use Rattle.candidate.proofs.least.lesser_word.Tie as tie
+use Rattle.lost_word.proofs.least.lesser_word.Statement.{statement}
+use Rattle.lost_word.proofs.least.lesser_word.Tie as tie
 
 -- the arrays of the words have all their places
 all-next : (start : tie.Start) → length (start .args .next .entries) ≡ WORD

@@ -1,4 +1,4 @@
--- `candidate::least::least_lost` meets its contract: the least word is that of the best so far and
+-- `lost_word::least::least_lost` meets its contract: the least word is that of the best so far and
 -- of the patterns from the index on.
 -- Assumes nothing.
 use denote.Ref.{now}
@@ -12,9 +12,9 @@ use lib.Seq.{length-take-le}
 use Rattle.word.specs.Ceilings.{DIGITS, PATTERNS, PREFIX, COMPONENTS}
 use Rattle.word.specs.Lists.{all}
 use Rattle.word.specs.Word.{within}
-use Rattle.candidate.proofs.LeastWalk.{Kept, kept-start, kept-next, kept-end}
-use Rattle.candidate.proofs.least.least_lost.Statement.{statement}
-use Rattle.candidate.proofs.least.least_lost.Tie as tie
+use Rattle.lost_word.proofs.LeastWalk.{Kept, kept-start, kept-next, kept-end}
+use Rattle.lost_word.proofs.least.least_lost.Statement.{statement}
+use Rattle.lost_word.proofs.least.least_lost.Tie as tie
 
 abbrev Inv-loop : tie.InvT-loop
 Inv-loop set lengths count needs k spot best₀ i₀ best i =

@@ -1,4 +1,4 @@
--- `candidate::least::comes_before` meets its contract: the words compare as what is left of them
+-- `lost_word::least::comes_before` meets its contract: the words compare as what is left of them
 -- does.
 -- Assumes nothing.
 use Prim.Native.Nat.{_-_, _≤_}
@@ -7,9 +7,9 @@ use borrow.Author.Needs.{needs}
 use native.Mathlib.Omega.{arith}
 use lib.ListN.{length, drop}
 use Rattle.word.specs.Word.{before}
-use Rattle.candidate.proofs.LeastWalk.{before-short, before-end, before-other, before-same}
-use Rattle.candidate.proofs.least.comes_before.Statement.{statement}
-use Rattle.candidate.proofs.least.comes_before.Tie as tie
+use Rattle.lost_word.proofs.LeastWalk.{before-short, before-end, before-other, before-same}
+use Rattle.lost_word.proofs.least.comes_before.Statement.{statement}
+use Rattle.lost_word.proofs.least.comes_before.Tie as tie
 
 abbrev Inv-loop : tie.InvT-loop
 Inv-loop a b i₀ i = (i ≤ length a) × (i ≤ length b) × (before a b ≡ before (drop i a) (drop i b))

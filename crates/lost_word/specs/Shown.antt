@@ -1,17 +1,23 @@
 -- Words in memory that may be missing, and the lesser of two of them. Definitions only.
-use Prim.Native.Nat.{ℕ}
+use Prim.Native.Nat.{ℕ, _+_, _≤_}
 use mathlib.Core.Path.{_≡_}
-use mathlib.Core.Bool.{cond}
+use mathlib.Core.Bool.{true, false, cond}
 use mathlib.Core.List.{List}
 use mathlib.Core.Option.{Option, none, some}
 use lib.ListN.{take}
+use Rattle.word.specs.Ceilings.{DIGITS, PREFIX}
 use Rattle.word.specs.Containment.{patternsOf}
 use Rattle.cell.specs.Cell.{total}
 use Rattle.cell.specs.Built.{built}
 use Rattle.cell.specs.Candidate.{violates, restOf, lesser}
 use Rattle.forms.specs.SetMemory.{patternAt}
 use Rattle.candidate.specs.Ready.{Looked}
-use Rattle.candidate.specs.declared.least.LostWord.{LostWord}
+use Rattle.lost_word.specs.declared.least.LostWord.{LostWord}
+
+-- r shows the word that there is, or none; the word is short
+abbrev pub ShowsWord : Option (List ℕ) → LostWord → Type 0
+ShowsWord none r = r .found ≡ false
+ShowsWord (some w) r = (r .found ≡ true) × (take (r .length) (r .entries) ≡ w) × (r .length ≤ PREFIX + DIGITS)
 
 -- the word that r holds
 abbrev pub shown : LostWord → Option (List ℕ)

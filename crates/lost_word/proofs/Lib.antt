@@ -1,0 +1,2 @@
+-- The laws that the proofs of the crate lost_word cite.
+pub mod LeastWalk

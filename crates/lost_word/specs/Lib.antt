@@ -1,0 +1,2 @@
+-- The definitions of the crate lost_word.
+pub mod Shown

@@ -1,0 +1,2 @@
+// The least word that a deletion loses at one spacing.
+pub mod least;
