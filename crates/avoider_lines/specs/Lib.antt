@@ -5,3 +5,5 @@ pub mod LineTests
 pub mod LineTestLaws
 pub mod LineText
 pub mod LineTextLaws
+pub mod Followed
+pub mod FollowedLaws
