@@ -24,7 +24,6 @@ use Rattle.table_lines.specs.CallerLaws.{take-least}
 use Rattle.lexicographic.specs.Answers.{firstTests, nextTests, Lists, ListsFirst, ListsNext}
 use Rattle.lexicographic.specs.TestLaws.{found-nothing, next-clean, first-passed}
 use Rattle.lexicographic.specs.declared.answer.Listed.{Listed}
-use Rattle.lexicographic.specs.declared.answer.Listed.the-variants.{Given}
 use Rattle.avoider_lines.specs.Followed.{isGiven, unlessFault, listedIf, listed}
 
 -- what stands on the page where it was given is the avoider
@@ -51,11 +50,11 @@ module _ (P : List (List ℕ)) (word : List ℕ) (n count : ℕ) (all : length w
       cond b (some (take n after)) none ≡ unlessFault (firstFault (nextTests P (take n word) WORD)) (nextAvoider P (take n word))
   shown-next b l g =
       let few-word : take count word ≡ take n word =
-          ap (λ (m : ℕ). take m word) (few ∙ ap (min n) (sym all)) ∙ take-least word n in
+      ap (λ (m : ℕ). take m word) (few ∙ ap (min n) (sym all)) ∙ take-least word n in
       let size : length (take count word) ≡ min n (length after) =
-          length-take-le count word (omega arith) ∙ few ∙ ap (min n) (sym k) in
+      length-take-le count word (omega arith) ∙ few ∙ ap (min n) (sym k) in
       let same : take (length (take count word)) after ≡ take n after =
-          ap (λ (m : ℕ). take m after) size ∙ take-least after n in
+      ap (λ (m : ℕ). take m after) size ∙ take-least after n in
       ap (λ (x : Bool). cond x (some (take n after)) none) g ∙
       ap (λ (v : List ℕ). cond (isGiven r) (some v) none) (sym same) ∙
       shown-listed (firstFault (nextTests P (take count word) (length page))) (nextAvoider P (take count word)) (length (take count word))

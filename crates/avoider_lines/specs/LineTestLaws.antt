@@ -28,12 +28,12 @@ use Rattle.notation.proofs.AnswerLaws.{answer-cut}
 use Rattle.notation.proofs.PatternAnswerLaws.{answered}
 use Rattle.wellformed.proofs.OrderLaws.{two-faults}
 use Rattle.table_lines.specs.Lines.{numberIn}
-use Rattle.table_lines.specs.Kept.{setRoom, schemeRoom, Memory, keptOf, asNumber}
+use Rattle.table_lines.specs.Kept.{setRoom, Memory, keptOf, asNumber}
 use Rattle.table_lines.specs.declared.input.Number.{Number}
 use Rattle.table_lines.specs.declared.input.Number.the-variants.{Is, Misspelt as NoNumber}
 use Rattle.avoider_lines.specs.TwoLines.{Two, twoLines, isTwo, heldTwo, twoIn}
-use Rattle.avoider_lines.specs.TwoLineLaws.{fronts, frontsIf, kept-two}
-use Rattle.avoider_lines.specs.LineTests.{setFound, lengthFound, lineTests, setAsked, valueOf, lengthAsked, Asks, AsksFor}
+use Rattle.avoider_lines.specs.TwoLineLaws.{frontsIf, kept-two}
+use Rattle.avoider_lines.specs.LineTests.{setFound, lengthFound, valueOf, Asks, AsksFor}
 use Rattle.avoider_lines.specs.declared.judging.Asked.{Asked}
 
 -- the fault in the answer to a text is what the tests of the first line find
@@ -62,7 +62,7 @@ number-cut n (a ∷ b ∷ c ∷ l) = refl
 set-cut : (s : List ℕ) → patternsAnswer (take setRoom s) ≡ patternsAnswer s
 set-cut s = answer-cut refusedPatterns testedPatterns PATTERN_TEXT readPatterns s
 
--- what the tests of the first line find is the answer that reading gives with a finding in its place
+-- what the tests of the first line find is an answer of reading, with a finding in its place
 found-answer : (s : List ℕ) → setFound s ≡ answerTo fault (λ P. firstFault (patternTests P)) PATTERN_TEXT readPatterns s
 found-answer s = split (readPatterns (tokens s))
   where
@@ -127,7 +127,7 @@ module _ (memory : Memory) (r : Asked) where
   pub asks-missing : isTwo (memory .lines) ≡ false → Asks none r → AsksFor memory r
   asks-missing e a =
       let held : Asks (twoIn memory) r =
-          subst (λ (b : Bool). Asks (cond b (some (heldTwo memory)) none) r) (sym e) a in
+      subst (λ (b : Bool). Asks (cond b (some (heldTwo memory)) none) r) (sym e) a in
       record {
         held = held;
         kept = held-kept memory r held;
@@ -142,8 +142,8 @@ module _ (memory : Memory) (r : Asked) where
       let t = heldTwo memory in
       let reads = answered (t .set) p answers .1 in
       let lines : Asks (some t) r =
-          asks-lines t r (subst (λ (q : PatternsRead). AsksBy q (asNumber (numberIn (t .last))) r) answers
-          (subst (λ (k : Number). AsksBy p k r) number a)) in
+      asks-lines t r (subst (λ (q : PatternsRead). AsksBy q (asNumber (numberIn (t .last))) r) answers
+      (subst (λ (k : Number). AsksBy p k r) number a)) in
       let held : Asks (twoIn memory) r = subst (λ (b : Bool). Asks (cond b (some t) none) r) (sym e) lines in
       record {
         held = held;

@@ -9,7 +9,7 @@ use lib.ListN.{take}
 use lib.Dec.{eqb, ltb, leb·suc-suc}
 use borrow.Author.Tests.{lt-ltb, le-ltb, eq-eqb, ne-eqb}
 use Rattle.table_lines.specs.Lines.{isEnd, line, behind}
-use Rattle.table_lines.specs.Kept.{setRoom, schemeRoom, lastRoom, heldLength, endsIn, upToThree, hasBytes, keptOf}
+use Rattle.table_lines.specs.Kept.{setRoom, schemeRoom, heldLength, endsIn, upToThree, hasBytes, keptOf}
 use Rattle.table_lines.specs.declared.input.Lines.{Lines}
 use Rattle.table_lines.specs.CallerLaws.{held-front}
 use Rattle.avoider_lines.specs.TwoLines.{Two, unlessThird, twoLines, isTwo, heldTwo, twoIn}

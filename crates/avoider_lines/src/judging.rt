@@ -94,7 +94,11 @@ fn asked_by(read: PatternsRead, number: Number) -> Asked
     let wrong = length_fault(number);
     let fault = earlier(found, wrong);
     let length = value_of(number);
-    Asked { fault, patterns, length }
+    Asked {
+        fault,
+        patterns,
+        length,
+    }
 }
 
 // What is wrong with the length.

@@ -1,4 +1,5 @@
--- `avoider_lines::judging::asked_by` meets its contract: the fault of the set, then that of the length.
+-- `avoider_lines::judging::asked_by` meets its contract: the fault of the set, then that of
+-- the length.
 -- Assumes nothing.
 use mathlib.Core.Path.{refl, ap, _∙_}
 use Rattle.forms.specs.SchemeMemory.{orElse}
@@ -10,8 +11,7 @@ returns : tie.Need-returns
 returns c =
     let at-earlier = c .before in
     let at-fault = at-earlier .before in
-    let start = at-fault .before .before in
-    (
+    let start = at-fault .before .before in (
       at-earlier .earlier .ensures ∙ ap (orElse (start .args .read .fault)) (at-fault .length-fault .ensures),
       refl,
       c .value-of .ensures,

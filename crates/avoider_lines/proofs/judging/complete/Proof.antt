@@ -1,7 +1,7 @@
 -- `avoider_lines::judging::complete` meets its contract: the second line, then the third.
 -- Assumes nothing.
+use native.Mathlib.Omega.{arith}
 use Rattle.avoider_lines.specs.TwoLineLaws.{second-missing, third-begun, ends-decide}
-use borrow.Author.Needs.{needs}
 use Rattle.avoider_lines.proofs.judging.complete.Statement.{statement}
 use Rattle.avoider_lines.proofs.judging.complete.Tie as tie
 
@@ -11,7 +11,7 @@ returns c = second-missing (c .before .before .args .lines) (c .if1 .taken)
 returns-2 : tie.Need-returns-2
 returns-2 c =
     let start = c .before .before .before .before in
-    third-begun (start .args .lines) (c .before .before .if1 .left) (c .if2 .taken)
+    third-begun (start .args .lines) (c .before .before .if1 .left) (omega (arith, c .if2 .taken))
 
 returns-3 : tie.Need-returns-3
 returns-3 c =

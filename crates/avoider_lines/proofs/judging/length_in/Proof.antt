@@ -24,7 +24,8 @@ returns c =
     let n = c .before .before .least in
     let a = start .args in
     c .number-in .ensures
-    ∙ ap (λ (s : List ℕ). asNumber (numberIn s)) (ap (λ (x : ℕ). take x (a .second .now)) (n .ensures .0) ∙ take-least (a .second .now) (a .lines .«scheme_length»))
+    ∙ ap (λ (s : List ℕ). asNumber (numberIn s))
+    (ap (λ (x : ℕ). take x (a .second .now)) (n .ensures .0) ∙ take-least (a .second .now) (a .lines .«scheme_length»))
 
 pub length-in-spec : {M : Type 1} → statement M
 length-in-spec =

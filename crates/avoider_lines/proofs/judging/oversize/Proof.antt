@@ -1,7 +1,6 @@
 -- `avoider_lines::judging::oversize` meets its contract: by the ceiling.
 -- Assumes nothing.
 use Rattle.avoider_lines.specs.LineTestLaws.{length-large, length-small}
-use borrow.Author.Needs.{needs}
 use Rattle.avoider_lines.proofs.judging.oversize.Statement.{statement}
 use Rattle.avoider_lines.proofs.judging.oversize.Tie as tie
 

@@ -1,5 +1,5 @@
--- `avoider_lines::listing::next_word` meets its contract: what stands in the word where it was given
--- is the next avoider.
+-- `avoider_lines::listing::next_word` meets its contract: what stands in the word where it was
+-- given is the next avoider.
 -- Assumes nothing.
 use mathlib.Core.Path.{_≡_, refl, sym}
 use native.Mathlib.Omega.{arith}

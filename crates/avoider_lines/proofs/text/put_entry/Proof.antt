@@ -1,7 +1,7 @@
 -- `avoider_lines::text::put_entry` meets its contract: a space, then the number.
 -- Assumes nothing.
 use native.Mathlib.Omega.{arith}
-use mathlib.Core.Path.{ap, _∙_}
+use mathlib.Core.Path.{ap}
 use Rattle.text_page.specs.PageLaws.{writes-as, writes-join}
 use Rattle.text_page.specs.Decimal.{decimal}
 use Rattle.text_page.specs.DecimalLaws.{room-decimal}

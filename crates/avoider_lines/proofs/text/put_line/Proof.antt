@@ -62,9 +62,12 @@ loop-again c =
     let at-least = at-loop .before .before .before .before .before .before .before in
     let a = at-least .before .before .args in
     let l = at-loop .loop in
-    let w = c .before .before .put-entry .ensures in
-    (omega arith, omega arith, omega (arith, w .1),
-    step (again (l .inv .3) (line-step (a .t2) (a .n) (at-least .least .result) (few at-least) (l .i) (omega arith))) (w .0))
+    let w = c .before .before .put-entry .ensures in (
+      omega arith,
+      omega arith,
+      omega (arith, w .1),
+      step (again (l .inv .3) (line-step (a .t2) (a .n) (at-least .least .result) (few at-least) (l .i) (omega arith))) (w .0),
+    )
 
 put-requires-2 : tie.Need-put-requires-2 Inv-loop μ-loop
 put-requires-2 c κs =
@@ -90,8 +93,7 @@ returns-2 c =
     let first = at-decimal .put-decimal .ensures in
     let end = c .before .before .put2 .ensures in
     let rest = finish-by (again (l .inv .3) (line-end (a .t2) (a .n) (k .result) (few at-least) (l .i) (omega arith))) end in
-    let number = writes-as (first .0) (ap decimal (at-decimal .before .long .ensures .0)) in
-    (
+    let number = writes-as (first .0) (ap decimal (at-decimal .before .long .ensures .0)) in (
       writes-as (writes-join number rest) (sym (line-first (a .t2) (a .n) (k .result) (few at-least) (at-if1 .if1 .left))),
       omega (arith, l .inv .1, l .inv .2, k .ensures .1, end .moved),
     )

@@ -1,7 +1,7 @@
 -- `avoider_lines::writing::write_avoiders` meets its contract and ends: the lines that were written
 -- and those to come are the list, and fewer are to come each turn.
 -- Assumes nothing.
-use Prim.Native.Nat.{_-_, _<_}
+use Prim.Native.Nat.{_-_}
 use native.Mathlib.Omega.{arith}
 use mathlib.Core.Path.{sym, subst}
 use mathlib.Core.Bool.{Bool, cond}
@@ -70,7 +70,7 @@ returns-2 c =
     let l = at-loop .loop in
     let P = patternsIn (a .patterns) in
     let none-left = subst (λ (b : Bool). Follow P (a .n) (cond b (some (take (a .n) (l .found .word))) none) (l .lines))
-        (c .loop-test .left) (l .inv) in
+    (c .loop-test .left) (l .inv) in
     record {
       all = λ e. follow-end P (a .n) (l .lines) none-left;
       most = follow-most P (a .n) _ _ (l .inv);
