@@ -11,7 +11,6 @@ use Rattle.word.specs.Finding.{clean, firstFault}
 use Rattle.word.specs.Containment.{patternsOf}
 use Rattle.cell.specs.Basis.{basis}
 use Rattle.cell.specs.BasisLaws.{basis-avoids}
-use Rattle.forms.specs.SchemeMemory.{patternsIn}
 use Rattle.forms.specs.SetMemory.{HasDigits, HasLengths}
 use Rattle.forms.specs.declared.memory.Patterns.{Patterns}
 use Rattle.scheme.specs.WellFormed.{patternTests}

@@ -7,12 +7,12 @@ use mathlib.Core.Bool.{Bool, true, false, cond, _&&_}
 use mathlib.Core.List.{List, [], _∷_, _++_, append-nil, append-assoc, map-id, List·Memᴰ, List·Memᴰ·head, Memᴰ·append-right}
 use mathlib.Core.Option.{Option, none, some}
 use native.Mathlib.Omega.{arith}
-use lib.ListN.{length, getD, take, drop, length-append}
+use lib.ListN.{length, length-append}
 use lib.Dec.{ltb, eqb}
 use borrow.Author.Tests.{eqb-true}
 use Rattle.word.specs.Lists.{any, first}
 use Rattle.word.specs.Word.{isPerm, avoids, avoiders, before}
-use Rattle.word.specs.Listing.{headOf, firstAvoider, nextAvoider}
+use Rattle.word.specs.Listing.{firstAvoider}
 use Rattle.word.specs.ListingLaws.{head-first}
 use Rattle.word.specs.ListLaws.{true-not-false, fails-with, below-or-not, same-or-not, first-some, any-out}
 use Rattle.word.specs.CopyLaws.{found, first-found, before-irrefl, before-cons, before-larger}

@@ -101,7 +101,8 @@ pub decides-none : (P : List (List ℕ)) (n : ℕ) (u : List ℕ) (r : Searched)
 decides-none P n u r e f = record { decided = f ∙ sym e; word = λ t. absurd (true-not-false (sym t ∙ e)) }
 
 -- the front with an entry brought behind it
-pub brought : (w r : List ℕ) (i j v : ℕ) → i ≤ j → j < length w → getD w j 0 ≡ v → r ≡ exchange i j w → take (i + 1) r ≡ take i w ++ (v ∷ [])
+pub brought : (w r : List ℕ) (i j v : ℕ) → i ≤ j → j < length w → getD w j 0 ≡ v → r ≡ exchange i j w →
+    take (i + 1) r ≡ take i w ++ (v ∷ [])
 brought w r i j v h k e q =
     ap (λ (m : ℕ). take m r) (add-one i) ∙ ap (take (suc i)) q ∙ exchange-next i j w h k ∙ ap (λ (x : ℕ). take i w ++ (x ∷ [])) e
 

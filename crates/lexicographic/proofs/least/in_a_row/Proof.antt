@@ -40,4 +40,16 @@ returns c =
     sym (take-all (l .i) (l .word) (omega (arith, l .inv .1))) ∙ l .inv .0 ∙ ap oneTo all
 
 pub in-a-row-spec : {M : Type 1} → statement M
-in-a-row-spec = tie.close (tie.spec Inv-loop μ-loop loop-holds (λ c. search needs) (λ c. search needs) (λ c. search needs) (λ c. search needs) (λ c. search needs) loop-again returns)
+in-a-row-spec =
+    tie.close
+    (tie.spec
+    Inv-loop
+    μ-loop
+    loop-holds
+    (λ c. search needs)
+    (λ c. search needs)
+    (λ c. search needs)
+    (λ c. search needs)
+    (λ c. search needs)
+    loop-again
+    returns)

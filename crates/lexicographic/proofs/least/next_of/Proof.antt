@@ -1,5 +1,5 @@
--- `lexicographic::least::next_of` meets its contract: no avoider with a longer front comes after the
--- word.
+-- `lexicographic::least::next_of` meets its contract: no avoider with a longer front comes
+-- after the word.
 -- Assumes nothing.
 use Prim.Native.Nat.{ℕ, _+_, _-_, _≤_}
 use mathlib.Core.Path.{_≡_, sym, subst, _∙_}

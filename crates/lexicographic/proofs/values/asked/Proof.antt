@@ -22,10 +22,11 @@ returns c =
     let long : length (a .word) ≡ WORD = search needs in
     let size = length-take-le (a .wanted .n) (a .word) (omega (arith, long, start .pre .1)) in
     let place = c .before .before .place-of .ensures in
+    let P = patternsOf (a .set) (a .lengths) (a .count) in
     let used = behind-or-used (a .word) (a .wanted .n) (a .i) (a .wanted .value) (start .pre .4) size (omega (arith, start .pre .0))
     (start .pre .2) (start .pre .3) (place .nowhere (c .before .if1 .taken)) in
-    decides-none (patternsOf (a .set) (a .lengths) (a .count)) (a .wanted .n) (take (a .i) (a .word) ++ (a .wanted .value ∷ []))
-    (c .found-none .result) (used-value (patternsOf (a .set) (a .lengths) (a .count)) (a .wanted .n) (take (a .i) (a .word)) (a .wanted .value) used)
+    decides-none P (a .wanted .n) (take (a .i) (a .word) ++ (a .wanted .value ∷ []))
+    (c .found-none .result) (used-value P (a .wanted .n) (take (a .i) (a .word)) (a .wanted .value) used)
     (c .found-none .ensures .0)
 
 completed-requires : tie.Need-completed-requires
@@ -36,7 +37,8 @@ completed-requires c κs =
     let j = c .before .before .place-of .result in
     let place = c .before .before .place-of .ensures in
     let inside : j < a .wanted .n = omega (arith, place .to, c .before .if1 .left) in
-    let perm = exchange-perm (a .wanted .n) (a .i) j (a .word) (start .pre .0) inside (omega (arith, long, start .pre .1)) (start .pre .4) in
+    let perm = exchange-perm (a .wanted .n) (a .i) j (a .word) (start .pre .0) inside (omega (arith, long, start .pre .1))
+    (start .pre .4) in
     (omega (arith, start .pre .0), start .pre .1, rw (c .exchanged .ensures) perm)
 
 returns-2 : tie.Need-returns-2
@@ -47,8 +49,8 @@ returns-2 c =
     let j = c .before .before .before .place-of .result in
     let place = c .before .before .before .place-of .ensures in
     let inside : j < a .wanted .n = omega (arith, place .to, c .before .before .if1 .left) in
-    rw (brought (a .word) (c .before .exchanged .result) (a .i) j (a .wanted .value) (place .from) (omega (arith, inside, long, start .pre .1))
-    (place .there inside) (c .before .exchanged .ensures)) at (c .completed .ensures)
+    rw (brought (a .word) (c .before .exchanged .result) (a .i) j (a .wanted .value) (place .from)
+    (omega (arith, inside, long, start .pre .1)) (place .there inside) (c .before .exchanged .ensures)) at (c .completed .ensures)
 
 pub asked-spec : {M : Type 1} → statement M
 asked-spec =

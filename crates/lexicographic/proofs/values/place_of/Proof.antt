@@ -8,7 +8,6 @@ use lib.ListN.{length, take, drop}
 use borrow.Author.Needs.{needs}
 use Rattle.word.specs.Ceilings.{WORD}
 use Rattle.word.specs.Word.{has}
-use Rattle.lexicographic.specs.Values.{PlaceOf}
 use Rattle.lexicographic.specs.WordLaws.{has-later, has-end}
 use Rattle.lexicographic.proofs.values.place_of.Statement.{statement}
 use Rattle.lexicographic.proofs.values.place_of.Tie as tie
