@@ -6,8 +6,8 @@ use mathlib.Core.Path.{_≡_, refl, sym, ap, ap₂, _∙_}
 use mathlib.Core.Bool.{Bool, true, false, cond}
 use mathlib.Core.List.{List, [], _∷_, _++_, append-nil, append-assoc, List·Memᴰ·head, Memᴰ·append-right}
 use mathlib.Core.Option.{Option, none, some}
-use lib.ListN.{length, take, length-append}
-use lib.Seq.{length-take-le}
+use lib.ListN.{length, take, getD, length-append}
+use lib.Seq.{length-take-le, getD-at}
 use borrow.Author.Tests.{ltb-true}
 use Rattle.word.specs.Ceilings.{WORD}
 use Rattle.word.specs.Lists.{first, keep}
@@ -137,6 +137,10 @@ module _ (P : List (List ℕ)) (n : ℕ) where
     follow-below : k < length (listed P n)
     follow-below = omega (arith, f .number, ap length here, length-append (f .past) (w ∷ b .behind))
 
+    -- the avoider at hand is the one with the index k
+    is-there : w ≡ getD (listed P n) k []
+    is-there = sym (ap (λ (l : List (List ℕ)). getD l k []) here ∙ getD-at (f .past) w (b .behind) [] k (sym (f .number)))
+
     -- so the tests of the patterns and of the length find nothing
     passed : firstFault (firstTests P n WORD) ≡ clean
     passed = split (firstFault (firstTests P n WORD)) follow-below
@@ -175,6 +179,9 @@ module _ (P : List (List ℕ)) (n : ℕ) where
         }
 
   module _ (w : List ℕ) (k : ℕ) (f : Follow P n (some w) k) where
+    pub at-hand-is : w ≡ getD (listed P n) k []
+    at-hand-is = is-there w k f (at-head w (f .rest) (f .head))
+
     pub lines-below : k < length (listed P n)
     lines-below = follow-below w k f (at-head w (f .rest) (f .head))
 

@@ -10,7 +10,8 @@ use lib.ListN.{length, take}
 use Rattle.word.specs.ListLaws.{true-not-false}
 use Rattle.forms.specs.SchemeMemory.{patternsIn}
 use Rattle.avoider_lines.specs.Followed.{shown, listed}
-use Rattle.avoider_lines.specs.FollowedLaws.{Follow, follow-start, follow-end, follow-most, listed-few, lines-below, lines-more}
+use Rattle.avoider_lines.specs.FollowedLaws.{Follow, follow-start, follow-end, follow-most, listed-few}
+use Rattle.avoider_lines.specs.FollowedLaws.{at-hand-is, lines-below, lines-more}
 use borrow.Author.Needs.{needs}
 use Rattle.avoider_lines.proofs.writing.write_avoiders.Statement.{statement}
 use Rattle.avoider_lines.proofs.writing.write_avoiders.Tie as tie
@@ -34,6 +35,12 @@ at-hand c =
     let l = c .before .loop in
     subst (λ (b : Bool). Follow (patternsIn (a .patterns)) (a .n) (cond b (some (take (a .n) (l .found .word))) none) (l .lines))
     (c .loop-test .taken) (l .inv)
+
+write-line-requires : tie.Need-write-line-requires Inv-loop μ-loop
+write-line-requires c κs =
+    let in-loop = c .before in
+    let a = in-loop .before .before .before .args in
+    at-hand-is (patternsIn (a .patterns)) (a .n) _ _ (at-hand in-loop)
 
 returns : tie.Need-returns Inv-loop μ-loop
 returns c =
@@ -84,7 +91,7 @@ write-avoiders-spec =
     μ-loop
     (λ c κs. search needs)
     loop-holds
-    (λ c κs. search needs)
+    write-line-requires
     returns
     add-lines
     (λ c κs. search needs)
