@@ -1,15 +1,28 @@
 -- What is kept of an input holds the first bytes of its three lines.
-use Prim.Native.Nat.{ℕ, zero, suc}
-use mathlib.Core.Path.{_≡_, refl, sym, ap}
+use Prim.Native.Nat.{ℕ, zero, suc, min, _≤_, _<_}
+use mathlib.Core.Path.{_≡_, refl, sym, ap, _∙_}
 use native.Mathlib.Omega.{arith}
 use mathlib.Core.Bool.{false, not, _&&_, cond}
 use mathlib.Core.List.{List, [], _∷_}
 use mathlib.Core.Option.{Option, none, some, Option·some-injective, Option·none-ne-some}
-use lib.ListN.{take}
+use mathlib.Core.Logic.{_⊎_, inl, inr}
+use lib.ListN.{length, take}
+use lib.Seq.{take-all}
 use lib.Dec.{eqb}
 use borrow.Author.Tests.{ne-eqb}
+use Rattle.word.specs.ListLaws.{below-or-not}
 use Rattle.table_lines.specs.Lines.{line, behind, Three, unlessFourth, threeLines}
 use Rattle.table_lines.specs.Kept.{setRoom, schemeRoom, lastRoom, held, heldLength, hasBytes, keptOf, heldLines, threeIn}
+
+-- as many bytes of a buffer as are asked for, or all
+pub take-least : (l : List ℕ) (a : ℕ) → take (min a (length l)) l ≡ take a l
+take-least l a = go (below-or-not a (length l))
+  where
+    go : (a < length l) ⊎ (length l ≤ a) → take (min a (length l)) l ≡ take a l
+    go (inl h) = let k : min a (length l) ≡ a = omega arith in ap (λ (m : ℕ). take m l) k
+    go (inr h) =
+        let k : min a (length l) ≡ length l = omega arith in
+        ap (λ (m : ℕ). take m l) k ∙ take-all (length l) l (omega arith) ∙ sym (take-all a l (omega arith))
 
 -- the kept bytes of a line are its first bytes
 pub held-front : (n : ℕ) (l : List ℕ) → take (heldLength n l) (held n l) ≡ take n l

@@ -1,5 +1,5 @@
 -- Laws of the number that a line spells.
-use Prim.Native.Nat.{ℕ, zero, suc, _+_, _-_, _*_, _≤_, _<_}
+use Prim.Native.Nat.{ℕ, _+_, _-_, _*_, _≤_, _<_}
 use native.Mathlib.Omega.{arith}
 use mathlib.Core.Path.{_≡_, refl}
 use mathlib.Core.Bool.{Bool, true, false}
@@ -62,22 +62,21 @@ second-misspelt a b h k e =
     let z : eqb a 0x30 ≡ false = ne-eqb a 0x30 (λ (e : a ≡ 0x30). omega arith) in
     rw (digit a g k, z, e) refl
 
--- from the bytes in memory: n of an array of three
+-- from the bytes of a slice
 
-pub memory-one : (l : List ℕ) → length l ≡ 3 → numberIn (getD l 0 0 ∷ []) ≡ numberIn (take 1 l)
-memory-one [] h = absurd (omega arith)
-memory-one (a ∷ l) h = refl
+pub slice-one : (l : List ℕ) → length l ≡ 1 → numberIn (getD l 0 0 ∷ []) ≡ numberIn l
+slice-one [] h = absurd (omega arith)
+slice-one (a ∷ []) h = refl
+slice-one (a ∷ b ∷ l) h = absurd (omega arith)
 
-pub memory-two : (l : List ℕ) → length l ≡ 3 → numberIn (getD l 0 0 ∷ getD l 1 0 ∷ []) ≡ numberIn (take 2 l)
-memory-two [] h = absurd (omega arith)
-memory-two (a ∷ []) h = absurd (omega arith)
-memory-two (a ∷ b ∷ l) h = refl
+pub slice-two : (l : List ℕ) → length l ≡ 2 → numberIn (getD l 0 0 ∷ getD l 1 0 ∷ []) ≡ numberIn l
+slice-two [] h = absurd (omega arith)
+slice-two (a ∷ []) h = absurd (omega arith)
+slice-two (a ∷ b ∷ []) h = refl
+slice-two (a ∷ b ∷ c ∷ l) h = absurd (omega arith)
 
-pub memory-other : (n : ℕ) (l : List ℕ) → length l ≡ 3 → (n ≡ 1 → ⊥) → (n ≡ 2 → ⊥) → none ≡ numberIn (take n l)
-memory-other zero l h p q = refl
-memory-other (suc zero) l h p q = absurd (p refl)
-memory-other (suc (suc zero)) l h p q = absurd (q refl)
-memory-other (suc (suc (suc n))) [] h p q = absurd (omega arith)
-memory-other (suc (suc (suc n))) (a ∷ []) h p q = absurd (omega arith)
-memory-other (suc (suc (suc n))) (a ∷ b ∷ []) h p q = absurd (omega arith)
-memory-other (suc (suc (suc n))) (a ∷ b ∷ c ∷ l) h p q = refl
+pub slice-other : (l : List ℕ) → (length l ≡ 1 → ⊥) → (length l ≡ 2 → ⊥) → none ≡ numberIn l
+slice-other [] p q = refl
+slice-other (a ∷ []) p q = absurd (p refl)
+slice-other (a ∷ b ∷ []) p q = absurd (q refl)
+slice-other (a ∷ b ∷ c ∷ l) p q = refl

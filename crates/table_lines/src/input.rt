@@ -133,19 +133,26 @@ fn two_digits(a: u8, b: u8) -> Number
     Number::Is(wide(a - b'0') * 10 + wide(b - b'0'))
 }
 
+// The number that a line spells.
+pub fn number_in(text: &[u8]) -> Number
+    ensures { λ r. ⌜ r ≡ asNumber (numberIn (now (text .entry))) ⌝ }
+{
+    if text.len() == 1 {
+        return one_digit(text[0]);
+    }
+    if text.len() == 2 {
+        return two_digits(text[0], text[1]);
+    }
+    Number::Misspelt
+}
+
 // The number that the third line spells.
 pub fn last_number(lines: Lines) -> Number
     ensures { λ r. ⌜ r ≡ asNumber (numberIn (take (lines .«last_length») (lines .last))) ⌝ }
 {
     let last = lines.last;
-    let n = lines.last_length;
-    if n == 1 {
-        return one_digit(last[0]);
-    }
-    if n == 2 {
-        return two_digits(last[0], last[1]);
-    }
-    Number::Misspelt
+    let n = least(lines.last_length, LAST);
+    number_in(&last[..n])
 }
 
 // The smaller of two numbers.

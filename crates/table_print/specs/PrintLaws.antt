@@ -1,18 +1,16 @@
 -- Laws of what the table program prints: the kept part of a line decides, and the printed counts
 -- are the numbers of avoiders.
-use Prim.Native.Nat.{ℕ, suc, _+_, min, _≤_, _<_}
+use Prim.Native.Nat.{ℕ, suc, _+_, _≤_}
 use native.Mathlib.Numerals.{add-one}
 use native.Mathlib.Omega.{arith}
 use mathlib.Core.Path.{_≡_, refl, sym, ap, ap₂, _∙_}
 use mathlib.Core.Bool.{Bool, true, false, cond}
 use mathlib.Core.List.{List, [], map, List·Memᴰ}
-use mathlib.Core.Logic.{_⊎_, inl, inr}
 use mathlib.Core.Option.{Option, none, some}
 use lib.ListN.{length, getD, take}
-use lib.Seq.{take-all}
 use Rattle.word.specs.Lists.{row}
 use Rattle.word.specs.Word.{avoiders}
-use Rattle.word.specs.ListLaws.{true-not-false, below-or-not, map-same, row-out}
+use Rattle.word.specs.ListLaws.{true-not-false, map-same, row-out}
 use Rattle.word.specs.Ceilings.{LENGTH, PATTERN_TEXT, SCHEME_TEXT, CELLS}
 use Rattle.word.specs.Finding.{firstFault}
 use Rattle.forms.specs.SchemeList.{EntryList}
@@ -154,16 +152,6 @@ prints memory before after r w few =
 pub only-line : (g : Fault) (text : List ℕ) → faulty g ≡ true → printedOr g [] ≡ printedOr g text
 only-line Clean text h = absurd (true-not-false (sym h))
 only-line (At r i) text h = refl
-
--- as many bytes of a buffer as are asked for, or all
-pub take-least : (l : List ℕ) (a : ℕ) → take (min a (length l)) l ≡ take a l
-take-least l a = go (below-or-not a (length l))
-  where
-    go : (a < length l) ⊎ (length l ≤ a) → take (min a (length l)) l ≡ take a l
-    go (inl h) = let k : min a (length l) ≡ a = omega arith in ap (λ (m : ℕ). take m l) k
-    go (inr h) =
-        let k : min a (length l) ≡ length l = omega arith in
-        ap (λ (m : ℕ). take m l) k ∙ take-all (length l) l (omega arith) ∙ sym (take-all a l (omega arith))
 
 -- The text for the lines in memory, as the code comes to it.
 module _ (k : Memory) where

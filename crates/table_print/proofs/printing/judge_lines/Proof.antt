@@ -4,7 +4,7 @@ use Prim.Native.Nat.{ℕ}
 use mathlib.Core.Path.{sym, ap, _∙_}
 use lib.ListN.{take}
 use lib.Seq.{length-take-le}
-use Rattle.table_print.specs.PrintLaws.{take-least}
+use Rattle.table_lines.specs.CallerLaws.{take-least}
 use borrow.Author.Needs.{needs}
 use Rattle.table_print.proofs.printing.judge_lines.Statement.{statement}
 use Rattle.table_print.proofs.printing.judge_lines.Tie as tie

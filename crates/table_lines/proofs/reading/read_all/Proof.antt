@@ -1,18 +1,18 @@
--- `table::read_all` meets its contract and ends: what is kept is kept of some input, and the number
--- of turns that are left falls.
+-- `table_lines::reading::read_all` meets its contract and ends: what is kept is kept of some input,
+-- and the number of turns that are left falls.
 -- Assumes nothing.
 use Prim.Native.Nat.{ℕ}
 use native.Mathlib.Omega.{arith}
 use mathlib.Core.Path.{_≡_, refl, sym, ap, _∙_}
 use mathlib.Core.List.{List, []}
 use lib.ListN.{length}
 use Rattle.table_lines.specs.declared.input.Lines.{Lines}
 use Rattle.table_lines.specs.Kept.{memoryOf}
 use Rattle.table_lines.specs.Reads.{AfterRead, afterOf, ReadsAll}
 use Rattle.table_lines.specs.ReadLaws.{reads-on}
 use borrow.Author.Needs.{needs}
-use Rattle.table.proofs.read_all.Statement.{statement}
-use Rattle.table.proofs.read_all.Tie as tie
+use Rattle.table_lines.proofs.reading.read_all.Statement.{statement}
+use Rattle.table_lines.proofs.reading.read_all.Tie as tie
 
 -- what was read so far, and the buffers as long as they were
 record ReadOn (set₀ scheme₀ set scheme : List ℕ) (after : AfterRead) (chunk : List ℕ) : Type 0 where

@@ -1,9 +1,9 @@
--- `table::read_some` meets its contract: what is taken of some chunk.
+-- `table_lines::reading::read_some` meets its contract: what is taken of some chunk.
 -- Assumes nothing.
 use Rattle.table_lines.specs.ReadLaws.{reads-some}
 use borrow.Author.Needs.{needs}
-use Rattle.table.proofs.read_some.Statement.{statement}
-use Rattle.table.proofs.read_some.Tie as tie
+use Rattle.table_lines.proofs.reading.read_some.Statement.{statement}
+use Rattle.table_lines.proofs.reading.read_some.Tie as tie
 
 returns : tie.Need-returns
 returns c =
