@@ -3,3 +3,5 @@ pub mod Exchange
 pub mod Searching
 pub mod OccurrenceLaws
 pub mod ExchangeLaws
+pub mod UnusedLaws
+pub mod SearchingLaws

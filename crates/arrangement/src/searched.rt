@@ -16,34 +16,30 @@ pub struct Searched {
 pub fn found_as(word: [u8; WORD], left: usize) -> Searched
     ensures { λ r. ⌜ (r .found ≡ true) × (r .none ≡ false) × (r .word ≡ word) ⌝ }
 {
-    Searched {
-        found: true,
-        none: false,
-        left,
-        word,
-    }
+    answer(true, false, left, word)
 }
 
 // No: there is no completion.
 pub fn found_none(word: [u8; WORD], left: usize) -> Searched
     ensures { λ r. ⌜ (r .found ≡ false) × (r .none ≡ true) ⌝ }
 {
-    Searched {
-        found: false,
-        none: true,
-        left,
-        word,
-    }
+    answer(false, true, left, word)
 }
 
 // The budget did not last.
 pub fn undecided(word: [u8; WORD]) -> Searched
     ensures { λ r. ⌜ (r .found ≡ false) × (r .none ≡ false) ⌝ }
 {
+    answer(false, false, 0, word)
+}
+
+fn answer(found: bool, none: bool, left: usize, word: [u8; WORD]) -> Searched
+    ensures { λ r. ⌜ (r .found ≡ found) × (r .none ≡ none) × (r .word ≡ word) ⌝ }
+{
     Searched {
-        found: false,
-        none: false,
-        left: 0,
+        found,
+        none,
+        left,
         word,
     }
 }

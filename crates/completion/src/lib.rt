@@ -104,7 +104,7 @@ fn goes_on(
 
 // Whether each value from 1 to n stands in the word, or the word followed by it avoids the
 // patterns.
-fn all_allowed(
+pub fn all_allowed(
     set: [[u8; DIGITS]; PATTERNS],
     lengths: [u8; PATTERNS],
     count: usize,

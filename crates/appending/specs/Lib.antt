@@ -1,0 +1,3 @@
+-- The definitions of the crate appending, and then its laws.
+pub mod Appending
+pub mod AppendingLaws
