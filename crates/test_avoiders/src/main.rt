@@ -1,11 +1,11 @@
 // A test program: the first avoider of a length, and the next after an avoider. Each line of
 // standard input is a test and begins with a word for its kind; each gives a line.
 //
-//     set PATTERNS SCHEME          lengths 0 to 7 against the list by brute force; the scheme, which
-//                                  may be missing, is an accepted one
-//     twenty PATTERNS              the first, ten nexts and the last of length 20
-//     first LABEL PATTERNS n m     one call, with a page of m bytes
-//     next LABEL PATTERNS ENTRIES m
+//     set PATTERNS SCHEME            lengths 0 to 7 against the list by brute force; the scheme is
+//                                    an accepted one, or missing
+//     twenty PATTERNS                the first, ten nexts and the last of length 20
+//     first LABEL PATTERNS n m       a call for the first of length n, with a page of m bytes
+//     next LABEL PATTERNS ENTRIES m  a call for the next, with such a page
 mod calls;
 mod cases;
 mod listed;

@@ -164,7 +164,9 @@ fn end_of(left: Left) {
 
 // The first avoider of the complements of the patterns.
 fn last_turned(patterns: Patterns) -> Left {
-    first(complements(patterns), LENGTH, PAGE)
+    let left = first(complements(patterns), LENGTH, PAGE);
+    print::either(is_kept(left, LENGTH), b"", b" wrong: page of complements");
+    left
 }
 
 // The complements of the patterns.
