@@ -32,6 +32,15 @@ mod library {
             page_length: usize,
         ) -> u64;
         pub fn copy_of(pattern: *const u8, pattern_length: usize, permutation: *const u8, permutation_length: usize, page: *mut u8, page_length: usize) -> u64;
+        pub fn first_of_text(patterns: *const u8, patterns_length: usize, n: usize, page: *mut u8, page_length: usize) -> u64;
+        pub fn next_of_text(
+            patterns: *const u8,
+            patterns_length: usize,
+            permutation: *const u8,
+            permutation_length: usize,
+            page: *mut u8,
+            page_length: usize,
+        ) -> u64;
     }
 }
 
@@ -98,9 +107,35 @@ fn copy_of(pattern: &[u8], permutation: &[u8], page: &mut [u8]) -> Result<u64, u
     answer(code)
 }
 
+/// The first avoider: a set's text, a length and a page; the next: a set's text, a permutation and
+/// a page. The answer is 1 where one is given, 0 for nothing, or the number of the refusal.
+pub type First = fn(&[u8], usize, &mut [u8]) -> Result<u64, u32>;
+
+/// The engine's first and next avoider.
+pub const FIRST: Option<First> = Some(first_avoider);
+pub const NEXT: Option<OnPage> = Some(next_avoider);
+
+fn first_avoider(patterns: &[u8], n: usize, page: &mut [u8]) -> Result<u64, u32> {
+    // As for `judge_on_page`.
+    let (lent, bytes) = (page.as_mut_ptr(), page.len());
+    let code = unsafe { library::first_of_text(start(patterns), patterns.len(), n, lent, bytes) };
+    answer(code)
+}
+
+fn next_avoider(patterns: &[u8], permutation: &[u8], page: &mut [u8]) -> Result<u64, u32> {
+    // As for `judge_on_page`.
+    let (first, second) = (start(patterns), start(permutation));
+    let (lent, bytes) = (page.as_mut_ptr(), page.len());
+    let code = unsafe { library::next_of_text(first, patterns.len(), second, permutation.len(), lent, bytes) };
+    answer(code)
+}
+
+/// The greatest number of a refusal.
+const LAST_REFUSAL: u64 = 17;
+
 /// A count, or the number of a refusal, which comes as 2 to the 64 less 1 and less that number.
 fn answer(code: u64) -> Result<u64, u32> {
-    if u64::MAX - code <= 13 {
+    if u64::MAX - code <= LAST_REFUSAL {
         Err((u64::MAX - code) as u32)
     } else {
         Ok(code)

@@ -117,7 +117,7 @@ fn wrong_deletions(cases: &mut Vec<Case>) {
 }
 
 /// Puts a pattern that contains another one somewhere into a set; whether it could.
-fn add_superfluous(random: &mut Random, patterns: &mut Vec<Pattern>) -> bool {
+pub fn add_superfluous(random: &mut Random, patterns: &mut Vec<Pattern>) -> bool {
     if patterns.is_empty() || patterns.len() >= PATTERNS {
         return false;
     }
@@ -627,7 +627,7 @@ impl Maker {
 }
 
 /// Damages a text; what was done.
-fn damage_text(r: &mut Random, text: &mut Vec<u8>) -> &'static str {
+pub fn damage_text(r: &mut Random, text: &mut Vec<u8>) -> &'static str {
     if text.is_empty() {
         return "found";
     }

@@ -2,6 +2,7 @@
 //! from the engine's code. The differential test holds the engine to it, and the benchmark compares
 //! their times.
 
+pub mod avoiders;
 pub mod clock;
 pub mod containment;
 pub mod counting;
@@ -10,6 +11,7 @@ pub mod finder;
 pub mod guarded;
 pub mod inputs;
 pub mod judging;
+pub mod list_inputs;
 pub mod listing;
 pub mod model;
 pub mod notation;

@@ -1,5 +1,5 @@
-//! The slow mode: the verdict, the counts and the witness by listing, word for word as the
-//! documents define them, for small lengths only.
+//! The slow mode: the verdict, the counts, the witness, the first avoider and the next by listing,
+//! word for word as the documents define them, for small lengths only.
 
 use crate::model::*;
 use crate::word::{contains, deleted, reduce};
@@ -68,6 +68,16 @@ impl Listing {
             self.avoiders.push(words);
         }
         &self.avoiders[n]
+    }
+
+    /// The first avoider of length n, as the least of all.
+    pub fn first(&mut self, n: usize) -> Option<Vec<u8>> {
+        self.avoiders(n).iter().min().cloned()
+    }
+
+    /// The next avoider of the same length, as the least of those that come after the word.
+    pub fn next(&mut self, word: &[u8]) -> Option<Vec<u8>> {
+        self.avoiders(word.len()).iter().filter(|other| other[..] > *word).min().cloned()
     }
 
     /// The size of the cell (p; g).

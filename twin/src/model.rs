@@ -134,3 +134,4 @@ pub const LIVE_GAP: u32 = 10;
 pub const IRREVERSIBLE: u32 = 11;
 pub const SHORT_TABLE: u32 = 12;
 pub const SHORT_PAGE: u32 = 13;
+pub const CONTAINS: u32 = 14;

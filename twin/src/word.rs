@@ -1,6 +1,7 @@
 //! Words of distinct numbers: permutations, containment, deletion, children.
 
 use crate::model::{Kept, Positions};
+use std::cmp::Ordering::{Equal, Greater, Less};
 
 /// A prefix, or a child of one.
 pub type Short = Kept<u8, 8>;
@@ -85,6 +86,38 @@ fn ending(pattern: &[u8], word: &[u8], chosen: &mut [u8; 32], depth: usize, from
         if (x > end) == above && fits(pattern, chosen, depth, x) {
             chosen[depth] = x;
             if ending(pattern, word, chosen, depth + 1, at + 1) {
+                return true;
+            }
+        }
+    }
+    false
+}
+
+/// Whether the word has a copy of the pattern through the entry at `place`, counted from 0: each
+/// entry of the pattern is tried there.
+pub fn copy_through(pattern: &[u8], word: &[u8], place: usize) -> bool {
+    let (k, n) = (pattern.len(), word.len());
+    let mut fitting = (0..k).filter(|at| *at <= place && k - at <= n - place);
+    fitting.any(|at| passing(pattern, word, (at, place), &mut [0u8; 32], 0, 0))
+}
+
+/// Whether the chosen entries go on to a copy whose entry `at` is that at `place` of the word.
+fn passing(pattern: &[u8], word: &[u8], through: (usize, usize), chosen: &mut [u8; 32], depth: usize, from: usize) -> bool {
+    let (at, place) = through;
+    let (k, n) = (pattern.len(), word.len());
+    if depth == k {
+        return true;
+    }
+    let (from, last) = match depth.cmp(&at) {
+        Less => (from, place + depth - at),
+        Equal => (place, place),
+        Greater => (from, n + depth - k),
+    };
+    for i in from..=last {
+        let x = word[i];
+        if (pattern[depth] < pattern[at]) == (x < word[place]) && fits(pattern, chosen, depth, x) {
+            chosen[depth] = x;
+            if passing(pattern, word, through, chosen, depth + 1, i + 1) {
                 return true;
             }
         }

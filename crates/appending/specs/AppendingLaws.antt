@@ -5,7 +5,7 @@ use mathlib.Core.Path.{_≡_, refl, sym, ap, _∙_}
 use mathlib.Core.Bool.{Bool, true, false, not, _||_, and-false}
 use mathlib.Core.List.{List, [], _∷_, _++_, append-nil, append-assoc, List·Memᴰ, List·Memᴰ·append-cases, Memᴰ·append-right}
 use mathlib.Core.Logic.{_⊎_, inl, inr}
-use borrow.Author.Tests.{not-true, not-false}
+use borrow.Author.Tests.{not-true}
 use native.Mathlib.Numerals.{add-one}
 use native.Mathlib.Omega.{arith}
 use lib.ListN.{length, getD, take, drop, set, take-append-drop}
@@ -15,7 +15,7 @@ use Rattle.word.specs.Word.{isPerm, avoids, has}
 use Rattle.word.specs.ListLaws.{true-not-false, and-left, same-test, fails-with, any-out, any-in, all-out, row-out, row-in}
 use Rattle.word.specs.PermLaws.{has-out, has-in, perm-bounds, perm-has}
 use Rattle.completion.specs.Completion.{begins, completable, allowed, allAllowed, goesOn}
-use Rattle.completion.specs.CompletionLaws.{begins-out, begins-in, completable-next, completable-avoids, not-allowed}
+use Rattle.completion.specs.CompletionLaws.{begins-out, begins-in, completable-next, completable-avoids}
 use Rattle.arrangement.specs.declared.searched.Searched.{Searched}
 use Rattle.arrangement.specs.Exchange.{exchange, Rearranged}
 use Rattle.arrangement.specs.ExchangeLaws.{exchange-next, rearranged-none, rearranged-more}
@@ -24,6 +24,8 @@ use Rattle.arrangement.specs.UnusedLaws.{next-value}
 use Rattle.crowding.specs.Crowding.{crowded}
 use Rattle.crowding.specs.CrowdingLaws.{crowded-empty}
 use Rattle.appending.specs.Appending.{Shortest, RuledOut}
+use Rattle.appending.specs.Pairs.{allPairs}
+use Rattle.appending.specs.PairLaws.{pairs-none}
 
 -- a permutation, cut behind its first `len` entries
 cut : (n len : ℕ) (word : List ℕ) → len ≤ n → take len word ++ drop len (take n word) ≡ take n word
@@ -213,8 +215,18 @@ ruled-out P n u e = record {
   no = λ (y : true ≡ false). absurd (true-not-false y);
 }
 
-pub ruled-by-values : (P : List (List ℕ)) (n : ℕ) (u : List ℕ) (b : Bool) → b ≡ allAllowed P n u → RuledOut P n u (not b)
-ruled-by-values P n u b e = record {
-  yes = λ (y : not b ≡ true). not-allowed P n u (sym e ∙ not-true b y);
-  no = λ (y : not b ≡ false). sym e ∙ not-false b y;
+pub not-ruled-out : (P : List (List ℕ)) (n : ℕ) (u : List ℕ) → allAllowed P n u ≡ true → RuledOut P n u false
+not-ruled-out P n u a = record {
+  yes = λ (y : false ≡ true). absurd (true-not-false (sym y));
+  no = λ y. a;
+}
+
+-- where every value is allowed, the test of pairs may still rule a completion out
+pub ruled-by-pairs : (P : List (List ℕ)) (n : ℕ) (word : List ℕ) (len : ℕ) (b : Bool) → len ≤ n → n ≤ length word →
+    isPerm (take n word) ≡ true → allAllowed P n (take len word) ≡ true → b ≡ allPairs P (take len word) (drop len (take n word)) →
+    RuledOut P n (take len word) (not b)
+ruled-by-pairs P n word len b h l p a e = record {
+  yes = λ (y : not b ≡ true). pairs-none P n (take len word) (drop len (take n word)) (ap isPerm (cut n len word h) ∙ p)
+      (ap length (cut n len word h) ∙ length-take-le n word l) (sym e ∙ not-true b y);
+  no = λ y. a;
 }

@@ -18,7 +18,8 @@ completes-can P n u w c =
     completable-in P n u r (ap isPerm q ∙ c .perm) (ap length q ∙ c .size) (ap (avoids P) q ∙ c .avoids-all)
 
 -- a search that said yes or no has decided
-pub searches-decide : (P : List (List ℕ)) (n : ℕ) (u : List ℕ) (r : Searched) → Searches P n u r → r .found || r .none ≡ true → Decides P n u r
+pub searches-decide : (P : List (List ℕ)) (n : ℕ) (u : List ℕ) (r : Searched) → Searches P n u r →
+    r .found || r .none ≡ true → Decides P n u r
 searches-decide P n u r s d = go (r .found) refl (r .none) refl d
   where
     go : (f : Bool) → r .found ≡ f → (z : Bool) → r .none ≡ z → f || z ≡ true → Decides P n u r

@@ -53,7 +53,8 @@ completable-in P n u r p l a = any-in (begins u) (avoiders-all P n (u ++ r) p l 
 front : (u r : List ℕ) → Sublistᴰ u (u ++ r)
 front u r = rw (append-nil u) at (Sublistᴰ·append (Sublistᴰ·refl u) (Sublistᴰ·nil-sublist r))
 
-one-of : {v : ℕ} {r : List ℕ} → List·Memᴰ v r → Sublistᴰ (v ∷ []) r
+-- an entry of a word is a sublist by itself
+pub one-of : {v : ℕ} {r : List ℕ} → List·Memᴰ v r → Sublistᴰ (v ∷ []) r
 one-of (List·Memᴰ·head {xs = r} e) = Sublistᴰ·cons-cons e (Sublistᴰ·nil-sublist r)
 one-of (List·Memᴰ·tail m) = Sublistᴰ·cons (one-of m)
 

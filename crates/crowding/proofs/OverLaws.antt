@@ -82,3 +82,16 @@ over-crowded rises falls n unused u rest highs lows q e f =
         let s : a + b - unused ≡ between (ends true n u l) (ends false n u m) rest =
         omega (arith, between-is (ends true n u l) (ends false n u m) rest) in
         below-difference ((rises - 1 - l) * (falls - 1 - m)) unused (a + b) ∙ ap (ltb ((rises - 1 - l) * (falls - 1 - m))) s
+
+-- without an increasing pattern, or without a decreasing one, no word is crowded
+pub none-rising : (rises falls n : ℕ) (u rest : List ℕ) → rises ≡ 0 → crowded rises falls n u rest ≡ false
+unfolding crowded
+none-rising rises falls n u rest e = rw e refl
+
+pub none-falling : (rises falls n : ℕ) (u rest : List ℕ) → falls ≡ 0 → crowded rises falls n u rest ≡ false
+unfolding crowded
+none-falling rises falls n u rest e = rw e (never (row 0 rises))
+  where
+    never : (s : List ℕ) → any (λ l. any (crowdedAt rises 0 n u rest l) []) s ≡ false
+    never [] = refl
+    never (x ∷ s) = never s

@@ -18,11 +18,18 @@ ghost use Rattle.crowding.specs.Followers.{following, followersOf, Holds
 // Whether more unused values lie between the end of an increasing and the end of a decreasing
 // subsequence of the first `len` entries of the word than a completion can take that contains
 // neither an increasing pattern of `rises` entries nor a decreasing one of `falls`. The unused
-// values stand behind the first `len` entries, up to n.
+// values stand behind the first `len` entries, up to n. A length of 0 is none: without one of the
+// two patterns no word is crowded.
 pub fn is_crowded(word: [u8; WORD], len: usize, n: usize, rises: usize, falls: usize) -> bool
     requires { ⌜ (len ≤ n) × (n ≤ WORD) × (rises ≤ DIGITS) × (falls ≤ DIGITS) ⌝ }
     ensures { λ r. ⌜ r ≡ crowded rises falls n (take len word) (drop len (take n word)) ⌝ }
 {
+    if rises == 0 {
+        return false;
+    }
+    if falls == 0 {
+        return false;
+    }
     let highs = followers(word, len, n, true, rises);
     let lows = followers(word, len, n, false, falls);
     some_over(highs, rises, lows, falls, n - len)

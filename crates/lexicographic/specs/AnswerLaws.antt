@@ -1,26 +1,26 @@
--- Laws of the answers: what is refused, what is put on the page, and what that says of the first and
--- of the next avoider.
+-- Laws of the answers: what is refused, what is put on the page, and what that says of the first
+-- and of the next avoider.
 use Prim.Native.Nat.{ℕ, _≤_}
 use native.Mathlib.Nat.{zero-add}
 use mathlib.Core.Path.{_≡_, refl, sym, ap, _∙_, fun-ext}
-use mathlib.Core.Bool.{Bool, true, false, not}
-use mathlib.Core.List.{List, [], _∷_, _++_, List·Memᴰ}
+use mathlib.Core.Bool.{Bool, true}
+use mathlib.Core.List.{List, _++_, List·Memᴰ}
 use mathlib.Core.Option.{Option, none, some}
 use native.Mathlib.Omega.{arith}
 use lib.ListN.{length, take, drop}
 use lib.Seq.{take-append-seam, drop-append-seam}
 use Rattle.word.specs.Lists.{keep, first}
 use Rattle.word.specs.ListLaws.{true-not-false}
-use Rattle.word.specs.Word.{isPerm, avoids, avoiders, perms, before}
+use Rattle.word.specs.Word.{isPerm, avoiders, perms, before}
 use Rattle.word.specs.Listing.{headOf, firstAvoider, nextAvoider}
-use Rattle.word.specs.ListingLaws.{LeastAvoider, first-given, first-none-avoids, next-given, next-none}
-use Rattle.word.specs.Finding.{Finding, clean, fault, test, firstFault}
+use Rattle.word.specs.ListingLaws.{first-given, first-none-avoids, next-given, next-none}
+use Rattle.word.specs.Finding.{Finding, clean, fault, firstFault}
 use Rattle.word.specs.declared.refusal.Refusal.{Refusal}
 use Rattle.cell.specs.Basis.{basis}
 use Rattle.cell.specs.BasisLaws.{basis-avoids}
 use Rattle.forms.specs.SchemeMemory.{faultOf, faulty}
 use Rattle.forms.specs.declared.memory.Fault.{Fault}
-use Rattle.forms.specs.declared.memory.Fault.the-variants.{Clean, At}
+use Rattle.forms.specs.declared.memory.Fault.the-variants.{At}
 use Rattle.text_page.specs.Page.{overlay}
 use Rattle.text_page.specs.PageLaws.{overlay-whole}
 use Rattle.lexicographic.specs.Answers.{firstTests, nextTests, answered, listedOr, Puts, Lists, ListsFirst, ListsNext}
@@ -41,8 +41,8 @@ pub listed-fault : (f : Fault) (r : Refusal) (i : ℕ) → f ≡ At r i → Refu
 listed-fault f r i e = rw e refl
 
 -- a refused call: the page is as it was
-pub lists-refused : (f : Finding) (o : Option (List ℕ)) (n : ℕ) (page : List ℕ) (r : Listed) → r ≡ listedOr (faultOf f) → faulty (faultOf f) ≡ true →
-    Lists f o n page page r
+pub lists-refused : (f : Finding) (o : Option (List ℕ)) (n : ℕ) (page : List ℕ) (r : Listed) →
+    r ≡ listedOr (faultOf f) → faulty (faultOf f) ≡ true → Lists f o n page page r
 lists-refused clean o n page r e h = absurd (true-not-false (sym h))
 lists-refused (fault v i) o n page r e h = record {
   answer = e;
@@ -92,7 +92,8 @@ pub lists-first : (P : List (List ℕ)) (n : ℕ) (page after : List ℕ) (r : L
 lists-first P n page after r l = record {
   lists = l;
   least = λ g. first-given P n (take n after) (l .front g);
-  empty = λ e x p k a. first-none-avoids P n x (none-there (firstFault (firstTests P n (length page))) (firstAvoider P n) (sym e ∙ l .answer)) p k a;
+  empty = λ e x p k a. first-none-avoids P n x
+      (none-there (firstFault (firstTests P n (length page))) (firstAvoider P n) (sym e ∙ l .answer)) p k a;
 }
 
 pub lists-next : (P : List (List ℕ)) (w page after : List ℕ) (r : Listed) →

@@ -29,8 +29,8 @@ lengthTests n room = test Oversize (ltb WORD n) ∷ test ShortPage (ltb room n) 
 -- page
 abbrev pub wordTests : List (List ℕ) → List ℕ → ℕ → List Finding
 wordTests P w room =
-    test Oversize (ltb WORD (length w)) ∷ test NoPermutation (not (isPerm w)) ∷ test NoAvoider (not (avoids P w)) ∷
-    test ShortPage (ltb room (length w)) ∷ []
+    test Oversize (ltb WORD (length w)) ∷ test NoPermutation (not (isPerm w)) ∷
+    test NoAvoider (not (avoids P w)) ∷ test ShortPage (ltb room (length w)) ∷ []
 
 -- "The patterns are judged first"
 abbrev pub firstTests : List (List ℕ) → ℕ → ℕ → List Finding

@@ -74,7 +74,8 @@ module _ (P : List (List ℕ)) (formed : firstFault (patternTests P) ≡ clean) 
         next-no-avoider a = decides (wordTests P w room) (fault NoAvoider 0) (rw (le-ltb WORD (length w) h, p, a) refl)
 
         pub next-short : avoids P w ≡ true → room < length w → At ShortPage 0 ≡ faultOf (firstFault (nextTests P w room))
-        next-short a k = decides (wordTests P w room) (fault ShortPage 0) (rw (le-ltb WORD (length w) h, p, a, lt-ltb room (length w) k) refl)
+        next-short a k = decides (wordTests P w room) (fault ShortPage 0)
+            (rw (le-ltb WORD (length w) h, p, a, lt-ltb room (length w) k) refl)
 
         pub next-clean : avoids P w ≡ true → length w ≤ room → Clean ≡ faultOf (firstFault (nextTests P w room))
         next-clean a k = decides (wordTests P w room) clean (rw (le-ltb WORD (length w) h, p, a, le-ltb room (length w) k) refl)

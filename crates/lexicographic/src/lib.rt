@@ -1,5 +1,3 @@
 // The first avoider of a length, and the next after an avoider, in lexicographic order.
 pub mod answer;
-pub mod least;
 pub mod listing;
-pub mod values;

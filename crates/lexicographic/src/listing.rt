@@ -1,8 +1,6 @@
 // The public operations: the first avoider of a length, and the next after an avoider.
 use crate::answer::Listed;
 use crate::answer::refused_or_nothing;
-use crate::least::first_of;
-use crate::least::next_of;
 use arrangement::searched::Searched;
 use candidate::basis::basis_of;
 use forms::memory::Fault;
@@ -10,6 +8,8 @@ use forms::memory::Patterns;
 use forms::order::is_fault;
 use forms::sets::lengths_of;
 use forms::sets::rows_of;
+use successor::least::first_of;
+use successor::least::next_of;
 use text_page::bytes::put_bytes;
 use wellformed::pattern_tests::patterns_fault;
 use word::containment::any_in;
@@ -27,7 +27,8 @@ ghost use Rattle.word.specs.Finding.{clean, firstFault};
 ghost use Rattle.scheme.specs.WellFormed.{patternTests};
 ghost use Rattle.forms.specs.SchemeMemory.{patternsIn, faultOf};
 ghost use Rattle.lexicographic.specs.Answers.{firstTests, nextTests, Puts, ListsFirst, ListsNext};
-ghost use Rattle.lexicographic.specs.Values.{givenIn, HoldsBasis};
+ghost use Rattle.successor.specs.Values.{givenIn};
+ghost use Rattle.lexicographic.specs.BasisSet.{HoldsBasis};
 
 // The first avoider of length n, in lexicographic order: it is written at the front of the page,
 // one byte an entry. Nothing is asked of the caller.

@@ -25,6 +25,10 @@ ghost use Rattle.turns.specs.Turns.{Ready};
 
 // how many words each search may try in the first turn
 const FIRST: usize = 32;
+// The budget from which on appending also tests the unused values in pairs. That takes up to 380
+// tests of containment a word, where the other tests take 20: too many for the questions that a few
+// words decide, which are most of them.
+const PAIRS: usize = 256;
 // a budget that no turn has: the last turn is without one
 const LAST: usize = 1099511627776;
 
@@ -113,6 +117,7 @@ fn one_turn(
         budget,
         rises: start.rises,
         falls: start.falls,
+        pairs: PAIRS <= budget,
     };
     let first = appending_search(set, lengths, count, up, start.len, limits);
     if is_decided(first.found, first.none) {

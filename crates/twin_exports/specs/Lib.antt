@@ -2,4 +2,6 @@
 pub mod TextCounts
 pub mod TextCountLaws
 pub mod PageCodes
+pub mod ListCodes
 pub mod PageCodeLaws
+pub mod ListCodeLaws

@@ -1,5 +1,5 @@
-// Counting on two texts, judging them with a page, and containment, with a C calling convention:
-// for the differential test and the benchmark of twin/.
+// Counting on two texts, judging them with a page, containment, and the first and the next avoider,
+// with a C calling convention: for the differential test and the benchmark of twin/.
 use counting::answer::Counted;
 use counting::answer::count_or;
 use counting::by_table::count;
@@ -7,6 +7,10 @@ use counting::plainly::count_plainly;
 use forms::order::earlier;
 use forms::order::is_fault;
 use judge::texts::judge_texts;
+use lexicographic::answer::Listed;
+use lexicographic::answer::refused_or_nothing;
+use lexicographic::listing::first_avoider;
+use lexicographic::listing::next_avoider;
 use notation::patterns::read_patterns;
 use notation::schemes::read_scheme;
 use text_page::bytes::put_bytes;
@@ -24,6 +28,7 @@ ghost use Rattle.word.specs.Ceilings.{DIGITS};
 ghost use Rattle.text_page.specs.Page.{overlay};
 ghost use Rattle.twin_exports.specs.TextCounts.{codeOf, CountsTexts, PlainTexts};
 ghost use Rattle.twin_exports.specs.PageCodes.{verdictCode, JudgesOnPage, CopiesOf};
+ghost use Rattle.twin_exports.specs.ListCodes.{listedCode, FirstOfText, NextOfText};
 
 // The count for n by the scheme that a text spells: the count itself, or 2 to the 64 less 1 and
 // less the number of the refusal.
@@ -118,4 +123,45 @@ fn put_positions(at: [usize; DIGITS], n: usize, page: &mut [u8]) -> u64
     let bytes = bytes_of(at);
     put_bytes(page, 0, &bytes[..n]);
     n as u64
+}
+
+// The first avoider of length n of the patterns that a text spells: 1 where it is given, 0 where
+// there is none, or 2 to the 64 less 1 and less the number of the refusal.
+#[no_mangle]
+pub extern "C" fn first_of_text(patterns: &[u8], n: usize, page: &mut [u8]) -> u64
+    ensures { λ r. ⌜ FirstOfText (now (patterns .entry)) n (now (page .entry)) (now (page .exit)) r ⌝ }
+{
+    let p = read_patterns(patterns);
+    let fault = p.fault;
+    if is_fault(fault) {
+        return listed_code(refused_or_nothing(fault));
+    }
+    let set = p.patterns;
+    listed_code(first_avoider(set, n, page))
+}
+
+// The next avoider after a permutation: 1 where it is given, 0 where it was the last, or 2 to the
+// 64 less 1 and less the number of the refusal.
+#[no_mangle]
+pub extern "C" fn next_of_text(patterns: &[u8], permutation: &[u8], page: &mut [u8]) -> u64
+    ensures { λ r. ⌜ NextOfText (now (patterns .entry)) (now (permutation .entry)) (now (page .entry)) (now (page .exit)) r ⌝ }
+{
+    let p = read_patterns(patterns);
+    let fault = p.fault;
+    if is_fault(fault) {
+        return listed_code(refused_or_nothing(fault));
+    }
+    let set = p.patterns;
+    listed_code(next_avoider(set, permutation, page))
+}
+
+// An answer as one number.
+fn listed_code(listed: Listed) -> u64
+    ensures { λ r. ⌜ r ≡ listedCode listed ⌝ }
+{
+    match listed {
+        Listed::Given => 1,
+        Listed::Nothing => 0,
+        Listed::Refused(refusal, _) => u64::MAX - number(refusal) as u64,
+    }
 }

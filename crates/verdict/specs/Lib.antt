@@ -7,3 +7,4 @@ pub mod WitnessLaws
 pub mod Value
 pub mod Size
 pub mod ValueLaws
+pub mod ListedCountLaws

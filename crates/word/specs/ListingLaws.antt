@@ -2,10 +2,9 @@
 -- gives the list of all avoiders.
 use Prim.Native.Nat.{ℕ}
 use mathlib.Core.Path.{_≡_, refl, sym, ap, subst, _∙_}
-use mathlib.Core.Logic.{_⊎_, inl, inr}
 use mathlib.Core.Bool.{Bool, true, false, cond}
-use mathlib.Core.List.{List, [], _∷_, _++_, append-assoc, map-id, List·Memᴰ, List·Memᴰ·head, List·Memᴰ·tail, List·Memᴰ·not-nil}
-use mathlib.Core.List.{List·Memᴰ·cases-cons, Memᴰ·append-right}
+use mathlib.Core.List.{List, [], _∷_, _++_, append-assoc, map-id, List·Memᴰ·head}
+use mathlib.Core.List.{Memᴰ·append-right}
 use mathlib.Core.Option.{Option, none, some}
 use native.Mathlib.Omega.{arith}
 use lib.ListN.{length, getD}
@@ -85,7 +84,7 @@ next-behind [] x v a =
 next-behind (y ∷ u) x v a =
     let l = u ++ (x ∷ v) in
     let h : before y x ≡ true =
-        all-out (before y) (Memᴰ·append-right u (List·Memᴰ·head refl)) (and-left (all (before y) l) (ascends l) a) in
+    all-out (before y) (Memᴰ·append-right u (List·Memᴰ·head refl)) (and-left (all (before y) l) (ascends l) a) in
     ap (λ (b : Bool). cond b (some y) (first (before x) l)) (not-after (before x y) refl h) ∙
     next-behind u x v (and-right (all (before y) l) (ascends l) a)
   where

@@ -9,12 +9,14 @@ use std::hint::black_box;
 use std::path::{Path, PathBuf};
 use std::process::Command;
 use std::time::Duration;
+use twin::avoiders::{first_avoider, last_avoider, next_avoider, Effort};
 use twin::clock::user_time;
 use twin::counting::{count, need, plain};
 use twin::engine;
 use twin::inputs::{unpatterned, Pair};
 use twin::judging::judge_texts;
-use twin::model::WITNESS;
+use twin::list_inputs::NAMED;
+use twin::model::{LONGEST, WITNESS};
 use twin::notation::{read_patterns, read_scheme, write_patterns, write_scheme};
 use twin::published::published;
 use twin::witness::judge_texts_on_page;
@@ -27,26 +29,31 @@ enum Work {
     Witness,
     Count(usize),
     Plain(usize),
+    /// the first avoider of a length
+    First(usize),
+    /// the next avoider, so many times at most
+    Nexts(usize),
 }
 
-struct Input {
-    name: &'static str,
+struct Input<'a> {
+    name: &'a str,
     work: Work,
     patterns: Vec<u8>,
-    scheme: Vec<u8>,
+    /// the scheme's text, or the permutation to start from
+    second: Vec<u8>,
     /// the ratio that is not to be passed
     target: Option<f64>,
 }
 
-/// The answer as a number: the count, or 0 and the number of the refusal; and the page, which only
-/// a witness is written to.
+/// The answer as a number: the count, how many avoiders were given, or 0 and the number of the
+/// refusal; and the page, which only a witness or an avoider is written to.
 type Answer = (u64, [u8; WITNESS]);
 
 /// A call of the engine or of the second implementation, on an input.
 type Call = fn(&Input) -> Option<Answer>;
 
 fn by_engine(input: &Input) -> Option<Answer> {
-    let (patterns, scheme) = (&input.patterns[..], &input.scheme[..]);
+    let (patterns, scheme) = (&input.patterns[..], &input.second[..]);
     let mut page = [0; WITNESS];
     let number = match input.work {
         Work::Judge => Some(engine::judge(patterns, scheme) as u64),
@@ -59,12 +66,14 @@ fn by_engine(input: &Input) -> Option<Answer> {
             engine::COUNT.map(|f| f(patterns, scheme, n, &mut cells).unwrap_or_else(|r| r as u64))
         }
         Work::Plain(n) => engine::PLAIN.map(|f| f(patterns, scheme, n).unwrap_or_else(|r| r as u64)),
+        Work::First(n) => engine::FIRST.map(|f| f(patterns, n, &mut page).unwrap_or_else(|r| r as u64)),
+        Work::Nexts(times) => engine::NEXT.map(|f| nexts(scheme, times, &mut page, |word, page| f(patterns, word, page) == Ok(1))),
     };
     number.map(|number| (number, page))
 }
 
 fn by_twin(input: &Input) -> Option<Answer> {
-    let (patterns, scheme) = (&input.patterns[..], &input.scheme[..]);
+    let (patterns, scheme) = (&input.patterns[..], &input.second[..]);
     let mut page = [0; WITNESS];
     let lists = || read_patterns(patterns).and_then(|p| Ok((p, read_scheme(scheme)?)));
     let answer = match input.work {
@@ -72,20 +81,35 @@ fn by_twin(input: &Input) -> Option<Answer> {
         Work::Witness => judge_texts_on_page(patterns, scheme, &mut page).map(|_| 0),
         Work::Count(n) => lists().and_then(|(p, s)| count(&p, &s, n, &mut table(input, n))),
         Work::Plain(n) => lists().and_then(|(p, s)| plain(&p, &s, n)),
+        Work::First(n) => first_avoider(patterns, n, &mut page).map(u64::from),
+        Work::Nexts(times) => Ok(nexts(scheme, times, &mut page, |word, page| next_avoider(patterns, word, page) == Ok(true))),
     };
     Some((answer.unwrap_or_else(|r| r.0 as u64), page))
 }
 
+/// Follows next from a permutation, so many times at most: how many were given. The last of them
+/// stands on the page.
+fn nexts(start: &[u8], times: usize, page: &mut [u8], next: impl Fn(&[u8], &mut [u8]) -> bool) -> u64 {
+    let mut word = start.to_vec();
+    for given in 0..times {
+        if !next(&word, page) {
+            return given as u64;
+        }
+        word.copy_from_slice(&page[..start.len()]);
+    }
+    times as u64
+}
+
 fn table(input: &Input, n: usize) -> Vec<u64> {
-    read_scheme(&input.scheme).map_or(vec![], |s| vec![0; need(&s, n) as usize])
+    read_scheme(&input.second).map_or(vec![], |s| vec![0; need(&s, n) as usize])
 }
 
 /// Makes the inputs whose names are wanted, one after the other.
 fn inputs(wanted: impl Fn(&str) -> bool, each: impl Fn(&Input)) {
-    let add = |name, target, work, make: &dyn Fn() -> (Vec<u8>, Vec<u8>)| {
+    let add = |name: &str, target, work, make: &dyn Fn() -> (Vec<u8>, Vec<u8>)| {
         if wanted(name) {
-            let (patterns, scheme) = make();
-            each(&Input { name, work, patterns, scheme, target });
+            let (patterns, second) = make();
+            each(&Input { name, work, patterns, second, target });
         }
     };
     let texts = |pair: Pair| (write_patterns(&pair.patterns), write_scheme(&pair.entries));
@@ -148,6 +172,24 @@ fn inputs(wanted: impl Fn(&str) -> bool, each: impl Fn(&Input)) {
     add("plain: {123}, n = 9", Some(3.0), Work::Plain(9), &of("{123}"));
     add("plain: {1234}, n = 9", Some(3.0), Work::Plain(9), &of("{1234}"));
     add("plain: {2143,2341}, n = 9", Some(3.0), Work::Plain(9), &of("{2143,2341}"));
+
+    for set in NAMED {
+        let texts = |start: Vec<u8>| (set.as_bytes().to_vec(), start);
+        add(&format!("first: {set}, n = 20"), Some(2.5), Work::First(LONGEST), &|| texts(vec![]));
+        if let Some((first, last)) = ends(set) {
+            add(&format!("ten nexts: {set}, n = 20"), Some(2.5), Work::Nexts(10), &|| texts(first.clone()));
+            add(&format!("next of the last: {set}, n = 20"), Some(2.5), Work::Nexts(1), &|| texts(last.clone()));
+        }
+    }
+}
+
+/// The first and the last avoider of length 20, if there are any.
+fn ends(set: &str) -> Option<(Vec<u8>, Vec<u8>)> {
+    let patterns = read_patterns(set.as_bytes()).expect("a set");
+    let mut first = [0; LONGEST];
+    first_avoider(set.as_bytes(), LONGEST, &mut first).expect("a set and a length").then_some(())?;
+    let last = last_avoider(patterns.items(), LONGEST, &mut Effort::of(u64::MAX)).ok()??;
+    Some((first.to_vec(), last.to_vec()))
 }
 
 fn main() {
@@ -170,6 +212,8 @@ fn row(input: &Input, instructions: bool) {
     let said = match (input.work, answer.0) {
         (Work::Judge | Work::Witness, 0) => "accepted".to_string(),
         (Work::Judge | Work::Witness, number) => format!("refused {number}"),
+        (Work::First(_) | Work::Nexts(_), 0) => "nothing".to_string(),
+        (Work::First(_) | Work::Nexts(_), number) => format!("{number} given"),
         (_, count) => count.to_string(),
     };
     let target = input.target.map_or("-".into(), |t| format!("{t}"));
@@ -243,17 +287,19 @@ fn folder() -> PathBuf {
 /// The ratio of instructions, for calls of at most 30 milliseconds.
 fn instruction_ratio(input: &Input, engine: Option<f64>) -> Option<f64> {
     let work = match input.work {
-        Work::Judge => "judge",
-        Work::Witness => "witness",
+        Work::Judge => "judge".to_string(),
+        Work::Witness => "witness".to_string(),
+        Work::First(n) => format!("first {n}"),
+        Work::Nexts(times) => format!("nexts {times}"),
         _ => return None,
     };
     if engine? > 0.03 {
         return None;
     }
     std::fs::write(folder().join("input.patterns"), &input.patterns).ok()?;
-    std::fs::write(folder().join("input.scheme"), &input.scheme).ok()?;
+    std::fs::write(folder().join("input.second"), &input.second).ok()?;
     let of = |who: &str| -> Option<f64> {
-        let (none, some) = (collected(who, 0, work)?, collected(who, 5, work)?);
+        let (none, some) = (collected(who, 0, &work)?, collected(who, 5, &work)?);
         Some((some - none) / 5.0)
     };
     Some(of("engine")? / of("twin")?)
@@ -270,12 +316,17 @@ fn collected(who: &str, times: usize, work: &str) -> Option<f64> {
     line.trim().parse().ok()
 }
 
-/// Judges the input in the files so many times: what callgrind counts.
+/// Does the work on the input in the files so many times: what callgrind counts.
 fn repeat(words: &[String]) {
     let read = |name| std::fs::read(folder().join(name)).expect("the input's file");
-    let (patterns, scheme) = (read("input.patterns"), read("input.scheme"));
-    let work = if words[2] == "witness" { Work::Witness } else { Work::Judge };
-    let input = Input { name: "", work, patterns, scheme, target: None };
+    let (patterns, second) = (read("input.patterns"), read("input.second"));
+    let work = match words[2].split_once(' ') {
+        Some(("first", n)) => Work::First(n.parse().expect("a length")),
+        Some((_, times)) => Work::Nexts(times.parse().expect("a number")),
+        None if words[2] == "witness" => Work::Witness,
+        None => Work::Judge,
+    };
+    let input = Input { name: "", work, patterns, second, target: None };
     let call: Call = if words[0] == "engine" { by_engine } else { by_twin };
     let times: usize = words[1].parse().expect("a number");
     run(&input, call, times);

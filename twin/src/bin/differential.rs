@@ -13,14 +13,16 @@ use std::process::{exit, Command};
 use std::sync::atomic::{AtomicU64, Ordering};
 use std::thread;
 use std::time::{Duration, Instant, SystemTime};
+use twin::avoiders::{first_within, last_avoider, next_within, Answer, Effort, Exhausted};
 use twin::containment::copy_of;
 use twin::counting::{count, need, plain};
 use twin::engine;
 use twin::guarded::{Guarded, FILL};
 use twin::inputs::{exact_need, examples, fixed, Case, Maker};
 use twin::judging::judge_texts;
+use twin::list_inputs::{self, length_three, Listed, Lister, Start, NAMED, SMALL};
 use twin::listing::{first_copy_slowly, Listing};
-use twin::model::{Entry, Refusal, IRREVERSIBLE, LONGEST_PLAIN, WITNESS};
+use twin::model::{Entry, Refusal, IRREVERSIBLE, LONGEST, LONGEST_PLAIN, WITNESS};
 use twin::notation::{read_patterns, read_scheme, write_patterns, write_scheme};
 use twin::published::published;
 use twin::random::Random;
@@ -36,6 +38,11 @@ const PAGES: [usize; 5] = [0, 1, 31, WITNESS, 40];
 /// A run that meets fewer refusals 11, or compares fewer witnesses with listing, or finds fewer
 /// copies, than this proves too little, and fails.
 const ENOUGH: usize = 500;
+/// The words that the second implementation may look at for one avoider. An input that takes more
+/// is left out.
+const WORDS: u64 = 10_000;
+/// Avoiders up to this length are compared with listing.
+const LISTED: usize = 7;
 
 static STARTED: AtomicU64 = AtomicU64::new(0);
 
@@ -167,6 +174,7 @@ impl Test {
         self.enough("refusals 11", self.witnesses);
         self.enough("witnesses compared with listing", self.listed_witnesses);
         self.copies();
+        self.avoiders(count / 4);
         self.judgements();
         self.tables(&mut maker);
         println!("{} disagreements", self.wrong);
@@ -342,6 +350,125 @@ impl Test {
         self.enough("copies", found);
     }
 
+    /// The first avoider and the next: whole walks at small lengths, the beginning and the end of
+    /// the list at length 20, and the fixed and the random inputs.
+    fn avoiders(&mut self, count: usize) {
+        let mut tally = Tally::default();
+        let threes: Vec<Vec<u8>> = length_three().iter().map(|set| write_patterns(set)).collect();
+        let named = NAMED.iter().chain(&SMALL).map(|set| set.as_bytes().to_vec());
+        for set in threes.into_iter().chain(named) {
+            for n in 0..=LISTED {
+                let walked = self.walk(&mut tally, &set, n, usize::MAX);
+                if walked != tally.listing(&set).avoiders(n) {
+                    self.report("a whole walk", "all avoiders", &format!("{walked:?}"), &set, b"");
+                }
+            }
+            self.walk(&mut tally, &set, LONGEST, 10);
+            self.end(&mut tally, &set, LONGEST);
+        }
+        for input in list_inputs::fixed() {
+            self.list_one(&mut tally, &input);
+        }
+        let mut lister = Lister::new(self.seed, WORDS);
+        for at in 0..count {
+            let Some(input) = lister.next_input() else {
+                tally.skipped += 1;
+                continue;
+            };
+            if let Some(word) = self.list_one(&mut tally, &input).filter(|_| at.is_multiple_of(4)) {
+                self.follow(&mut tally, &input.patterns, Start::After(word), 3);
+            }
+        }
+        tally.print();
+        self.enough("avoiders given", tally.given);
+        self.enough("answers that there is none", tally.nothing);
+        self.enough("avoiders compared with listing", tally.listed);
+    }
+
+    /// The first avoider and so many nexts, or all of them.
+    fn walk(&mut self, tally: &mut Tally, set: &[u8], n: usize, steps: usize) -> Vec<Vec<u8>> {
+        self.follow(tally, set, Start::Length(n), steps)
+    }
+
+    /// What is given from a start on, after so many steps at the latest.
+    fn follow(&mut self, tally: &mut Tally, set: &[u8], mut start: Start, steps: usize) -> Vec<Vec<u8>> {
+        let mut given = vec![];
+        while given.len() <= steps {
+            let input = Listed { kind: "walks", patterns: set.to_vec(), start };
+            let Some(word) = self.list_one(tally, &input) else { break };
+            given.push(word.clone());
+            start = Start::After(word);
+        }
+        given
+    }
+
+    /// The next of the last avoider.
+    fn end(&mut self, tally: &mut Tally, set: &[u8], n: usize) {
+        let patterns = read_patterns(set).expect("a set");
+        let last = last_avoider(patterns.items(), n, &mut Effort::of(u64::MAX)).expect("no limit");
+        let Some(word) = last else { return };
+        if let Some(next) = self.follow(tally, set, Start::After(word[..n].to_vec()), 1).first() {
+            self.report("the next of the last avoider", "none", &format!("{next:?}"), set, b"");
+        }
+    }
+
+    /// The engine and the second implementation on one input, with pages of several lengths; the
+    /// slow mode too where the length is small. The avoider that is given.
+    fn list_one(&mut self, tally: &mut Tally, input: &Listed) -> Option<Vec<u8>> {
+        STARTED.fetch_add(1, Ordering::Relaxed);
+        let asked = format!("{:?}", input.start);
+        let text = [&input.patterns[..], b"\n", asked.as_bytes()].concat();
+        fs::write(current(), text).expect("the file of the input at work");
+        // what is refused for its length is so with any page
+        let n = input.start.length().min(300);
+        let mut last = None;
+        for length in [0, n.saturating_sub(1), n, n + 1 + n % 7] {
+            let mut page = vec![FILL; length];
+            let Ok(answer) = list_by_twin(input, &mut page) else {
+                tally.skipped += 1;
+                return None;
+            };
+            self.list_by_engine(tally, input, answer, &page);
+            tally.count(answer);
+            last = Some((answer, page));
+        }
+        let (answer, page) = last?;
+        let given = (answer == Ok(true)).then(|| page[..n].to_vec());
+        let kind = tally.kinds.entry(input.kind).or_default();
+        kind.0 += 1;
+        kind.1 += given.is_some() as usize;
+        if answer.is_ok() && n <= LISTED {
+            let slow = tally.slowly(input);
+            if slow != given {
+                let (slow, fast) = (format!("{slow:?}"), format!("{given:?}"));
+                self.report("the slow and the fast avoider", &slow, &fast, &input.patterns, asked.as_bytes());
+            }
+        }
+        given
+    }
+
+    /// The engine on an input of listing, with a page as long as the given one, which shows what is
+    /// expected.
+    fn list_by_engine(&mut self, tally: &mut Tally, input: &Listed, answer: Answer, page: &[u8]) {
+        let lent = self.page.page(page.len());
+        let [first, second] = &mut self.texts;
+        let patterns = first.place(&input.patterns);
+        let started = Instant::now();
+        let found = match &input.start {
+            Start::Length(n) => engine::FIRST.map(|call| call(patterns, *n, lent)),
+            Start::After(word) => engine::NEXT.map(|call| call(patterns, second.place(word), lent)),
+        };
+        tally.took(started.elapsed(), input);
+        let Some(found) = found else { return };
+        let (found, expected) = ((found, &*lent), (answer.map(u64::from).map_err(|r| r.0), page));
+        if found != expected {
+            let (expected, found) = (format!("{expected:?}"), format!("{found:?}"));
+            let what = format!("the engine's avoider on a page of {} bytes", page.len());
+            let asked = format!("{:?}", input.start);
+            self.report(&what, &expected, &found, &input.patterns, asked.as_bytes());
+        }
+    }
+
     /// The fast mode against the slow one, where the lengths are small.
     fn list(&mut self, case: &Case, fast: Result<usize, Refusal>) {
         let (Ok(patterns), Ok(scheme)) = (read_patterns(&case.patterns), read_scheme(&case.scheme)) else { return };
@@ -499,6 +626,83 @@ impl Test {
                 break;
             }
         }
+    }
+}
+
+/// The second implementation on an input of listing, where its searches do not give up.
+fn list_by_twin(input: &Listed, page: &mut [u8]) -> Result<Answer, Exhausted> {
+    let mut effort = Effort::of(WORDS);
+    match &input.start {
+        Start::Length(n) => first_within(&input.patterns, *n, page, &mut effort),
+        Start::After(word) => next_within(&input.patterns, word, page, &mut effort),
+    }
+}
+
+/// What became of the inputs of listing, by call.
+#[derive(Default)]
+struct Tally {
+    given: usize,
+    nothing: usize,
+    refused: BTreeMap<u32, usize>,
+    /// inputs of each kind, and how many of them were given an avoider
+    kinds: BTreeMap<&'static str, (usize, usize)>,
+    /// inputs that are left out
+    skipped: usize,
+    listed: usize,
+    slowest: (Duration, String),
+    calls: Duration,
+    /// the set that was listed last
+    listing: Option<(Vec<u8>, Listing)>,
+}
+
+impl Tally {
+    fn count(&mut self, answer: Answer) {
+        match answer {
+            Ok(true) => self.given += 1,
+            Ok(false) => self.nothing += 1,
+            Err(Refusal(number, _)) => *self.refused.entry(number).or_default() += 1,
+        }
+    }
+
+    fn took(&mut self, time: Duration, input: &Listed) {
+        self.calls += time;
+        if time > self.slowest.0 {
+            let set = String::from_utf8_lossy(&input.patterns);
+            self.slowest = (time, format!("{set}, {:?}", input.start));
+        }
+    }
+
+    /// The avoider by listing.
+    fn slowly(&mut self, input: &Listed) -> Option<Vec<u8>> {
+        self.listed += 1;
+        let listing = self.listing(&input.patterns);
+        match &input.start {
+            Start::Length(n) => listing.first(*n),
+            Start::After(word) => listing.next(word),
+        }
+    }
+
+    /// The listing of a set that can be read.
+    fn listing(&mut self, set: &[u8]) -> &mut Listing {
+        if self.listing.as_ref().is_none_or(|(other, _)| other != set) {
+            let patterns = read_patterns(set).expect("a set that was listed");
+            self.listing = Some((set.to_vec(), Listing::of(&patterns)));
+        }
+        let (_, listing) = self.listing.as_mut().expect("it was just put there");
+        listing
+    }
+
+    fn print(&self) {
+        println!("{:<28}{:>8}{:>10}", "kind of set and start", "inputs", "given");
+        for (kind, (inputs, given)) in &self.kinds {
+            println!("{kind:<28}{inputs:>8}{given:>10}");
+        }
+        let refused: Vec<String> = self.refused.iter().map(|(number, count)| format!("{number}: {count}")).collect();
+        println!("calls for an avoider: {} given, {} nothing, refused {}", self.given, self.nothing, refused.join(", "));
+        println!("avoiders compared with listing: {}; inputs left out after {WORDS} words: {}", self.listed, self.skipped);
+        let (longest, input) = &self.slowest;
+        let (longest, all) = (longest.as_secs_f64() * 1e3, self.calls.as_secs_f64());
+        println!("longest call of the engine for an avoider: {longest:.1} ms ({input}); all: {all:.1} s");
     }
 }
 

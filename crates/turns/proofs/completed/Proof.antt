@@ -1,6 +1,5 @@
 -- `turns::completed` meets its contract: both words are rearranged behind the given entries.
 -- Assumes nothing.
-use mathlib.Core.Path.{_∙_}
 use borrow.Author.Needs.{needs}
 use Rattle.turns.proofs.completed.Statement.{statement}
 use Rattle.turns.proofs.completed.Tie as tie

@@ -1,9 +1,8 @@
--- `turns::in_turns` meets its contract: a turn that decides is right, and the last has no budget, so
--- it decides.
+-- `turns::in_turns` meets its contract: a turn that decides is right, and the last has no budget,
+-- so it decides.
 -- Assumes nothing.
 use Prim.Native.Nat.{_-_, _≤_}
 use mathlib.Core.Path.{refl, sym, _∙_}
-use native.Mathlib.Omega.{arith}
 use lib.ListN.{take}
 use borrow.Author.Needs.{needs}
 use Rattle.word.specs.Containment.{patternsOf}

@@ -1,5 +1,5 @@
--- `turns::one_turn` meets its contract: what each search says is right, and both words have the same
--- given entries.
+-- `turns::one_turn` meets its contract: what each search says is right, and both words have the
+-- same given entries.
 -- Assumes nothing.
 use borrow.Author.Needs.{needs}
 use Rattle.turns.proofs.one_turn.Statement.{statement}

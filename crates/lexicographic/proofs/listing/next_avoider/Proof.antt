@@ -1,5 +1,5 @@
--- `lexicographic::listing::next_avoider` meets its contract: the call is refused, or what was found is put on
--- the page.
+-- `lexicographic::listing::next_avoider` meets its contract: the call is refused, or what
+-- was found is put on the page.
 -- Assumes nothing.
 use mathlib.Core.Path.{_≡_, sym, _∙_}
 use lib.ListN.{length}
@@ -7,7 +7,6 @@ use borrow.Author.Needs.{needs}
 use Rattle.word.specs.Finding.{clean, firstFault}
 use Rattle.forms.specs.SchemeMemory.{patternsIn}
 use Rattle.lexicographic.specs.Answers.{nextTests}
-use Rattle.lexicographic.specs.Values.{givenIn}
 use Rattle.lexicographic.specs.TestLaws.{found-nothing, next-passed, next-refused, next-put}
 use Rattle.lexicographic.proofs.listing.next_avoider.Statement.{statement}
 use Rattle.lexicographic.proofs.listing.next_avoider.Tie as tie
@@ -16,7 +15,8 @@ use Rattle.lexicographic.proofs.listing.next_avoider.Tie as tie
 abbrev first : tie.Else1 → tie.Start
 first c = c .before .before .before .before .before
 
-nothing-found : (c : tie.Else1) → let a = first c .args in firstFault (nextTests (patternsIn (a .patterns)) (a .permutation .now) (length (a .page .now))) ≡ clean
+nothing-found : (c : tie.Else1) → let a = first c .args in
+    firstFault (nextTests (patternsIn (a .patterns)) (a .permutation .now) (length (a .page .now))) ≡ clean
 nothing-found c =
     let a = first c .args in
     let f = c .before .before .next-fault in

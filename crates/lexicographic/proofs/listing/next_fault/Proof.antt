@@ -2,10 +2,8 @@
 -- Assumes nothing.
 use native.Mathlib.Omega.{arith}
 use mathlib.Core.Path.{_≡_, sym, _∙_}
-use mathlib.Core.Bool.{true, false}
 use borrow.Author.Needs.{needs}
 use borrow.Author.Tests.{not-true, not-false}
-use Rattle.word.specs.Word.{isPerm, avoids}
 use Rattle.word.specs.Finding.{clean, firstFault}
 use Rattle.forms.specs.SchemeMemory.{patternsIn}
 use Rattle.scheme.specs.WellFormed.{patternTests}

@@ -1,10 +1,7 @@
 -- `lexicographic::listing::next_listed` meets its contract: the basis has the same avoiders.
 -- Assumes nothing.
-use Prim.Native.Nat.{ℕ}
-use mathlib.Core.Path.{_≡_, sym, ap, _∙_}
-use mathlib.Core.Bool.{true}
-use mathlib.Core.List.{List}
-use lib.ListN.{length, take}
+use mathlib.Core.Path.{_≡_, ap, _∙_}
+use lib.ListN.{length}
 use borrow.Author.Needs.{needs}
 use Rattle.word.specs.Ceilings.{PATTERNS}
 use Rattle.word.specs.Word.{isPerm, avoids}

@@ -1,14 +1,12 @@
 -- `lexicographic::listing::put_listed` meets its contract: by whether an avoider was found.
 -- Assumes nothing.
-use Prim.Native.Nat.{_≤_}
-use mathlib.Core.Path.{_≡_, refl, sym, ap, _∙_}
-use mathlib.Core.Option.{none, some}
+use mathlib.Core.Path.{_≡_, refl, sym}
 use native.Mathlib.Omega.{arith}
 use lib.ListN.{length, take}
 use lib.Seq.{length-take-le}
 use borrow.Author.Needs.{needs}
 use Rattle.word.specs.Ceilings.{WORD}
-use Rattle.lexicographic.specs.WordLaws.{given-some, given-none}
+use Rattle.successor.specs.WordLaws.{given-some, given-none}
 use Rattle.lexicographic.specs.AnswerLaws.{puts-some, puts-none}
 use Rattle.lexicographic.proofs.listing.put_listed.Statement.{statement}
 use Rattle.lexicographic.proofs.listing.put_listed.Tie as tie
