@@ -1,24 +1,19 @@
 // The lines of standard input, each a call of `contains`: a label, a pattern and a permutation,
-// with a space between them. An entry is a digit, or a letter from A on for 10 and above; the byte
-// before the digits stands for 255. There are the ceilings, ε, lists that are no permutation, two
-// arguments at fault, and the examples of document 01.
+// with a space between them, spelt as in test_support::spelt. There are the ceilings, ε, lists that
+// are no permutation, two arguments at fault, and the examples of document 01.
 use test_support::lines::input;
 use test_support::lines::line_after;
 use test_support::lines::line_at;
 use test_support::parts::before;
 use test_support::parts::behind;
-use test_support::parts::byte_at;
 use test_support::parts::prefix;
 use test_support::print;
+use test_support::spelt::entries;
 use word::containment::Contained;
 use word::containment::CopyAnswer;
 use word::containment::contains;
 use word::limits::DIGITS;
-use word::limits::WORD;
 use word::refusal::number;
-
-// one entry more than a permutation may have
-const BEYOND: usize = WORD + 1;
 
 // A line for each line of the input.
 pub fn lines() {
@@ -81,24 +76,4 @@ fn positions(at: [usize; DIGITS]) {
 fn position(i: usize, x: usize) {
     print::either(i == 0, b" ", b",");
     print::number(x as u64);
-}
-
-// The entries that a word spells, in front.
-fn entries(word: &[u8]) -> [u8; BEYOND] {
-    let mut all = [0u8; BEYOND];
-    let mut i: usize = 0;
-    while i < BEYOND {
-        all[i] = entry(byte_at(word, i));
-        i += 1;
-    }
-    all
-}
-
-// The entry that a byte spells.
-fn entry(x: u8) -> u8 {
-    if x <= b'9' {
-        std::num::wrapping_sub_u8(x, b'0')
-    } else {
-        std::num::wrapping_sub_u8(x, 55)
-    }
 }

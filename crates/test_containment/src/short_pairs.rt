@@ -1,4 +1,5 @@
 // Containment against the direct search on every short pair.
+use test_listing::direct::LENGTH;
 use test_listing::direct::first_positions;
 use test_listing::permutations::LONGEST;
 use test_listing::permutations::count;
@@ -82,7 +83,10 @@ fn with_pair(t: Tally, p: [u8; LONGEST], k: usize, w: [u8; LONGEST], n: usize) -
     Tally {
         contained: one_more_if(is_yes(answer), t.contained),
         pairs: one_more_if(true, t.pairs),
-        disagreements: one_more_if(!agree(answer, first_positions(p, k, w, n)), t.disagreements),
+        disagreements: one_more_if(
+            !agree(answer, first_positions(prefix(&p, k), prefix(&w, n))),
+            t.disagreements,
+        ),
     }
 }
 
@@ -98,7 +102,7 @@ fn is_yes(answer: CopyAnswer) -> bool {
 
 // Whether `contains` says what the direct search says, and gives its positions. A refusal is a
 // disagreement.
-fn agree(answer: CopyAnswer, direct: [u8; LONGEST]) -> bool {
+fn agree(answer: CopyAnswer, direct: [u8; LENGTH]) -> bool {
     let contained = answer.contained;
     let at = answer.at;
     let same = same_positions(at, direct);
@@ -110,7 +114,7 @@ fn agree(answer: CopyAnswer, direct: [u8; LONGEST]) -> bool {
 }
 
 // Whether they are the same positions, zeros included.
-fn same_positions(at: [usize; DIGITS], direct: [u8; LONGEST]) -> bool {
+fn same_positions(at: [usize; DIGITS], direct: [u8; LENGTH]) -> bool {
     let mut i: usize = 0;
     while i < DIGITS {
         if at[i] != direct[i] as usize {

@@ -1,18 +1,21 @@
 // Containment, and the first copy, by trying every set of positions. It shares no code with the
 // crate `word`, and never goes back from a part of a copy.
-use crate::permutations::LONGEST;
-use crate::permutations::entry;
+use crate::words::comes_before;
+use test_support::parts::byte_at;
 
-// how many pairs of indices of two entries there are
-const PAIRS: usize = LONGEST * LONGEST;
+// the most entries of a permutation that are looked at
+pub const LENGTH: usize = 20;
+// the most entries of a pattern
+const PATTERN: usize = 8;
+// how many pairs of indices of two entries of a pattern there are
+const PAIRS: usize = PATTERN * PATTERN;
 
-// Whether some k of the first n entries of w, in their order, compare pairwise as the first k
-// entries of p.
-pub fn has_copy(p: [u8; LONGEST], k: usize, w: [u8; LONGEST], n: usize) -> bool {
-    let end = subsets(n);
+// Whether some entries of w, in their order, compare pairwise as those of p.
+pub fn has_copy(p: &[u8], w: &[u8]) -> bool {
+    let end = subsets(w.len());
     let mut subset: usize = 0;
     while subset < end {
-        if is_copy(p, k, w, subset) {
+        if is_copy(p, w, subset) {
             return true;
         }
         subset += 1;
@@ -22,12 +25,12 @@ pub fn has_copy(p: [u8; LONGEST], k: usize, w: [u8; LONGEST], n: usize) -> bool 
 
 // The positions, counted from 1, of the lexicographically first of all such copies, and zeros after
 // them; only zeros where there is none. It compares every copy with the least so far.
-pub fn first_positions(p: [u8; LONGEST], k: usize, w: [u8; LONGEST], n: usize) -> [u8; LONGEST] {
-    let end = subsets(n);
-    let mut least = [0u8; LONGEST];
+pub fn first_positions(p: &[u8], w: &[u8]) -> [u8; LENGTH] {
+    let end = subsets(w.len());
+    let mut least = [0u8; LENGTH];
     let mut subset: usize = 0;
     while subset < end {
-        let next = with_set(least, p, k, w, subset);
+        let next = with_set(least, p, w, subset);
         least = next;
         subset += 1;
     }
@@ -35,14 +38,8 @@ pub fn first_positions(p: [u8; LONGEST], k: usize, w: [u8; LONGEST], n: usize) -
 }
 
 // The lexicographically lesser of the positions so far and those of a set, if it is a copy.
-fn with_set(
-    least: [u8; LONGEST],
-    p: [u8; LONGEST],
-    k: usize,
-    w: [u8; LONGEST],
-    subset: usize,
-) -> [u8; LONGEST] {
-    if is_copy(p, k, w, subset) {
+fn with_set(least: [u8; LENGTH], p: &[u8], w: &[u8], subset: usize) -> [u8; LENGTH] {
+    if is_copy(p, w, subset) {
         lesser(least, positions(subset))
     } else {
         least
@@ -50,70 +47,83 @@ fn with_set(
 }
 
 // The lexicographically lesser of two lists of positions. Only zeros are no list.
-fn lesser(a: [u8; LONGEST], b: [u8; LONGEST]) -> [u8; LONGEST] {
+fn lesser(a: [u8; LENGTH], b: [u8; LENGTH]) -> [u8; LENGTH] {
     if a[0] == 0 {
         return b;
     }
-    if comes_before(b, a) { b } else { a }
+    if comes_before(&b, &a) { b } else { a }
 }
 
-// Whether a comes before b where they first differ.
-fn comes_before(a: [u8; LONGEST], b: [u8; LONGEST]) -> bool {
+// The positions of a set, counted from 1: the entries of 1, 2, .., 20 there.
+fn positions(subset: usize) -> [u8; LENGTH] {
+    let all = [
+        1u8,
+        2,
+        3,
+        4,
+        5,
+        6,
+        7,
+        8,
+        9,
+        10,
+        11,
+        12,
+        13,
+        14,
+        15,
+        16,
+        17,
+        18,
+        19,
+        20,
+    ];
+    entries_at(&all, subset)
+}
+
+// How many sets of positions a permutation of length n, at most 20, has: 2 to the n.
+fn subsets(n: usize) -> usize {
+    let mut all: usize = 1;
     let mut i: usize = 0;
-    while i < LONGEST {
-        if a[i] != b[i] {
-            return a[i] < b[i];
+    while i < LENGTH {
+        if n <= i {
+            return all;
         }
+        all = std::num::wrapping_add_usize(all, all);
         i += 1;
     }
-    false
+    all
 }
 
-// The positions of a set, counted from 1: the entries of 12345678 there.
-fn positions(subset: usize) -> [u8; LONGEST] {
-    entries_at([1u8, 2, 3, 4, 5, 6, 7, 8], subset)
-}
-
-// How many sets of positions a permutation of length n, at most eight, has: 2 to the n.
-fn subsets(n: usize) -> usize {
-    match n {
-        0 => 1,
-        1 => 2,
-        2 => 4,
-        3 => 8,
-        4 => 16,
-        5 => 32,
-        6 => 64,
-        7 => 128,
-        _ => 256,
-    }
-}
-
-// Whether the entries of w at the positions of a set are a copy of the first k entries of p. The
-// index i is in the set if the binary digit of weight 2 to the i is 1. A set of another size is
-// left at once.
-fn is_copy(p: [u8; LONGEST], k: usize, w: [u8; LONGEST], subset: usize) -> bool {
-    if size(subset) != k {
+// Whether the entries of w at the positions of a set are a copy of p. The index i is in the set if
+// the binary digit of weight 2 to the i is 1. A set of another size is left at once.
+fn is_copy(p: &[u8], w: &[u8], subset: usize) -> bool {
+    if !has_size(subset, p.len()) {
         return false;
     }
-    same_order(p, entries_at(w, subset), k)
+    let entries = entries_at(w, subset);
+    same_order(p, &entries)
 }
 
-// How many of the eight lowest binary digits of a set are 1.
-fn size(subset: usize) -> usize {
-    let low = subset % 2 + subset / 2 % 2 + subset / 4 % 2 + subset / 8 % 2;
-    let high = subset / 16 % 2 + subset / 32 % 2 + subset / 64 % 2 + subset / 128 % 2;
-    low + high
+// Whether a set has k positions. No pattern has more entries than PATTERN.
+fn has_size(subset: usize, k: usize) -> bool {
+    if PATTERN < k {
+        return false;
+    }
+    u64::count_ones(subset as u64) == k as u32
 }
 
 // The entries of w at the positions of a set, in front, and zeros after them.
-fn entries_at(w: [u8; LONGEST], subset: usize) -> [u8; LONGEST] {
-    let mut entries = [0u8; LONGEST];
+fn entries_at(w: &[u8], subset: usize) -> [u8; LENGTH] {
+    let mut entries = [0u8; LENGTH];
     let mut count: usize = 0;
     let mut rest = subset;
     let mut i: usize = 0;
-    while i < LONGEST {
-        entries[count] = if_odd(rest, w[i]);
+    while i < LENGTH {
+        if rest == 0 {
+            return entries;
+        }
+        entries[count] = if_odd(rest, byte_at(w, i));
         count += rest % 2;
         rest /= 2;
         i += 1;
@@ -126,11 +136,11 @@ fn if_odd(rest: usize, entry: u8) -> u8 {
     if rest % 2 == 1 { entry } else { 0 }
 }
 
-// Whether each two of the first k entries of a compare as those of b, both ways.
-fn same_order(a: [u8; LONGEST], b: [u8; LONGEST], k: usize) -> bool {
+// Whether each two entries of a compare as those of b, both ways.
+fn same_order(a: &[u8], b: &[u8]) -> bool {
     let mut pair: usize = 0;
     while pair < PAIRS {
-        if !alike(a, b, k, pair / LONGEST, pair % LONGEST) {
+        if !alike(a, b, pair / PATTERN, pair % PATTERN) {
             return false;
         }
         pair += 1;
@@ -138,14 +148,15 @@ fn same_order(a: [u8; LONGEST], b: [u8; LONGEST], k: usize) -> bool {
     true
 }
 
-// Whether the entries at i and j compare as those of b. Indices from k on are not compared.
-fn alike(a: [u8; LONGEST], b: [u8; LONGEST], k: usize, i: usize, j: usize) -> bool {
-    if k <= i {
+// Whether the entries of a at i and j compare as those of b. Indices past the last are not
+// compared.
+fn alike(a: &[u8], b: &[u8], i: usize, j: usize) -> bool {
+    if a.len() <= i {
         return true;
     }
-    if k <= j {
+    if a.len() <= j {
         return true;
     }
-    let above = entry(a, i) < entry(a, j);
-    above == (entry(b, i) < entry(b, j))
+    let above = byte_at(a, i) < byte_at(a, j);
+    above == (byte_at(b, i) < byte_at(b, j))
 }

@@ -38,9 +38,34 @@ pub fn permutation(n: usize, number: usize) -> [u8; LONGEST] {
     a
 }
 
-// The entry at the index i, and 0 past the last.
-pub fn entry(a: [u8; LONGEST], i: usize) -> u8 {
-    if i < LONGEST { a[i] } else { 0 }
+// The permutation of length n that a number of others, less than their count, come before in
+// lexicographic order. The entries 1 to n stand in their order; then for each index, from the first
+// on, one of those from there on is brought to it, and the others stay in their order. The number
+// says which: so many permutations have each of them there and the same entries before it.
+pub fn ordered(n: usize, number: usize) -> [u8; LONGEST] {
+    let mut a = [1u8, 2, 3, 4, 5, 6, 7, 8];
+    let mut rest = number;
+    let mut i: usize = 0;
+    while i < n {
+        let each = count(n - 1 - i);
+        let b = brought(a, i, std::num::wrapping_add_usize(i, rest / each));
+        a = b;
+        rest %= each;
+        i += 1;
+    }
+    a
+}
+
+// The entries with that at j brought to the index i, and those from there to it one place back.
+fn brought(a: [u8; LONGEST], i: usize, j: usize) -> [u8; LONGEST] {
+    let mut b = a;
+    let mut at = j;
+    while i < at {
+        let c = swapped(b, at - 1, at);
+        b = c;
+        at -= 1;
+    }
+    b
 }
 
 // The entries with those at i and j exchanged.

@@ -9,6 +9,5 @@ use Rattle.test_counting.proofs.avoiders.avoiders.Tie as tie
 pub avoiders-spec : {M : Type 1} → statement M
 avoiders-spec = tie.close (tie.spec
     (λ patterns n end total₀ i₀ total i. Unit) (λ patterns n end total₀ i₀ total i. end - i)
-    (λ c κs. search needs) (λ c. search needs) (λ c κs. search needs) (λ c κs. search needs)
-    (λ c κs. search needs) (λ c. search needs) (λ c. search needs) (λ c. search needs)
-    (λ c. search needs))
+    (λ c κs. search needs) (λ c. search needs) (λ c κs. search needs) (λ c. search needs)
+    (λ c. search needs) (λ c. search needs) (λ c. search needs))

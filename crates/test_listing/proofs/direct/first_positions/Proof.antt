@@ -7,7 +7,7 @@ use Rattle.test_listing.proofs.direct.first_positions.Tie as tie
 
 pub first-positions-spec : {M : Type 1} → statement M
 first-positions-spec = tie.close (tie.spec
-    (λ p k w n end least₀ subset₀ least subset. Unit)
-    (λ p k w n end least₀ subset₀ least subset. end - subset)
+    (λ p w end least₀ subset₀ least subset. Unit)
+    (λ p w end least₀ subset₀ least subset. end - subset)
     (λ c κs. search needs) (λ c. search needs) (λ c κs. search needs) (λ c. search needs)
     (λ c. search needs) (λ c. search needs) (λ c. search needs))

@@ -7,6 +7,6 @@ use Rattle.test_listing.proofs.direct.has_copy.Tie as tie
 
 pub has-copy-spec : {M : Type 1} → statement M
 has-copy-spec = tie.close (tie.spec
-    (λ p k w n end subset₀ subset. Unit) (λ p k w n end subset₀ subset. end - subset)
+    (λ p w end subset₀ subset. Unit) (λ p w end subset₀ subset. end - subset)
     (λ c κs. search needs) (λ c. search needs) (λ c κs. search needs) (λ c. search needs)
     (λ c. search needs) (λ c. search needs) (λ c. search needs) (λ c. search needs))

@@ -7,6 +7,6 @@ use Rattle.test_listing.proofs.direct.same_order.Tie as tie
 
 pub same-order-spec : {M : Type 1} → statement M
 same-order-spec = tie.close (tie.spec
-    (λ a b k pair₀ pair. Unit) (λ a b k pair₀ pair. 64 - pair) (λ c. search needs)
+    (λ a b pair₀ pair. Unit) (λ a b pair₀ pair. 64 - pair) (λ c. search needs)
     (λ c κs. search needs) (λ c. search needs) (λ c. search needs) (λ c. search needs)
     (λ c. search needs) (λ c. search needs))

@@ -1,9 +1,9 @@
--- `test_containment::cases::entries` is safe and ends: it has 21 turns.
+-- `test_support::spelt::entries` is safe and ends: it has 21 turns.
 -- Assumes nothing.
 use borrow.Author.Needs.{needs}
 use Prim.Native.Nat.{_-_}
-use Rattle.test_containment.proofs.cases.entries.Statement.{statement}
-use Rattle.test_containment.proofs.cases.entries.Tie as tie
+use Rattle.test_support.proofs.spelt.entries.Statement.{statement}
+use Rattle.test_support.proofs.spelt.entries.Tie as tie
 
 pub entries-spec : {M : Type 1} → statement M
 entries-spec = tie.close (tie.spec
