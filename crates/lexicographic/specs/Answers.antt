@@ -9,8 +9,7 @@ use lib.ListN.{length, take, drop}
 use lib.Dec.{ltb}
 use Rattle.word.specs.Ceilings.{WORD}
 use Rattle.word.specs.Word.{isPerm, avoids, before}
-use Rattle.word.specs.Listing.{firstAvoider, nextAvoider}
-use Rattle.word.specs.ListingLaws.{LeastAvoider}
+use Rattle.word.specs.Listing.{firstAvoider, nextAvoider, LeastAvoider}
 use Rattle.word.specs.Finding.{Finding, clean, fault, test, firstFault}
 use Rattle.word.specs.Told.{Told, toldBy}
 use Rattle.word.specs.declared.refusal.Refusal.the-variants.{Oversize, NoPermutation, ShortPage, NoAvoider}

@@ -2,11 +2,12 @@
 -- lexicographic order (02, order 2). Definitions only.
 use Prim.Native.Nat.{ℕ}
 use mathlib.Core.Path.{_≡_}
+use mathlib.Core.Bool.{Bool, true, false}
 use mathlib.Core.List.{List, [], _∷_}
 use mathlib.Core.Option.{Option, none, some}
 use lib.ListN.{length}
 use Rattle.word.specs.Lists.{first}
-use Rattle.word.specs.Word.{avoiders, before}
+use Rattle.word.specs.Word.{isPerm, avoids, avoiders, before}
 
 -- the first word of a list, or none
 unfoldable pub headOf : List (List ℕ) → Option (List ℕ)
@@ -29,3 +30,12 @@ unfoldable pub Follows : List (List ℕ) → Option (List ℕ) → List (List �
 unfolding nextAvoider
 Follows P o [] = o ≡ none
 Follows P o (w ∷ l) = (o ≡ some w) × Follows P (nextAvoider P w) l
+
+-- v is an avoider of length n for which the test holds, and no avoider of that length for which it
+-- holds comes before it
+pub record LeastAvoider (P : List (List ℕ)) (n : ℕ) (f : List ℕ → Bool) (v : List ℕ) : Type 0 where
+  pub perm : isPerm v ≡ true
+  pub size : length v ≡ n
+  pub avoids-all : avoids P v ≡ true
+  pub holds : f v ≡ true
+  pub least : (x : List ℕ) → isPerm x ≡ true → length x ≡ n → avoids P x ≡ true → f x ≡ true → before x v ≡ false

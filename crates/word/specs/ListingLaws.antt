@@ -11,20 +11,11 @@ use lib.ListN.{length, getD}
 use Prim.Native.Nat.{_<_}
 use Rattle.word.specs.Lists.{all, first}
 use Rattle.word.specs.Word.{isPerm, avoids, avoiders, before}
-use Rattle.word.specs.Listing.{headOf, firstAvoider, nextAvoider, Follows}
+use Rattle.word.specs.Listing.{headOf, firstAvoider, nextAvoider, Follows, LeastAvoider}
 use Rattle.word.specs.ListLaws.{true-not-false, and-left, and-right, all-out, first-some}
 use Rattle.word.specs.CopyLaws.{before-irrefl}
 use Rattle.word.specs.AscendLaws.{ascends, ascends-once, avoiders-are, avoiders-all, avoiders-ascend}
 use Rattle.word.specs.FirstLaws.{none-first, before-asym, first-ordered}
-
--- v is an avoider of length n for which the test holds, and no avoider of that length for which it
--- holds comes before it
-pub record LeastAvoider (P : List (List ℕ)) (n : ℕ) (f : List ℕ → Bool) (v : List ℕ) : Type 0 where
-  pub perm : isPerm v ≡ true
-  pub size : length v ≡ n
-  pub avoids-all : avoids P v ≡ true
-  pub holds : f v ≡ true
-  pub least : (x : List ℕ) → isPerm x ≡ true → length x ≡ n → avoids P x ≡ true → f x ≡ true → before x v ≡ false
 
 -- the first avoider for which a test holds
 pub first-least : (P : List (List ℕ)) (n : ℕ) (f : List ℕ → Bool) (v : List ℕ) → first f (avoiders P n) ≡ some v → LeastAvoider P n f v
