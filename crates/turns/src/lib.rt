@@ -6,6 +6,8 @@ use appending::appending_search;
 use arrangement::ordering::rising_behind;
 use arrangement::ordering::turned_behind;
 use arrangement::searched::Searched;
+use arrangement::searched::found_as;
+use completion::contained;
 use crowding::shortest_falling;
 use crowding::shortest_rising;
 use insertion::Span;
@@ -45,7 +47,8 @@ struct Start {
 }
 
 // Whether some avoider of length n begins with the first `len` entries of the word, and one that
-// does. The unused values stand behind these entries.
+// does. The unused values stand behind these entries. Most questions are answered by the word with
+// the unused values in rising or in falling order, so these two are looked at first.
 pub fn completed(
     set: [[u8; DIGITS]; PATTERNS],
     lengths: [u8; PATTERNS],
@@ -69,6 +72,14 @@ pub fn completed(
         rises,
         falls,
     };
+    let up = start.up;
+    if !contained(set, lengths, count, up, n) {
+        return found_as(up, 0);
+    }
+    let down = start.down;
+    if !contained(set, lengths, count, down, n) {
+        return found_as(down, 0);
+    }
     in_turns(set, lengths, count, start)
 }
 
