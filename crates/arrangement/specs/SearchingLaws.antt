@@ -6,9 +6,9 @@ use mathlib.Core.List.{List, _++_}
 use lib.ListN.{length, take, drop, take-append-drop}
 use lib.Seq.{take-take, length-take-le}
 use Rattle.word.specs.Word.{isPerm, avoids}
-use Rattle.word.specs.ListLaws.{true-not-false}
+use Rattle.word.specs.ListLaws.{true-not-false, fails-with}
 use Rattle.completion.specs.Completion.{begins, completable}
-use Rattle.completion.specs.CompletionLaws.{begins-out, begins-in, completable-in}
+use Rattle.completion.specs.CompletionLaws.{begins-out, begins-in, completable-in, completable-avoids}
 use Rattle.arrangement.specs.Searching.{Completes, Searches, Decides}
 use Rattle.arrangement.specs.declared.searched.Searched.{Searched}
 
@@ -45,3 +45,9 @@ stands-decided P n len w r h k p a f q =
   where
     cut : take len w ++ drop len (take n w) ≡ take n w
     cut = ap (λ (t : List ℕ). t ++ drop len (take n w)) (sym (take-take len n w h)) ∙ take-append-drop len (take n w)
+
+-- entries that do not avoid the patterns have no completion
+pub contained-decided : (P : List (List ℕ)) (n : ℕ) (u : List ℕ) (r : Searched) → avoids P u ≡ false → r .found ≡ false → Decides P n u r
+contained-decided P n u r a f =
+    let none-there : completable P n u ≡ false = fails-with (completable P n u) (avoids P u) (completable-avoids P n u) a in
+    record { decided = f ∙ sym none-there; word = λ t. absurd (true-not-false (sym t ∙ none-there)) }

@@ -7,6 +7,7 @@ use arrangement::ordering::rising_behind;
 use arrangement::ordering::turned_behind;
 use arrangement::searched::Searched;
 use arrangement::searched::found_as;
+use arrangement::searched::found_none;
 use completion::contained;
 use crowding::shortest_falling;
 use crowding::shortest_rising;
@@ -48,7 +49,8 @@ struct Start {
 
 // Whether some avoider of length n begins with the first `len` entries of the word, and one that
 // does. The unused values stand behind these entries. Most questions are answered by the word with
-// the unused values in rising or in falling order, so these two are looked at first.
+// the unused values in rising or in falling order, or by the given entries alone, so these are
+// looked at first.
 pub fn completed(
     set: [[u8; DIGITS]; PATTERNS],
     lengths: [u8; PATTERNS],
@@ -60,6 +62,9 @@ pub fn completed(
     requires { ⌜ (len ≤ n) × (n ≤ WORD) × (isPerm (take n word) ≡ true) ⌝ }
     ensures { λ r. ⌜ Decides (patternsOf set lengths count) n (take len word) r ⌝ }
 {
+    if contained(set, lengths, count, word, len) {
+        return found_none(word, 0);
+    }
     let up = rising_behind(word, len, n);
     let down = turned_behind(up, len, n);
     let rises = shortest_rising(set, lengths, count);
