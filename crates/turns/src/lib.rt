@@ -6,9 +6,6 @@ use appending::appending_search;
 use arrangement::ordering::rising_behind;
 use arrangement::ordering::turned_behind;
 use arrangement::searched::Searched;
-use arrangement::searched::found_as;
-use arrangement::searched::found_none;
-use completion::contained;
 use crowding::shortest_falling;
 use crowding::shortest_rising;
 use insertion::Span;
@@ -48,9 +45,7 @@ struct Start {
 }
 
 // Whether some avoider of length n begins with the first `len` entries of the word, and one that
-// does. The unused values stand behind these entries. Most questions are answered by the word with
-// the unused values in rising or in falling order, or by the given entries alone, so these are
-// looked at first.
+// does. The unused values stand behind these entries.
 pub fn completed(
     set: [[u8; DIGITS]; PATTERNS],
     lengths: [u8; PATTERNS],
@@ -62,9 +57,6 @@ pub fn completed(
     requires { ⌜ (len ≤ n) × (n ≤ WORD) × (isPerm (take n word) ≡ true) ⌝ }
     ensures { λ r. ⌜ Decides (patternsOf set lengths count) n (take len word) r ⌝ }
 {
-    if contained(set, lengths, count, word, len) {
-        return found_none(word, 0);
-    }
     let up = rising_behind(word, len, n);
     let down = turned_behind(up, len, n);
     let rises = shortest_rising(set, lengths, count);
@@ -77,14 +69,6 @@ pub fn completed(
         rises,
         falls,
     };
-    let up = start.up;
-    if !contained(set, lengths, count, up, n) {
-        return found_as(up, 0);
-    }
-    let down = start.down;
-    if !contained(set, lengths, count, down, n) {
-        return found_as(down, 0);
-    }
     in_turns(set, lengths, count, start)
 }
 
