@@ -16,8 +16,7 @@ use Rattle.word.specs.Lists.{keep, row}
 use Rattle.word.specs.Word.{contains, longest}
 use Rattle.word.specs.Containment.{patternsOf}
 use Rattle.word.specs.ListLaws.{same-or-not}
-use Rattle.cell.specs.Cell.{same}
-use Rattle.cell.specs.Basis.{basic, basis}
+use Rattle.cell.specs.Basis.{same, basic, basis}
 use Rattle.forms.specs.SchemeMemory.{padded, noPattern, patternIn}
 use Rattle.forms.specs.MemoryLaws.{padded-within}
 use Rattle.forms.specs.declared.memory.Pattern.{Pattern}

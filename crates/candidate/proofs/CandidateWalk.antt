@@ -21,7 +21,7 @@ use Rattle.word.specs.Containment.{patternsOf}
 use Rattle.word.specs.ListLaws.{true-not-false, first-some}
 use Rattle.word.specs.CopyLaws.{found, first-found}
 use Rattle.word.specs.ContainsLaws.{avoids-none}
-use Rattle.cell.specs.Cell.{total, without, free, vectors, mOf, compared}
+use Rattle.cell.specs.Cell.{total, without, free, vectors, comparedTo}
 use Rattle.cell.specs.SpacingWalk.{compared-are}
 use Rattle.cell.specs.Built.{level, built}
 use Rattle.cell.specs.Candidate.{headLength, hit, violates, violated, irreversible, violatedFirst}
@@ -329,15 +329,16 @@ module _ (set : List (List ℕ)) (lengths : List ℕ) (count : ℕ) (needs : Lis
 -- over the totals: the whole answer
 
 -- the first violation, over all spacings of the totals below m
-pub entry-first : (P : List (List ℕ)) (p : List ℕ) (B : List (List ℕ)) (R : List ℕ) (k m : ℕ) → k ≡ length p → m ≡ longest P →
-    violatedFirst P p B R ≡ first (lost B P p R) (each (vectors (suc k)) (row 0 m))
+pub entry-first : (P : List (List ℕ)) (p : List ℕ) (B : List (List ℕ)) (R : List ℕ) (k m : ℕ) → k ≡ length p →
+    violatedFirst m P p B R ≡ first (lost B P p R) (each (vectors (suc k)) (row 0 m))
 unfolding violatedFirst
-entry-first P p B R k m e h = rw (e, h) (first-keep (free B) (violated P p R) (each (vectors (suc (length p))) (row 0 (longest P))))
+entry-first P p B R k m e = rw e (first-keep (free B) (violated P p R) (each (vectors (suc (length p))) (row 0 m)))
 
 -- there is a violation exactly if there is a first
-entry-found : (P : List (List ℕ)) (p : List ℕ) (B : List (List ℕ)) (R : List ℕ) → found (violatedFirst P p B R) ≡ irreversible P p B R
+entry-found : (m : ℕ) (P : List (List ℕ)) (p : List ℕ) (B : List (List ℕ)) (R : List ℕ) →
+    found (violatedFirst m P p B R) ≡ irreversible m P p B R
 unfolding violatedFirst irreversible
-entry-found P p B R = first-found (violated P p R) (compared P (length p) B)
+entry-found m P p B R = first-found (violated P p R) (comparedTo m (length p) B)
 
 located-found : (k : ℕ) (o : Option (List ℕ)) (r : Lost) → FoundAt k o r → r .found ≡ found o
 located-found k none r e = e
@@ -351,40 +352,41 @@ mem-pattern (r ∷ set) [] (suc n) m = absurd (List·Memᴰ·not-nil m)
 mem-pattern (r ∷ set) (k ∷ lengths) (suc n) (List·Memᴰ·head e) = (0, omega arith, e)
 mem-pattern (r ∷ set) (k ∷ lengths) (suc n) (List·Memᴰ·tail m) = let (i, h, e) = mem-pattern set lengths n m in (suc i, omega arith, e)
 
-pub entry-answer : (set : List (List ℕ)) (lengths : List ℕ) (count : ℕ) (p : List ℕ) (B : List (List ℕ))
+pub entry-answer : (m : ℕ) (set : List (List ℕ)) (lengths : List ℕ) (count : ℕ) (p : List ℕ) (B : List (List ℕ))
     (R : List ℕ) (k : ℕ) (r : Lost) → Given set lengths count p R → k ≡ length p →
-    FoundAt k (violatedFirst (patternsOf set lengths count) p B R) r → EntryAnswer (patternsOf set lengths count) p B R r
-entry-answer set lengths count p B R k r G size at =
+    FoundAt k (violatedFirst m (patternsOf set lengths count) p B R) r → EntryAnswer m (patternsOf set lengths count) p B R r
+entry-answer m set lengths count p B R k r G size at =
     record {
       defined = e;
-      claimed = (λ h. law .0 (sym e ∙ h), λ claim. e ∙ law .1 claim);
+      claimed = λ reach. (λ h. law reach .0 (sym e ∙ h), λ claim. e ∙ law reach .1 claim);
       located = rw size at at;
     }
   where
-    e : r .found ≡ irreversible (patternsOf set lengths count) p B R
+    e : r .found ≡ irreversible m (patternsOf set lengths count) p B R
     e =
-        located-found k (violatedFirst (patternsOf set lengths count) p B R) r at ∙
-        entry-found (patternsOf set lengths count) p B R
+        located-found k (violatedFirst m (patternsOf set lengths count) p B R) r at ∙
+        entry-found m (patternsOf set lengths count) p B R
 
     apart : (β : List ℕ) → List·Memᴰ β (patternsOf set lengths count) → distinct β ≡ true
-    apart β m = let (i, h, q) = mem-pattern set lengths count m in perm-distinct β (ap isPerm q ∙ G .patterns i h)
+    apart β d = let (i, h, q) = mem-pattern set lengths count d in perm-distinct β (ap isPerm q ∙ G .patterns i h)
 
-    law : (irreversible (patternsOf set lengths count) p B R ≡ false) ↔ DeletionClaim (patternsOf set lengths count) p B R
-    law = irreversible-law (patternsOf set lengths count) p R (G .perm) (G .inside) apart B
+    law : longest (patternsOf set lengths count) ≤ m →
+        (irreversible m (patternsOf set lengths count) p B R ≡ false) ↔ DeletionClaim (patternsOf set lengths count) p B R
+    law reach = irreversible-law m (patternsOf set lengths count) reach p R (G .perm) (G .inside) apart B
 
 -- the total of what was found
-pub located-total : (P : List (List ℕ)) (p : List ℕ) (B : List (List ℕ)) (R : List ℕ) (k : ℕ) (r : Lost) →
-    FoundAt k (violatedFirst P p B R) r → r .found ≡ true →
-    (r .total < longest P) × (total (take (k + 1) (r .spacing)) ≡ r .total)
-unfolding violatedFirst mOf
-located-total P p B R k r at h = go (violatedFirst P p B R) refl at
+pub located-total : (m : ℕ) (P : List (List ℕ)) (p : List ℕ) (B : List (List ℕ)) (R : List ℕ) (k : ℕ) (r : Lost) →
+    FoundAt k (violatedFirst m P p B R) r → r .found ≡ true →
+    (r .total < m) × (total (take (k + 1) (r .spacing)) ≡ r .total)
+unfolding violatedFirst
+located-total m P p B R k r at h = go (violatedFirst m P p B R) refl at
   where
-    go : (o : Option (List ℕ)) → violatedFirst P p B R ≡ o → FoundAt k o r →
-        (r .total < longest P) × (total (take (k + 1) (r .spacing)) ≡ r .total)
+    go : (o : Option (List ℕ)) → violatedFirst m P p B R ≡ o → FoundAt k o r →
+        (r .total < m) × (total (take (k + 1) (r .spacing)) ≡ r .total)
     go none q e = absurd (true-not-false (sym h ∙ e))
     go (some g) q (f, s, t) =
-        let (m, v) = first-some (violated P p R) (compared P (length p) B) g q in
-        let c = compared-are P (length p) B m in
+        let (d, v) = first-some (violated P p R) (comparedTo m (length p) B) g q in
+        let c = compared-are m (length p) B d in
         (omega arith, ap total s ∙ sym t)
 
 -- a word that contains the pattern at a place of the set does not avoid the set

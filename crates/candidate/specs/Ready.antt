@@ -10,7 +10,7 @@ use lib.ListN.{length, take, drop}
 use Rattle.word.specs.Ceilings.{DIGITS, PATTERNS, PREFIX}
 use Rattle.word.specs.Lists.{all, first}
 use Rattle.word.specs.Containment.{patternsOf}
-use Rattle.word.specs.Word.{under, has, entry, isPerm, within}
+use Rattle.word.specs.Word.{longest, under, has, entry, isPerm, within}
 use Rattle.cell.specs.Cell.{total, free, vectors}
 use Rattle.cell.specs.Claim.{DeletionClaim}
 use Rattle.cell.specs.Built.{level}
@@ -89,9 +89,10 @@ TotalAnswer set lengths count p gone B k t r =
     (R : List ℕ) → FlaggedFor set lengths count p R gone → k ≡ length p →
     FoundAt k (first (λ g. free B g && violated (patternsOf set lengths count) p R g) (vectors (suc k) t)) r
 
--- The answer on an entry: it is the definition's, it is no exactly if the deletion claim holds at
--- every length, and it says where the first violation is.
-pub record EntryAnswer (P : List (List ℕ)) (p : List ℕ) (B : List (List ℕ)) (R : List ℕ) (r : Lost) : Type 0 where
-  pub defined : r .found ≡ irreversible P p B R
-  pub claimed : (r .found ≡ false) ↔ DeletionClaim P p B R
-  pub located : FoundAt (length p) (violatedFirst P p B R) r
+-- The answer on an entry, under m: it is the definition's, it says where the first violation is, and
+-- where m is at least the length of the longest pattern, it is no exactly if the deletion claim
+-- holds at every length.
+pub record EntryAnswer (m : ℕ) (P : List (List ℕ)) (p : List ℕ) (B : List (List ℕ)) (R : List ℕ) (r : Lost) : Type 0 where
+  pub defined : r .found ≡ irreversible m P p B R
+  pub claimed : longest P ≤ m → (r .found ≡ false) ↔ DeletionClaim P p B R
+  pub located : FoundAt (length p) (violatedFirst m P p B R) r

@@ -12,9 +12,8 @@ ghost use mathlib.Core.Bool.{not, _||_};
 ghost use lib.ListN.{length, take};
 ghost use Rattle.word.specs.Word.{contains, longest};
 ghost use Rattle.word.specs.Containment.{patternsOf};
-ghost use Rattle.cell.specs.Cell.{same};
+ghost use Rattle.cell.specs.Basis.{same, basic};
 ghost use Rattle.word.specs.Ceilings.{DIGITS, PATTERNS};
-ghost use Rattle.cell.specs.Basis.{basic};
 ghost use Rattle.candidate.specs.BasisSet.{IsBasis};
 
 // Whether the first `a` digits of p are the first `b` digits of q.

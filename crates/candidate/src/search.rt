@@ -26,7 +26,7 @@ ghost use mathlib.Core.List.{List};
 ghost use Prim.Native.Nat.{ℕ, _+_, _≤_, _<_};
 ghost use lib.ListN.{length, take};
 ghost use Rattle.word.specs.Ceilings.{DIGITS, PATTERNS, PREFIX, TOTAL, WORD};
-ghost use Rattle.word.specs.Word.{avoids, longest};
+ghost use Rattle.word.specs.Word.{avoids};
 ghost use Rattle.word.specs.Containment.{patternsOf};
 ghost use Rattle.cell.specs.Cell.{total};
 ghost use Rattle.cell.specs.Candidate.{hit};
@@ -35,14 +35,14 @@ ghost use Rattle.candidate.specs.Lookup.{NEEDS};
 ghost use Rattle.candidate.specs.Ready.{Ready, AllNeeds, Given, SpacingAnswer, FreeAnswer, TotalAnswer, EntryAnswer};
 
 // A deletion from an entry's prefix: the prefix, the deleted positions, how many gap vectors the
-// entry has, and the length of the longest pattern.
+// entry has, and m, below which the totals of the compared spacings lie.
 pub struct Deletion {
     pub prefix: [u8; PREFIX],
     pub length: usize,
     pub positions: [u8; PREFIX],
     pub position_count: usize,
     pub gap_count: usize,
-    pub longest: usize,
+    pub m: usize,
 }
 
 // What the search keeps of a deletion: the prefix, the deleted values flagged in the place of the
@@ -261,11 +261,10 @@ pub fn irreversible(
     deletion: Deletion,
 ) -> Lost
     requires { ⌜ AllNeeds set lengths count (now needs) × (deletion .length ≤ PREFIX) ×
-        (deletion .«position_count» ≤ PREFIX) × (deletion .longest ≡ longest (patternsOf set lengths count)) ×
-        (deletion .longest ≤ DIGITS) × HasVectors (now gaps) (deletion .«gap_count») ×
+        (deletion .«position_count» ≤ PREFIX) × (deletion .m ≤ DIGITS) × HasVectors (now gaps) (deletion .«gap_count») ×
         Given set lengths count (take (deletion .length) (deletion .prefix))
         (take (deletion .«position_count») (deletion .positions)) ⌝ }
-    ensures { λ r. ⌜ EntryAnswer (patternsOf set lengths count) (take (deletion .length) (deletion .prefix))
+    ensures { λ r. ⌜ EntryAnswer (deletion .m) (patternsOf set lengths count) (take (deletion .length) (deletion .prefix))
         (gapsOf (now (gaps .entry)) (deletion .length + 1) (deletion .«gap_count»))
         (take (deletion .«position_count») (deletion .positions)) r ⌝ }
 {
@@ -279,7 +278,7 @@ pub fn irreversible(
         gone: gone,
         gap_count: deletion.gap_count,
     };
-    let m = deletion.longest;
+    let m = deletion.m;
     let mut t: usize = 0;
     while t + 1 <= m {
         let of = OfTotal {

@@ -1,11 +1,18 @@
 -- The basis of a set of patterns: document 001 calls a set a basis when no member contains
 -- another. Definitions only.
 use Prim.Native.Nat.{ℕ}
-use mathlib.Core.Bool.{Bool, not, _||_}
-use mathlib.Core.List.{List}
+use mathlib.Core.Bool.{Bool, true, false, not, _&&_, _||_}
+use mathlib.Core.List.{List, [], _∷_}
+use lib.Dec.{eqb}
 use Rattle.word.specs.Lists.{all, keep}
 use Rattle.word.specs.Word.{contains}
-use Rattle.cell.specs.Cell.{same}
+
+-- the two lists have the same numbers in the same places
+unfoldable pub same : List ℕ → List ℕ → Bool
+same [] [] = true
+same [] (y ∷ v) = false
+same (x ∷ u) [] = false
+same (x ∷ u) (y ∷ v) = eqb x y && same u v
 
 -- β contains no other pattern of P
 unfoldable pub basic : List (List ℕ) → List ℕ → Bool

@@ -9,14 +9,14 @@ use native.Mathlib.Omega.{arith}
 use lib.ListN.{length, take}
 use Rattle.word.specs.Lists.{all, keep}
 use Rattle.word.specs.Word.{iso, contains, avoids, longest, reduce, within, isPerm, perms}
-use Rattle.word.specs.ListLaws.{true-not-false, not-out, same-test, all-out, all-fails, keep-out, keep-in}
+use Rattle.word.specs.ListLaws.{true-not-false, not-out, same-test, all-out, all-in, all-fails, keep-out, keep-in}
 use Rattle.word.specs.IsoLaws.{iso-length}
 use Rattle.word.specs.ContainsLaws.{contains-out, contains-self, contains-trans, avoids-fails, avoids-none}
 use Rattle.word.specs.ContainsLaws.{avoids-by, avoids-not, longest-at-least}
 use Rattle.word.specs.PermLaws.{perm-distinct, reduce-perm}
-use Rattle.cell.specs.Cell.{same, spacing, inCell, cell, total, deleted, merged}
-use Rattle.cell.specs.Claim.{GapClaim, DeletionClaim, SizesAgree}
-use Rattle.cell.specs.Basis.{basic, basis}
+use Rattle.cell.specs.Basis.{same, basic, basis}
+use Rattle.cell.specs.Cell.{spacing, inCell, cell, total, deleted, merged, mOf}
+use Rattle.cell.specs.Claim.{GapClaim, DeletionClaim, SizesAgreeTo, SizesAgree}
 use Rattle.cell.specs.SublistLaws.{sublist-length, sublist-whole}
 use Rattle.cell.specs.BuiltCells.{same-in, same-out}
 use Rattle.cell.specs.FiniteTest.{Agrees, clean-basis}
@@ -84,6 +84,35 @@ longest-at-most (β ∷ P) n h =
 pub longest-basis : (P : List (List ℕ)) → longest (basis P) ≤ longest P
 longest-basis P = longest-at-most (basis P) (longest P) (λ β m. longest-at-least P (basis-in P m))
 
+keep-all : (f : List ℕ → Bool) (l : List (List ℕ)) → ((x : List ℕ) → List·Memᴰ x l → f x ≡ true) → keep f l ≡ l
+keep-all f [] h = refl
+keep-all f (x ∷ l) h = rw (h x (List·Memᴰ·head refl), keep-all f l (λ y m. h y (List·Memᴰ·tail m))) refl
+
+-- The basis is its own basis.
+pub basis-again : (P : List (List ℕ)) → basis (basis P) ≡ basis P
+unfolding basis basic
+basis-again P = keep-all (basic (basis P)) (basis P) (λ β m. all-in (λ α. same α β || not (contains α β)) (basis P)
+    (λ α n. all-out (λ α. same α β || not (contains α β)) (basis-in P n) (basis-basic P m)))
+
+-- m is at least the length of the longest pattern of the basis, and at most that of the longest
+-- pattern, which was the m of document 01 before order 3; it is that of the basis, and the old one
+-- where the set is a basis.
+pub m-reaches : (P : List (List ℕ)) → longest (basis P) ≤ mOf P
+unfolding mOf
+m-reaches P = omega arith
+
+pub m-at-most : (P : List (List ℕ)) → mOf P ≤ longest P
+unfolding mOf
+m-at-most P = longest-basis P
+
+pub m-of-basis : (P : List (List ℕ)) → mOf P ≡ mOf (basis P)
+unfolding mOf
+m-of-basis P = ap longest (sym (basis-again P))
+
+pub m-of-whole : (P : List (List ℕ)) → basis P ≡ P → mOf P ≡ longest P
+unfolding mOf
+m-of-whole P e = ap longest e
+
 module _ (P : List (List ℕ)) (each-perm : (β : List ℕ) → List·Memᴰ β P → isPerm β ≡ true) where
   -- a pattern that is not basic contains a shorter one
   shorter : (β : List ℕ) → List·Memᴰ β P → basic P β ≡ false → (α : List ℕ) × List·Memᴰ α P × (length α < length β) × (contains α β ≡ true)
@@ -145,12 +174,27 @@ module _ (P : List (List ℕ)) (each-perm : (β : List ℕ) → List·Memᴰ β 
     λ h g l f. rw (basis-cell p g, basis-cell (deleted R p) (merged R p g)) (h g l f),
   )
 
-  -- so the sizes agree up to the longest pattern of the set exactly if they agree up to that of the
-  -- basis: the same verdict
-  pub basis-sizes : (p : List ℕ) (B : List (List ℕ)) (R : List ℕ) → isPerm p ≡ true → all (within (length p)) R ≡ true →
-      SizesAgree P p B R ↔ SizesAgree (basis P) p B R
-  basis-sizes p B R perm inside =
+  -- Finite test: the sizes agree at all spacings compared under m exactly if the deletion claim
+  -- holds at every length, for every m that is at least the length of the longest pattern of the
+  -- basis.
+  pub finite-basis : (m : ℕ) → longest (basis P) ≤ m → (p R : List ℕ) → isPerm p ≡ true → all (within (length p)) R ≡ true →
+      (B : List (List ℕ)) → SizesAgreeTo m P p B R ↔ DeletionClaim P p B R
+  finite-basis m reach p R perm inside B =
       let (forth, back) = basis-deletion p B R in
-      let (up, down) = finite-law P p R perm inside B in
-      let (rise, fall) = finite-law (basis P) p R perm inside B in
-      (λ h. fall (forth (up h)), λ h. down (back (rise h)))
+      let (up, down) = finite-law (basis P) p R perm inside B m reach in (
+        λ h. back (up (λ g d. rw (← basis-cell p g, ← basis-cell (deleted R p) (merged R p g)) (h g d))),
+        λ h g d. rw (basis-cell p g, basis-cell (deleted R p) (merged R p g)) (down (forth h) g d),
+      )
+
+  -- The finite test with the m of the definition.
+  pub finite-compared : (p R : List ℕ) → isPerm p ≡ true → all (within (length p)) R ≡ true → (B : List (List ℕ)) →
+      SizesAgree P p B R ↔ DeletionClaim P p B R
+  finite-compared p R perm inside B = finite-basis (mOf P) (m-reaches P) p R perm inside B
+
+  -- Two such m judge a deletion alike.
+  pub sizes-alike : (m n : ℕ) → longest (basis P) ≤ m → longest (basis P) ≤ n → (p R : List ℕ) → isPerm p ≡ true →
+      all (within (length p)) R ≡ true → (B : List (List ℕ)) → SizesAgreeTo m P p B R ↔ SizesAgreeTo n P p B R
+  sizes-alike m n reach further p R perm inside B =
+      let (up, down) = finite-basis m reach p R perm inside B in
+      let (rise, fall) = finite-basis n further p R perm inside B in
+      (λ h. fall (up h), λ h. down (rise h))

@@ -8,7 +8,7 @@ use mathlib.Core.List.{List, [], _∷_, _++_, map}
 use lib.ListN.{length, length-append, length-map}
 use Rattle.word.specs.Lists.{keep, each, row}
 use Rattle.cell.specs.Binomial.{binomial}
-use Rattle.cell.specs.Cell.{free, mOf, vectors, compared}
+use Rattle.cell.specs.Cell.{free, mOf, vectors, comparedTo, compared}
 
 pub binomial-above : (n k : ℕ) → n < k → binomial n k ≡ 0
 unfolding binomial
@@ -100,7 +100,10 @@ module _ {A : Type 0} where
       step true h = omega arith
       step false h = omega arith
 
--- "For an entry of length k it is at most the binomial C(m + k, k + 1)" (01)
+-- "For an entry of length k it is at most the binomial C(m + k, k + 1)" (01): for every m
+pub compared-to-most : (m k : ℕ) (B : List (List ℕ)) → length (comparedTo m k B) ≤ binomial (m + k) (suc k)
+unfolding comparedTo
+compared-to-most m k B = rw (← vectors-below k m) (keep-shorter (free B) (each (vectors (suc k)) (row 0 m)))
+
 pub compared-at-most : (P : List (List ℕ)) (k : ℕ) (B : List (List ℕ)) → length (compared P k B) ≤ binomial (mOf P + k) (suc k)
-unfolding compared
-compared-at-most P k B = rw (← vectors-below k (mOf P)) (keep-shorter (free B) (each (vectors (suc k)) (row 0 (mOf P))))
+compared-at-most P k B = compared-to-most (mOf P) k B

@@ -19,7 +19,8 @@ use Rattle.word.specs.FirstLaws.{before-asym}
 use Rattle.word.specs.Vocabulary.{factorial}
 use Rattle.word.specs.PermLaws.{perms-are, perms-all, perm-reduce, length-perms}
 use Rattle.word.specs.AscendLaws.{ascends, ascends-map, ascends-keep, perms-ascend}
-use Rattle.cell.specs.Cell.{same, total, spacing, inCell, cell}
+use Rattle.cell.specs.Basis.{same}
+use Rattle.cell.specs.Cell.{total, spacing, inCell, cell}
 use Rattle.cell.specs.Built.{built}
 use Rattle.cell.specs.SpacingLaws.{length-spacing}
 use Rattle.cell.specs.BuiltWords.{perm-parts, built-length, built-perm, built-prefix, built-reduces, built-spacing}

@@ -9,7 +9,7 @@ use lib.Dec.{ltb, eqb}
 use Rattle.word.specs.Lists.{any, keep, first}
 use Rattle.word.specs.Word.{avoids, under, reduce, has, entry, before}
 use Rattle.word.specs.Vocabulary.{fits}
-use Rattle.cell.specs.Cell.{total, without, compared}
+use Rattle.cell.specs.Cell.{total, without, comparedTo}
 use Rattle.cell.specs.Built.{level, built}
 
 -- The head entries `hs` can be placed, in their order, at entries of `ps`: b of the head stands
@@ -47,15 +47,15 @@ unfoldable pub violated : List (List ℕ) → List ℕ → List ℕ → List ℕ
 unfolding violates
 violated P p R g = any (violates P p R g) P
 
--- some compared spacing has a violation
-unfoldable pub irreversible : List (List ℕ) → List ℕ → List (List ℕ) → List ℕ → Bool
-unfolding violated compared
-irreversible P p B R = any (violated P p R) (compared P (length p) B)
+-- some spacing that is compared under m has a violation
+unfoldable pub irreversible : ℕ → List (List ℕ) → List ℕ → List (List ℕ) → List ℕ → Bool
+unfolding violated comparedTo
+irreversible m P p B R = any (violated P p R) (comparedTo m (length p) B)
 
--- the first compared spacing with a violation
-unfoldable pub violatedFirst : List (List ℕ) → List ℕ → List (List ℕ) → List ℕ → Option (List ℕ)
-unfolding violated compared
-violatedFirst P p B R = first (violated P p R) (compared P (length p) B)
+-- the first spacing that is compared under m and has a violation
+unfoldable pub violatedFirst : ℕ → List (List ℕ) → List ℕ → List (List ℕ) → List ℕ → Option (List ℕ)
+unfolding violated comparedTo
+violatedFirst m P p B R = first (violated P p R) (comparedTo m (length p) B)
 
 -- the rest that the pattern's last t entries make
 abbrev pub restOf : List ℕ → ℕ → List ℕ
@@ -83,6 +83,6 @@ leastAt P p R none = none
 leastAt P p R (some g) = leastOf none (lostWords P p R g)
 
 -- what the candidate search shows of a deletion: the least word at the first violated spacing
-unfoldable pub leastCandidate : List (List ℕ) → List ℕ → List (List ℕ) → List ℕ → Option (List ℕ)
+unfoldable pub leastCandidate : ℕ → List (List ℕ) → List ℕ → List (List ℕ) → List ℕ → Option (List ℕ)
 unfolding leastAt violatedFirst
-leastCandidate P p B R = leastAt P p R (violatedFirst P p B R)
+leastCandidate m P p B R = leastAt P p R (violatedFirst m P p B R)

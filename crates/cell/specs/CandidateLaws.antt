@@ -1,6 +1,6 @@
 -- The candidates decide the deletion claim: no compared spacing has a violation exactly if the
 -- claim holds.
-use Prim.Native.Nat.{ℕ, suc, _+_, _<_}
+use Prim.Native.Nat.{ℕ, suc, _+_, _≤_, _<_}
 use native.Mathlib.Nat.{zero-add, suc-add, add-suc, add-zero}
 use native.Mathlib.Omega.{arith}
 use mathlib.Core.Path.{_≡_, refl, sym, ap, _∙_}
@@ -12,11 +12,11 @@ use lib.ListN.{length, getD}
 use lib.Dec.{ltb}
 use borrow.Author.Tests.{ltb-true, lt-ltb}
 use Rattle.word.specs.Lists.{all, any}
-use Rattle.word.specs.Word.{iso, avoids, under, reduce, has, distinct, within, isPerm, entry}
+use Rattle.word.specs.Word.{iso, avoids, longest, under, reduce, has, distinct, within, isPerm, entry}
 use Rattle.word.specs.ListLaws.{true-not-false, and-left, and-right, and-in, fails-with, any-out, any-in}
 use Rattle.word.specs.ContainsLaws.{contains-in, avoids-not}
 use Rattle.word.specs.PermLaws.{has-out, has-in, perm-reduce, length-reduce}
-use Rattle.cell.specs.Cell.{total, without, mOf, compared}
+use Rattle.cell.specs.Cell.{total, without, comparedTo}
 use Rattle.cell.specs.Claim.{DeletionClaim}
 use Rattle.cell.specs.Built.{level, built}
 use Rattle.cell.specs.Candidate.{place, hit, violates, violated, restOf, irreversible}
@@ -149,15 +149,16 @@ module _ (P : List (List ℕ)) (p R : List ℕ) (perm : isPerm p ≡ true) (apar
           let (s, l, a, n) = violates-out β m e in absurd (true-not-false (sym (agree (restOf β (total g)) s l a) ∙ n))
       go β m false e = refl
 
--- The candidates find no violation at the compared spacings exactly if the deletion claim holds at
--- every length.
-pub irreversible-law : (P : List (List ℕ)) (p R : List ℕ) → isPerm p ≡ true → all (within (length p)) R ≡ true →
-    ((β : List ℕ) → List·Memᴰ β P → distinct β ≡ true) → (B : List (List ℕ)) → (irreversible P p B R ≡ false) ↔ DeletionClaim P p B R
-unfolding irreversible mOf
-irreversible-law P p R perm inside apart B = (
+-- The candidates find no violation at the spacings compared under m exactly if the deletion claim
+-- holds at every length, for every m that is at least the length of the longest pattern.
+pub irreversible-law : (m : ℕ) (P : List (List ℕ)) → longest P ≤ m → (p R : List ℕ) → isPerm p ≡ true →
+    all (within (length p)) R ≡ true → ((β : List ℕ) → List·Memᴰ β P → distinct β ≡ true) → (B : List (List ℕ)) →
+    (irreversible m P p B R ≡ false) ↔ DeletionClaim P p B R
+unfolding irreversible
+irreversible-law m P reach p R perm inside apart B = (
   λ h. claim-of-clean P p R perm inside B
-      (λ g size f t. clean-of-candidates P p R perm apart g size (any-fails (violated P p R) h (compared-all P (length p) B g size t f))),
-  λ claim. none-any (violated P p R) (compared P (length p) B)
-      (λ g m. let (size, t, f) = compared-are P (length p) B m in
+      (λ g size f t. clean-of-candidates P p R perm apart g size (any-fails (violated P p R) h (compared-all m (length p) B g size (omega arith) f))),
+  λ claim. none-any (violated P p R) (comparedTo m (length p) B)
+      (λ g d. let (size, t, f) = compared-are m (length p) B d in
       candidates-of-agrees P p R perm apart g size (agrees-of-claim P p R perm inside B claim g size f)),
 )

@@ -3,16 +3,10 @@ use Prim.Native.Nat.{ℕ, zero, suc, _+_, _-_}
 use mathlib.Core.Bool.{Bool, true, false, not, _&&_, cond}
 use mathlib.Core.List.{List, [], _∷_, map}
 use lib.ListN.{length, take}
-use lib.Dec.{leb, eqb}
+use lib.Dec.{leb}
 use Rattle.word.specs.Lists.{all, keep, each, row, oneTo}
 use Rattle.word.specs.Word.{avoids, longest, reduce, has, entry, perms}
-
--- the two lists have the same numbers in the same places
-unfoldable pub same : List ℕ → List ℕ → Bool
-same [] [] = true
-same [] (y ∷ v) = false
-same (x ∷ u) [] = false
-same (x ∷ u) (y ∷ v) = eqb x y && same u v
+use Rattle.cell.specs.Basis.{same, basis}
 
 unfoldable pub total : List ℕ → ℕ
 total [] = 0
@@ -94,10 +88,11 @@ unfoldable pub free : List (List ℕ) → List ℕ → Bool
 unfolding atLeast
 free B g = all (λ b. not (atLeast g b)) B
 
--- "Let m be the length of the longest pattern, 0 for no patterns" (01)
+-- "From now on m is the longest of the patterns that contain no other pattern of the set" (02, order
+-- 3): its length, "0 for no patterns" (01)
 unfoldable pub mOf : List (List ℕ) → ℕ
-unfolding longest
-mOf P = longest P
+unfolding longest basis
+mOf P = longest (basis P)
 
 -- the vectors with k components and total t, in lexicographic order
 unfoldable pub vectors : ℕ → ℕ → List (List ℕ)
@@ -107,6 +102,9 @@ vectors (suc k) t = each (λ x. map (λ g. x ∷ g) (vectors k (t - x))) (row 0 
 
 -- "the spacings that are at least no listed vector and have total at most m − 1" (01), for a prefix
 -- of length k: by rising total, lexicographic within a total
-unfoldable pub compared : List (List ℕ) → ℕ → List (List ℕ) → List (List ℕ)
-unfolding mOf vectors free
-compared P k B = keep (free B) (each (vectors (suc k)) (row 0 (mOf P)))
+unfoldable pub comparedTo : ℕ → ℕ → List (List ℕ) → List (List ℕ)
+unfolding vectors free
+comparedTo m k B = keep (free B) (each (vectors (suc k)) (row 0 m))
+
+abbrev pub compared : List (List ℕ) → ℕ → List (List ℕ) → List (List ℕ)
+compared P k B = comparedTo (mOf P) k B

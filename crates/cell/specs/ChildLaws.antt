@@ -15,7 +15,8 @@ use Rattle.word.specs.Word.{avoids, under, reduce, has, distinct, within, isPer
 use Rattle.word.specs.ListLaws.{same-test, below-or-not, keep-out, keep-in, map-same, row-out}
 use Rattle.word.specs.BumpLaws.{Bumped, stays, moves, bumped, bump-below, bump-above}
 use Rattle.word.specs.PermLaws.{perm-cons, perm-uncons, perms-are, perms-all, under-bump-below, under-bump-above, reduce-perm}
-use Rattle.cell.specs.Cell.{same, total, cell, children}
+use Rattle.cell.specs.Basis.{same}
+use Rattle.cell.specs.Cell.{total, cell, children}
 use Rattle.cell.specs.Child.{slot, childAt, split}
 use Rattle.cell.specs.BuiltLaws.{lift-rises}
 use Rattle.cell.specs.Built.{val, lift, built}

@@ -5,7 +5,7 @@ use mathlib.Core.Path.{_≡_}
 use mathlib.Core.Bool.{true}
 use mathlib.Core.List.{List, [], List·Memᴰ}
 use lib.ListN.{length}
-use Rattle.cell.specs.Cell.{cell, deleted, merged, atLeast, free, compared}
+use Rattle.cell.specs.Cell.{cell, deleted, merged, atLeast, free, mOf, comparedTo}
 
 -- "A gap vector b claims that (p; g) is empty for every g at least b in each component" (01)
 abbrev pub GapClaim : List (List ℕ) → List ℕ → List ℕ → Type 0
@@ -25,8 +25,11 @@ DeletionClaim P p B R =
     (g : List ℕ) → length g ≡ suc (length p) → free B g ≡ true →
     Carries (deleted R) (cell P p g) (cell P (deleted R p) (merged R p g))
 
--- "a deletion is judged by comparing sizes" (01)
-abbrev pub SizesAgree : List (List ℕ) → List ℕ → List (List ℕ) → List ℕ → Type 0
-SizesAgree P p B R =
-    (g : List ℕ) → List·Memᴰ g (compared P (length p) B) →
+-- "a deletion is judged by comparing sizes" (01), at the spacings of totals below m
+abbrev pub SizesAgreeTo : ℕ → List (List ℕ) → List ℕ → List (List ℕ) → List ℕ → Type 0
+SizesAgreeTo m P p B R =
+    (g : List ℕ) → List·Memᴰ g (comparedTo m (length p) B) →
     length (cell P p g) ≡ length (cell P (deleted R p) (merged R p g))
+
+abbrev pub SizesAgree : List (List ℕ) → List ℕ → List (List ℕ) → List ℕ → Type 0
+SizesAgree P p B R = SizesAgreeTo (mOf P) P p B R

@@ -1,11 +1,11 @@
 -- The definitions of the crate cell, and then its laws.
+pub mod Basis
 pub mod Cell
 pub mod Claim
 pub mod Binomial
 pub mod Built
 pub mod BuiltLaws
 pub mod Candidate
-pub mod Basis
 pub mod SpacingWalk
 pub mod SublistLaws
 pub mod RisingLaws

@@ -1,6 +1,7 @@
 -- What document 01 says of spacings, children and compared spacings beside their definitions: the
 -- total of a spacing, the number of children, and that each compared spacing is listed once.
 use Prim.Native.Nat.{ℕ, zero, suc, _+_, _-_, _≤_, _<_}
+use native.Mathlib.Nat.{zero-add, suc-add, add-zero}
 use native.Mathlib.Omega.{arith}
 use mathlib.Core.Path.{_≡_, refl, sym, ap, ap₂, _∙_, fun-ext}
 use mathlib.Core.Logic.{_⊎_, inl, inr}
@@ -10,20 +11,21 @@ use mathlib.Core.List.{List·Memᴰ·cases-cons, Memᴰ·map, Memᴰ·of-map}
 use mathlib.Core.List.{List·Memᴰ·eq-of-singleton, Memᴰ·append-left}
 use lib.ListN.{length, getD, take, drop, length-map, take-append-drop}
 use lib.Seq.{length-take-le}
-use Rattle.word.specs.Lists.{each, row}
+use Rattle.word.specs.Lists.{keep, each, row}
 use Rattle.word.specs.Word.{reduce, isPerm, bump, perms, before}
-use Rattle.word.specs.ListLaws.{below-or-not, map-same, each-out, row-out}
+use Rattle.word.specs.ListLaws.{below-or-not, map-same, each-out, each-append, row-out}
 use Rattle.word.specs.CopyLaws.{before-cons}
 use Rattle.word.specs.BumpLaws.{Bumped, stays, moves, bumped}
 use Rattle.word.specs.PermLaws.{has-out, perm-bounds, perm-has}
 use Rattle.word.specs.AscendLaws.{ascends, before-first, ascends-map, ascends-append, ascends-keep, ascends-once, perms-ascend}
-use Rattle.cell.specs.Cell.{same, total, sort, between, spacing, children, free, mOf, vectors, compared}
+use Rattle.cell.specs.Basis.{same}
+use Rattle.cell.specs.Cell.{total, sort, between, spacing, children, free, vectors, comparedTo}
 use Rattle.cell.specs.Child.{childAt}
 use Rattle.cell.specs.SpacingWalk.{vectors-are}
 use Rattle.cell.specs.SpacingLaws.{Up, length-sort, sort-out, sort-up, length-spacing}
 use Rattle.cell.specs.BuiltWords.{perm-parts}
 use Rattle.cell.specs.BuiltCells.{ascends-same}
-use Rattle.cell.specs.EachLaws.{keep-map, map-each}
+use Rattle.cell.specs.EachLaws.{keep-map, keep-append, map-each}
 use Rattle.cell.specs.ChildLaws.{children-are, children-all}
 
 -- "A spacing vector for a prefix p of length k has k + 1 numbers" and "Its total is n − k" (01)
@@ -173,15 +175,15 @@ vectors-ascend (suc k) t = heads-ascend (λ x. vectors k (t - x)) 0 (suc t) (λ 
 abbrev pub totalled : List ℕ → List ℕ
 totalled g = total g ∷ g
 
-pub compared-ascend : (P : List (List ℕ)) (k : ℕ) (B : List (List ℕ)) → ascends (map totalled (compared P k B)) ≡ true
-unfolding compared
-compared-ascend P k B =
-    let all = each (vectors (suc k)) (row 0 (mOf P)) in
+pub compared-ascend : (m k : ℕ) (B : List (List ℕ)) → ascends (map totalled (comparedTo m k B)) ≡ true
+unfolding comparedTo
+compared-ascend m k B =
+    let all = each (vectors (suc k)) (row 0 m) in
     ap ascends (sym (keep-map (λ g. free B (drop 1 g)) totalled all)) ∙
     ascends-keep (λ g. free B (drop 1 g)) (map totalled all)
-    (ap ascends (map-each totalled (vectors (suc k)) (row 0 (mOf P)) ∙
-    ap (λ (f : ℕ → List (List ℕ)). each f (row 0 (mOf P))) (fun-ext (λ (t : ℕ). by-total t))) ∙
-    heads-ascend (vectors (suc k)) 0 (mOf P) (vectors-ascend (suc k)))
+    (ap ascends (map-each totalled (vectors (suc k)) (row 0 m) ∙
+    ap (λ (f : ℕ → List (List ℕ)). each f (row 0 m)) (fun-ext (λ (t : ℕ). by-total t))) ∙
+    heads-ascend (vectors (suc k)) 0 m (vectors-ascend (suc k)))
   where
     by-total : (t : ℕ) → map totalled (vectors (suc k) t) ≡ map (λ g. t ∷ g) (vectors (suc k) t)
     by-total t = map-same totalled (λ g. t ∷ g) (vectors (suc k) t) (λ g m. ap (λ n. n ∷ g) (vectors-are (suc k) t m .1))
@@ -191,10 +193,27 @@ getD-map f [] i h = absurd (omega arith)
 getD-map f (u ∷ l) zero h = refl
 getD-map f (u ∷ l) (suc i) h = getD-map f l i (omega arith)
 
-pub compared-once : (P : List (List ℕ)) (k : ℕ) (B : List (List ℕ)) (i j : ℕ) → i < j → j < length (compared P k B) →
-    getD (compared P k B) i [] ≡ getD (compared P k B) j [] → ⊥
-compared-once P k B i j h l q =
-    let c = compared P k B in
+pub compared-once : (m k : ℕ) (B : List (List ℕ)) (i j : ℕ) → i < j → j < length (comparedTo m k B) →
+    getD (comparedTo m k B) i [] ≡ getD (comparedTo m k B) j [] → ⊥
+compared-once m k B i j h l q =
+    let c = comparedTo m k B in
     let many = length-map c totalled in
-    ascends-once (map totalled c) i j (compared-ascend P k B) h (omega arith)
+    ascends-once (map totalled c) i j (compared-ascend m k B) h (omega arith)
     (getD-map totalled c i (omega arith) ∙ ap totalled q ∙ sym (getD-map totalled c j l))
+
+-- The spacings compared under a smaller m are the first of those under a larger.
+row-append : (a m n : ℕ) → row a (m + n) ≡ row a m ++ row (a + m) n
+row-append a zero n = rw (add-zero a, zero-add n) refl
+row-append a (suc m) n = rw (suc-add m n) (ap (λ (l : List ℕ). a ∷ l)
+    (row-append (suc a) m n ∙ ap (λ (b : ℕ). row (suc a) m ++ row b n) (omega arith)))
+
+pub compared-more : (m n k : ℕ) (B : List (List ℕ)) → m ≤ n → (l : List (List ℕ)) × (comparedTo n k B ≡ comparedTo m k B ++ l)
+unfolding comparedTo
+compared-more m n k B h =
+    let e : n ≡ m + (n - m) = omega arith in (
+      keep (free B) (each (vectors (suc k)) (row (0 + m) (n - m))),
+      ap (λ (t : ℕ). keep (free B) (each (vectors (suc k)) (row 0 t))) e ∙
+          ap (λ (r : List ℕ). keep (free B) (each (vectors (suc k)) r)) (row-append 0 m (n - m)) ∙
+          ap (keep (free B)) (each-append (vectors (suc k)) (row 0 m) (row (0 + m) (n - m))) ∙
+          keep-append (free B) (each (vectors (suc k)) (row 0 m)) (each (vectors (suc k)) (row (0 + m) (n - m))),
+    )

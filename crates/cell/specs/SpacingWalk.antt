@@ -14,7 +14,7 @@ use borrow.Author.Tests.{leb-true, le-leb}
 use Rattle.word.specs.Lists.{keep, each, row}
 use Rattle.word.specs.ListLaws.{true-not-false, and-left, and-right, and-in, not-in, not-out, all-out, all-in}
 use Rattle.word.specs.ListLaws.{keep-out, keep-in, each-out, each-in, row-out, row-in}
-use Rattle.cell.specs.Cell.{total, atLeast, free, mOf, vectors, compared}
+use Rattle.cell.specs.Cell.{total, atLeast, free, vectors, comparedTo}
 
 -- The order in each component
 
@@ -77,21 +77,21 @@ vectors-all (x ∷ g) =
     each-in (λ y. map (λ g. y ∷ g) (vectors (length g) ((x + total g) - y))) (row-in 0 (suc (x + total g)) x (omega arith) (omega arith))
     (Memᴰ·map (λ g. x ∷ g) (subst (λ (t : ℕ). List·Memᴰ g (vectors (length g) t)) e (vectors-all g)))
 
-pub compared-are : (P : List (List ℕ)) (k : ℕ) (B : List (List ℕ)) {g : List ℕ} → List·Memᴰ g (compared P k B) →
-    (length g ≡ suc k) × (total g < mOf P) × (free B g ≡ true)
-unfolding compared
-compared-are P k B m =
-    let (n, f) = keep-out (free B) (each (vectors (suc k)) (row 0 (mOf P))) m in
-    let (t, i, j) = each-out (vectors (suc k)) (row 0 (mOf P)) n in
-    let (low, high) = row-out 0 (mOf P) i in
+pub compared-are : (m k : ℕ) (B : List (List ℕ)) {g : List ℕ} → List·Memᴰ g (comparedTo m k B) →
+    (length g ≡ suc k) × (total g < m) × (free B g ≡ true)
+unfolding comparedTo
+compared-are m k B d =
+    let (n, f) = keep-out (free B) (each (vectors (suc k)) (row 0 m)) d in
+    let (t, i, j) = each-out (vectors (suc k)) (row 0 m) n in
+    let (low, high) = row-out 0 m i in
     let (l, s) = vectors-are (suc k) t j in
     (l, omega arith, f)
 
-pub compared-all : (P : List (List ℕ)) (k : ℕ) (B : List (List ℕ)) (g : List ℕ) → length g ≡ suc k → total g < mOf P → free B g ≡ true →
-    List·Memᴰ g (compared P k B)
-unfolding compared
-compared-all P k B g l h f =
-    keep-in (free B) (each-in (vectors (suc k)) (row-in 0 (mOf P) (total g) (omega arith) (omega arith))
+pub compared-all : (m k : ℕ) (B : List (List ℕ)) (g : List ℕ) → length g ≡ suc k → total g < m → free B g ≡ true →
+    List·Memᴰ g (comparedTo m k B)
+unfolding comparedTo
+compared-all m k B g l h f =
+    keep-in (free B) (each-in (vectors (suc k)) (row-in 0 m (total g) (omega arith) (omega arith))
     (subst (λ (n : ℕ). List·Memᴰ g (vectors n (total g))) l (vectors-all g))) f
 
 -- Tests, the first implying the second, keep equally many elements exactly if they agree on every

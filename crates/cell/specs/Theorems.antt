@@ -1,5 +1,5 @@
 -- The theorems on cells: the gap law, the finite test, removal, and the least violation.
-use Prim.Native.Nat.{ℕ, suc, _<_}
+use Prim.Native.Nat.{ℕ, suc, _≤_, _<_}
 use mathlib.Core.Path.{_≡_, refl, sym, ap, _∙_}
 use mathlib.Core.Bool.{Bool, true, false}
 use mathlib.Core.List.{List, [], _∷_, List·Memᴰ, List·Memᴰ·head, List·Memᴰ·not-nil}
@@ -10,8 +10,8 @@ use Rattle.word.specs.Lists.{all, keep}
 use Rattle.word.specs.Word.{avoids, longest, within, isPerm, perms}
 use Rattle.word.specs.ListLaws.{same-test, same-or-not}
 use Rattle.word.specs.PermLaws.{perm-bounds, perms-are, perms-all}
-use Rattle.cell.specs.Cell.{cell, without, deleted, merged, atLeast, free, mOf, total}
-use Rattle.cell.specs.Claim.{GapClaim, Carries, DeletionClaim, SizesAgree}
+use Rattle.cell.specs.Cell.{cell, without, deleted, merged, atLeast, free, total}
+use Rattle.cell.specs.Claim.{GapClaim, Carries, DeletionClaim, SizesAgreeTo}
 use Rattle.cell.specs.Built.{built}
 use Rattle.cell.specs.SpacingWalk.{atLeast-refl, atLeast-length, free-down, compared-are, compared-all, keep-sizes, keep-same}
 use Rattle.cell.specs.BuiltWords.{built-perm, built-injective}
@@ -196,11 +196,11 @@ module _ (P : List (List ℕ)) (p R : List ℕ) (perm : isPerm p ≡ true) (insi
     pub agrees-of-claim : DeletionClaim P p B R → (g : List ℕ) → length g ≡ suc (length p) → free B g ≡ true → Agrees P p (without R p) g
     agrees-of-claim claim g size f = agrees-of-carries g size (claim g size f)
 
-    -- Finite test: the sizes agree at all compared spacings exactly if the deletion claim holds at
-    -- every length.
-    pub finite-law : SizesAgree P p B R ↔ DeletionClaim P p B R
-    unfolding mOf
-    finite-law = (
-      λ sizes. claim-of-agrees (λ g size f t. agrees-of-sizes g size (sizes g (compared-all P (length p) B g size t f))),
-      λ claim g m. let (size, t, f) = compared-are P (length p) B m in sizes-of-agrees g size (agrees-of-claim claim g size f),
+    -- Finite test: the sizes agree at all spacings compared under m exactly if the deletion claim
+    -- holds at every length, for every m that is at least the length of the longest pattern.
+    -- (BasisLaws.finite-basis asks only that it is at least that of the basis.)
+    pub finite-law : (m : ℕ) → longest P ≤ m → SizesAgreeTo m P p B R ↔ DeletionClaim P p B R
+    finite-law m reach = (
+      λ sizes. claim-of-agrees (λ g size f t. agrees-of-sizes g size (sizes g (compared-all m (length p) B g size (omega arith) f))),
+      λ claim g d. let (size, t, f) = compared-are m (length p) B d in sizes-of-agrees g size (agrees-of-claim claim g size f),
     )

@@ -5,19 +5,20 @@ use Prim.Native.Nat.{ℕ, suc, _+_, _≤_, _<_}
 use native.Mathlib.Omega.{arith}
 use mathlib.Core.Path.{_≡_, refl, sym, ap, ap₂, _∙_}
 use mathlib.Core.Bool.{true, false}
-use mathlib.Core.List.{List, [], _∷_}
+use mathlib.Core.List.{List, [], _∷_, List·Memᴰ}
 use mathlib.Core.Logic.{_↔_}
 use mathlib.Core.Option.{none}
 use lib.ListN.{length, take, set}
 use lib.Seq.{length-take-le}
 use Rattle.word.specs.Ceilings.{DIGITS, PATTERNS, PREFIX, PARTS}
-use Rattle.word.specs.Lists.{all, keep, each, row}
-use Rattle.word.specs.Word.{within, longest}
+use Rattle.word.specs.Lists.{all}
+use Rattle.word.specs.Word.{within, longest, isPerm}
 use Rattle.word.specs.ListLaws.{and-left}
 use Rattle.word.specs.PermLaws.{within-out}
-use Rattle.cell.specs.Cell.{total, free, vectors, mOf, compared}
+use Rattle.cell.specs.Cell.{total, comparedTo}
 use Rattle.cell.specs.Candidate.{violatedFirst, lostWords, leastOf, leastCandidate}
 use Rattle.cell.specs.Claim.{DeletionClaim}
+use Rattle.cell.specs.BasisLaws.{longest-basis}
 use Rattle.forms.specs.GapRows.{gapsOf}
 use Rattle.forms.specs.SetMemory.{patternAt}
 use Rattle.candidate.specs.Ready.{Given, FoundAt, EntryAnswer}
@@ -34,7 +35,7 @@ use Rattle.forms.specs.MemoryLaws.{length-padded}
 use Rattle.forms.specs.declared.memory.Entry.{Entry}
 use Rattle.forms.specs.declared.memory.Rule.{Rule}
 use Rattle.forms.specs.declared.memory.Rule.the-variants.{Expand, Delete}
-use Rattle.verdict.specs.Verdict.{differs, comparedWith}
+use Rattle.verdict.specs.Verdict.{differsUnder, comparedWithUnder}
 use Rattle.scheme.specs.FindingLaws.{same-failure}
 use Rattle.scheme.specs.Proper.{ProperEntry}
 use Rattle.scheme.specs.ProperLaws.{position-inside}
@@ -49,11 +50,12 @@ first-position [] r h = absurd (omega arith)
 first-position (x ∷ l) r h = refl
 
 -- an expanding entry
-pub expands-answer : (P : List (List ℕ)) (e : Entry) (w : LostWord) → e .rule ≡ Expand → w .found ≡ false → LostAnswer P (entryIn e) w
-unfolding differs ruleCandidate
-expands-answer P e w q f =
+pub expands-answer : (m : ℕ) (P : List (List ℕ)) (e : Entry) (w : LostWord) → e .rule ≡ Expand → w .found ≡ false →
+    LostAnswer m P (entryIn e) w
+unfolding differsUnder ruleCandidate
+expands-answer m P e w q f =
     record {
-      said = f ∙ sym (ap (λ (x : Rule). differs P ((entryIn e) .prefix) ((entryIn e) .gaps) (doesOf x)) q);
+      said = f ∙ sym (ap (λ (x : Rule). differsUnder m P ((entryIn e) .prefix) ((entryIn e) .gaps) (doesOf x)) q);
       shows = rw q f;
     }
 
@@ -88,87 +90,87 @@ module _ (e : Entry) (proper : ProperEntry (entryIn e)) (six : length (e .prefix
         inside = positions-inside;
       }
 
-  module _ (P : List (List ℕ)) (lost : Lost) (all : length (e .gaps) ≡ PARTS)
-      (a : EntryAnswer P (take (e .length) (e .prefix)) (gapsOf (e .gaps) (e .length + 1) (e .«gap_count»)) (r ∷ []) lost) where
+  module _ (m : ℕ) (P : List (List ℕ)) (lost : Lost) (all : length (e .gaps) ≡ PARTS)
+      (a : EntryAnswer m P (take (e .length) (e .prefix)) (gapsOf (e .gaps) (e .length + 1) (e .«gap_count»)) (r ∷ []) lost) where
     -- what the search answers is test 11 on the entry
-    answers : lost .found ≡ differs P ((entryIn e) .prefix) ((entryIn e) .gaps) ((entryIn e) .rule)
-    answers =
+    answers : longest P ≤ m → ((β : List ℕ) → List·Memᴰ β P → isPerm β ≡ true) →
+        lost .found ≡ differsUnder m P ((entryIn e) .prefix) ((entryIn e) .gaps) ((entryIn e) .rule)
+    answers reach perms =
+        let low = longest-basis P in
         let claimed : (lost .found ≡ false) ↔ DeletionClaim P ((entryIn e) .prefix) ((entryIn e) .gaps) (r ∷ []) =
-        rw (prefix-is e proper six, ← gaps-hold e proper all) (a .claimed) in
-        same-failure (lost .found) (differs P ((entryIn e) .prefix) ((entryIn e) .gaps) (deletes r)) claimed
-        (differs-law P ((entryIn e) .prefix) ((entryIn e) .gaps) (deletes r) (proper .perm) deletes-inside) ∙
-        ap (λ (x : Rule). differs P ((entryIn e) .prefix) ((entryIn e) .gaps) (doesOf x)) (sym rule)
+        rw (prefix-is e proper six, ← gaps-hold e proper all) (a .claimed reach) in
+        same-failure (lost .found) (differsUnder m P ((entryIn e) .prefix) ((entryIn e) .gaps) (deletes r)) claimed
+        (differs-law m P (omega arith) perms ((entryIn e) .prefix) ((entryIn e) .gaps) (deletes r) (proper .perm) deletes-inside) ∙
+        ap (λ (x : Rule). differsUnder m P ((entryIn e) .prefix) ((entryIn e) .gaps) (doesOf x)) (sym rule)
 
     size : length (take (e .length) (e .prefix)) ≡ e .length
     size = length-take-le (e .length) (e .prefix) (omega (arith, entry-short e proper))
 
-    at : FoundAt (e .length) (violatedFirst P (take (e .length) (e .prefix))
+    at : FoundAt (e .length) (violatedFirst m P (take (e .length) (e .prefix))
         (gapsOf (e .gaps) (e .length + 1) (e .«gap_count»)) (r ∷ [])) lost
     at = rw size at (a .located)
 
     -- what is shown of the entry
-    rule-is : ruleCandidate P ((entryIn e) .prefix) ((entryIn e) .gaps) ((entryIn e) .rule) ≡
-        leastCandidate P (take (e .length) (e .prefix)) (gapsOf (e .gaps) (e .length + 1) (e .«gap_count»)) (r ∷ [])
+    rule-is : ruleCandidate m P ((entryIn e) .prefix) ((entryIn e) .gaps) ((entryIn e) .rule) ≡
+        leastCandidate m P (take (e .length) (e .prefix)) (gapsOf (e .gaps) (e .length + 1) (e .«gap_count»)) (r ∷ [])
     unfolding ruleCandidate
     rule-is =
-        ap (λ (x : Rule). ruleCandidate P ((entryIn e) .prefix) ((entryIn e) .gaps) (doesOf x)) rule ∙
-        ap₂ (λ (u : List ℕ) (B : List (List ℕ)). leastCandidate P u B (r ∷ [])) (prefix-is e proper six) (sym (gaps-hold e proper all))
+        ap (λ (x : Rule). ruleCandidate m P ((entryIn e) .prefix) ((entryIn e) .gaps) (doesOf x)) rule ∙
+        ap₂ (λ (u : List ℕ) (B : List (List ℕ)). leastCandidate m P u B (r ∷ [])) (prefix-is e proper six) (sym (gaps-hold e proper all))
 
     -- the total of the spacing that was found
-    pub found-total : lost .found ≡ true → longest P ≤ DIGITS →
+    pub found-total : lost .found ≡ true → m ≤ DIGITS →
         (lost .total < DIGITS) × (total (take (e .length + 1) (lost .spacing)) ≡ lost .total)
-    found-total h m =
-        let (low, whole) = located-total P (take (e .length) (e .prefix)) (gapsOf (e .gaps) (e .length + 1) (e .«gap_count»))
+    found-total h most =
+        let (low, whole) = located-total m P (take (e .length) (e .prefix)) (gapsOf (e .gaps) (e .length + 1) (e .«gap_count»))
         (r ∷ []) (e .length) lost at h in
         (omega arith, whole)
 
-    pub answers-none : (w : LostWord) → lost .found ≡ false → w .found ≡ false → LostAnswer P (entryIn e) w
-    answers-none w h f =
+    pub answers-none : longest P ≤ m → ((β : List ℕ) → List·Memᴰ β P → isPerm β ≡ true) → (w : LostWord) →
+        lost .found ≡ false → w .found ≡ false → LostAnswer m P (entryIn e) w
+    answers-none reach perms w h f =
         record {
-          said = f ∙ sym h ∙ answers;
+          said = f ∙ sym h ∙ answers reach perms;
           shows =
-              rw (rule-is ∙ candidate-none P (take (e .length) (e .prefix))
+              rw (rule-is ∙ candidate-none m P (take (e .length) (e .prefix))
               (gapsOf (e .gaps) (e .length + 1) (e .«gap_count»)) (r ∷ []) (e .length) lost at h) f;
         }
 
-    pub answers-some : (w : LostWord) → lost .found ≡ true →
+    pub answers-some : longest P ≤ m → ((β : List ℕ) → List·Memᴰ β P → isPerm β ≡ true) → (w : LostWord) → lost .found ≡ true →
         ShowsWord (leastOf none (lostWords P (take (e .length) (e .prefix)) (r ∷ []) (take (e .length + 1) (lost .spacing)))) w →
-        LostAnswer P (entryIn e) w
-    answers-some w h s =
+        LostAnswer m P (entryIn e) w
+    answers-some reach perms w h s =
         record {
           said =
               shows-found (leastOf none (lostWords P (take (e .length) (e .prefix)) (r ∷ []) (take (e .length + 1) (lost .spacing)))) w s ∙
-              candidate-found P (take (e .length) (e .prefix)) (gapsOf (e .gaps) (e .length + 1) (e .«gap_count»))
+              candidate-found m P (take (e .length) (e .prefix)) (gapsOf (e .gaps) (e .length + 1) (e .«gap_count»))
               (r ∷ []) (e .length) lost at h ∙
-              sym h ∙ answers;
+              sym h ∙ answers reach perms;
           shows =
-              rw (rule-is ∙ candidate-some P (take (e .length) (e .prefix))
+              rw (rule-is ∙ candidate-some m P (take (e .length) (e .prefix))
               (gapsOf (e .gaps) (e .length + 1) (e .«gap_count»)) (r ∷ []) (e .length) lost at h) s;
         }
 
 -- the number of compared cells
 pub expands-compared : (m : ℕ) (e : Entry) → e .rule ≡ Expand → ComparedAnswer m (entryIn e) 0
-unfolding comparedWith
+unfolding comparedWithUnder
 expands-compared m e q =
     record {
-      compares = λ P h. ap (λ (x : Rule). comparedWith P ((entryIn e) .prefix) ((entryIn e) .gaps) (doesOf x)) (sym q);
+      compares = ap (λ (x : Rule). comparedWithUnder m ((entryIn e) .prefix) ((entryIn e) .gaps) (doesOf x)) (sym q);
       small = omega arith;
     }
 
 pub deletes-compared : (m : ℕ) (e : Entry) (r n : ℕ) → m ≤ DIGITS → ProperEntry (entryIn e) → e .rule ≡ Delete r →
-    length (e .gaps) ≡ PARTS → n ≡ length (keep (free (gapsOf (e .gaps) (e .length + 1) (e .«gap_count»)))
-    (each (vectors (suc (e .length))) (row 0 m))) →
+    length (e .gaps) ≡ PARTS → n ≡ length (comparedTo m (e .length) (gapsOf (e .gaps) (e .length + 1) (e .«gap_count»))) →
     ComparedAnswer m (entryIn e) n
-unfolding comparedWith compared
+unfolding comparedWithUnder
 deletes-compared m e r n low proper q all is =
     record {
-      compares = λ P h.
+      compares =
           is ∙
-          ap₂ (λ (B : List (List ℕ)) (i : ℕ). length (keep (free B) (each (vectors (suc (e .length))) (row 0 i))))
-          (gaps-hold e proper all) (sym h) ∙
-          ap (λ (k : ℕ). length (keep (free ((entryIn e) .gaps)) (each (vectors (suc k)) (row 0 (mOf P)))))
-          (sym (length-padded (e .length) (e .prefix))) ∙
-          ap (λ (x : Rule). comparedWith P ((entryIn e) .prefix) ((entryIn e) .gaps) (doesOf x)) (sym q);
+          ap₂ (λ (k : ℕ) (B : List (List ℕ)). length (comparedTo m k B)) (sym (length-padded (e .length) (e .prefix)))
+          (gaps-hold e proper all) ∙
+          ap (λ (x : Rule). comparedWithUnder m ((entryIn e) .prefix) ((entryIn e) .gaps) (doesOf x)) (sym q);
       small = omega (
         arith,
         is,

@@ -8,11 +8,11 @@ use lib.ListN.{length}
 use lib.Dec.{leb}
 use borrow.Author.Tests.{leb-true}
 use Rattle.word.specs.Ceilings.{DIGITS, PREFIX, COMPONENTS}
-use Rattle.word.specs.Lists.{all, keep, each, row}
+use Rattle.word.specs.Lists.{all, row}
 use Rattle.word.specs.ListLaws.{all-out, row-in}
-use Rattle.cell.specs.Cell.{free, vectors}
+use Rattle.cell.specs.Cell.{comparedTo}
 use Rattle.cell.specs.Binomial.{binomial}
-use Rattle.cell.specs.BinomialLaws.{vectors-below, keep-shorter}
+use Rattle.cell.specs.BinomialLaws.{compared-to-most}
 use Rattle.claims.specs.EntryMemory.{COMPARED}
 
 -- C(m + k, k + 1) for the lengths of prefixes and patterns, by computation
@@ -28,6 +28,5 @@ binomial-small m k h l =
     (row-in 0 COMPONENTS k (omega arith) (omega arith)) small-binomials))
 
 pub compared-small : (m k : ℕ) (B : List (List ℕ)) → m ≤ DIGITS → k ≤ PREFIX →
-    length (keep (free B) (each (vectors (suc k)) (row 0 m))) ≤ COMPARED
-compared-small m k B h l =
-    omega (arith, binomial-small m k h l, vectors-below k m, keep-shorter (free B) (each (vectors (suc k)) (row 0 m)))
+    length (comparedTo m k B) ≤ COMPARED
+compared-small m k B h l = omega (arith, binomial-small m k h l, compared-to-most m k B)

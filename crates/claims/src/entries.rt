@@ -49,15 +49,16 @@ pub fn has_live_gap(
     false
 }
 
-// A deletion: its position, and the length of the longest pattern.
+// A deletion: its position, and m.
 struct Cut {
     position: usize,
-    longest: usize,
+    m: usize,
 }
 
 // Refusal 11 of one entry: whether some compared sizes differ, and then the least permutation that
-// the deletion loses, with the deleted position put back. m is the length of the longest pattern,
-// and the levels are those that the head entries of the patterns need.
+// the deletion loses, with the deleted position put back. No pattern is longer than m, below which
+// the totals of the compared spacings lie; the levels are those that the head entries of the
+// patterns need.
 pub fn is_irreversible(
     set: [[u8; DIGITS]; PATTERNS],
     lengths: [u8; PATTERNS],
@@ -67,8 +68,8 @@ pub fn is_irreversible(
     e: Entry,
 ) -> LostWord
     requires { ⌜ AllNeeds set lengths count (now needs) × ProperSet set lengths count ×
-        (m ≡ longest (patternsOf set lengths count)) × (m ≤ DIGITS) × ProperEntry (entryIn e) ⌝ }
-    ensures { λ r. ⌜ LostAnswer (patternsOf set lengths count) (entryIn e) r ⌝ }
+        (longest (patternsOf set lengths count) ≤ m) × (m ≤ DIGITS) × ProperEntry (entryIn e) ⌝ }
+    ensures { λ r. ⌜ LostAnswer m (patternsOf set lengths count) (entryIn e) r ⌝ }
 {
     let rule = e.rule;
     match rule {
@@ -80,7 +81,7 @@ pub fn is_irreversible(
         Rule::Delete(r) => {
             let cut = Cut {
                 position: r,
-                longest: m,
+                m: m,
             };
             loses(set, lengths, count, needs, e, cut)
         }
@@ -97,9 +98,9 @@ fn loses(
     cut: Cut,
 ) -> LostWord
     requires { ⌜ AllNeeds set lengths count (now needs) × ProperSet set lengths count ×
-        (cut .longest ≡ longest (patternsOf set lengths count)) × (cut .longest ≤ DIGITS) ×
+        (longest (patternsOf set lengths count) ≤ cut .m) × (cut .m ≤ DIGITS) ×
         ProperEntry (entryIn e) × DeletesAt e (cut .position) ⌝ }
-    ensures { λ r. ⌜ LostAnswer (patternsOf set lengths count) (entryIn e) r ⌝ }
+    ensures { λ r. ⌜ LostAnswer (cut .m) (patternsOf set lengths count) (entryIn e) r ⌝ }
 {
     let prefix = e.prefix;
     let k = e.length;
@@ -113,7 +114,7 @@ fn loses(
         positions: positions,
         position_count: 1,
         gap_count: n,
-        longest: cut.longest,
+        m: cut.m,
     };
     let lost = irreversible(set, lengths, count, needs, &gaps, deletion);
     if !lost.found {
@@ -122,7 +123,7 @@ fn loses(
     least_lost(set, lengths, count, needs, deletion, lost)
 }
 
-// How many cells are compared for one entry, m being the length of the longest pattern.
+// How many cells are compared for one entry: those of totals below m.
 pub fn compared_with(m: usize, e: Entry) -> usize
     requires { ⌜ (m ≤ DIGITS) × ProperEntry (entryIn e) ⌝ }
     ensures { λ r. ⌜ ComparedAnswer m (entryIn e) r ⌝ }

@@ -6,7 +6,7 @@ use mathlib.Core.List.{List, [], _∷_, _++_}
 use lib.ListN.{length, take}
 use Rattle.word.specs.Lists.{all, any, oneTo}
 use Rattle.word.specs.Word.{avoids, avoiders, has, distinct, within}
-use Rattle.cell.specs.Cell.{same}
+use Rattle.cell.specs.Basis.{same}
 
 -- w has the entries of u in front
 unfoldable pub begins : List ℕ → List ℕ → Bool

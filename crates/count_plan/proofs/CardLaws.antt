@@ -14,7 +14,7 @@ use Rattle.word.specs.Ceilings.{PREFIX, LINKS}
 use Rattle.word.specs.Lists.{row}
 use Rattle.word.specs.Word.{isPerm}
 use Rattle.word.specs.ListLaws.{true-not-false}
-use Rattle.cell.specs.Cell.{same}
+use Rattle.cell.specs.Basis.{same}
 use Rattle.cell.specs.BuiltCells.{same-out}
 use Rattle.cell.specs.Child.{childAt}
 use Rattle.forms.specs.SchemeList.{expands, deletes}

@@ -12,7 +12,7 @@ use borrow.Author.Tests.{eq-eqb, eqb-true}
 use Rattle.word.specs.Ceilings.{PREFIX}
 use Rattle.word.specs.Lists.{row}
 use Rattle.word.specs.ListLaws.{same-test, map-same, row-out}
-use Rattle.cell.specs.Cell.{same}
+use Rattle.cell.specs.Basis.{same}
 use Rattle.cell.specs.BuiltCells.{same-refl, same-out}
 use Rattle.forms.specs.Codes.{codeOf, Bytes, IsCode, Codes}
 use Rattle.forms.specs.MemoryLaws.{take-row}

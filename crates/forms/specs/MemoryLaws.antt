@@ -13,7 +13,7 @@ use lib.Seq.{take-append-le, length-take-le, getD-take, getD-set-same, getD-set-
 use Rattle.word.specs.Lists.{all, row}
 use Rattle.word.specs.ListLaws.{same-or-not}
 use Rattle.word.specs.Word.{isPerm, within}
-use Rattle.cell.specs.Cell.{same}
+use Rattle.cell.specs.Basis.{same}
 use Rattle.cell.specs.BuiltCells.{same-refl}
 use Rattle.forms.specs.SchemeMemory.{padded}
 

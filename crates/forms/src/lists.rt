@@ -1,6 +1,6 @@
 // Whether two lists of bytes are the same.
 ghost use mathlib.Core.Path.{_≡_};
-ghost use Rattle.cell.specs.Cell.{same};
+ghost use Rattle.cell.specs.Basis.{same};
 
 // Whether the two lists have the same bytes in the same places.
 pub fn same_bytes(a: &[u8], b: &[u8]) -> bool

@@ -12,40 +12,40 @@ use Rattle.forms.specs.SchemeMemory.{schemeIn}
 use Rattle.scheme.specs.TestLaws.{from, from-start, from-cons, from-end}
 use Rattle.forms.specs.declared.memory.Scheme.{Scheme}
 use Rattle.forms.specs.SchemeMemory.{entryAt}
-use Rattle.verdict.specs.Verdict.{liveGap, differs, comparedWith, comparedCells}
+use Rattle.verdict.specs.Verdict.{liveGap, differsUnder, comparedWithUnder, comparedCellsUnder}
 
 -- the tests 10 and 11 of one entry
 abbrev pub liveEntry : List (List ℕ) → EntryList → Bool
 liveEntry P e = liveGap P (e .prefix) (e .gaps)
 
-abbrev pub differingEntry : List (List ℕ) → EntryList → Bool
-differingEntry P e = differs P (e .prefix) (e .gaps) (e .rule)
+abbrev pub differingEntry : ℕ → List (List ℕ) → EntryList → Bool
+differingEntry m P e = differsUnder m P (e .prefix) (e .gaps) (e .rule)
 
 -- the compared cells of one entry, and of the entries from place i on
-abbrev cellsWith : List (List ℕ) → EntryList → ℕ
-cellsWith P e = comparedWith P (e .prefix) (e .gaps) (e .rule)
+abbrev cellsWith : ℕ → EntryList → ℕ
+cellsWith m e = comparedWithUnder m (e .prefix) (e .gaps) (e .rule)
 
-unfoldable pub cellsFrom : List (List ℕ) → Scheme → ℕ → ℕ → ℕ
+unfoldable pub cellsFrom : ℕ → Scheme → ℕ → ℕ → ℕ
 unfolding total
-cellsFrom P s n i = total (map (cellsWith P) (from (entryAt s) n i))
+cellsFrom m s n i = total (map (cellsWith m) (from (entryAt s) n i))
 
-pub cells-start : (P : List (List ℕ)) (s : Scheme) → comparedCells P (schemeIn s) ≡ 0 + cellsFrom P s (s .count) 0
-unfolding comparedCells cellsFrom
-cells-start P s = ap (λ (l : List EntryList). total (map (cellsWith P) l)) (from-start (entryAt s) (s .count)) ∙ omega arith
+pub cells-start : (m : ℕ) (s : Scheme) → comparedCellsUnder m (schemeIn s) ≡ 0 + cellsFrom m s (s .count) 0
+unfolding comparedCellsUnder cellsFrom
+cells-start m s = ap (λ (l : List EntryList). total (map (cellsWith m) l)) (from-start (entryAt s) (s .count)) ∙ omega arith
 
-pub cells-next : (P : List (List ℕ)) (s : Scheme) (i sum r : ℕ) → i < s .count → comparedCells P (schemeIn s) ≡
-    sum + cellsFrom P s (s .count) i →
-    r ≡ cellsWith P (entryAt s i) → comparedCells P (schemeIn s) ≡ (sum + r) + cellsFrom P s (s .count) (i + 1)
+pub cells-next : (m : ℕ) (s : Scheme) (i sum r : ℕ) → i < s .count → comparedCellsUnder m (schemeIn s) ≡
+    sum + cellsFrom m s (s .count) i →
+    r ≡ cellsWith m (entryAt s i) → comparedCellsUnder m (schemeIn s) ≡ (sum + r) + cellsFrom m s (s .count) (i + 1)
 unfolding cellsFrom
-cells-next P s i sum r h e q =
-    let step : total (map (cellsWith P) (from (entryAt s) (s .count) i)) ≡
-    cellsWith P (entryAt s i) + total (map (cellsWith P) (from (entryAt s) (s .count) (i + 1))) =
-    ap (λ (l : List EntryList). total (map (cellsWith P) l)) (from-cons (entryAt s) (s .count) i h) in
+cells-next m s i sum r h e q =
+    let step : total (map (cellsWith m) (from (entryAt s) (s .count) i)) ≡
+    cellsWith m (entryAt s i) + total (map (cellsWith m) (from (entryAt s) (s .count) (i + 1))) =
+    ap (λ (l : List EntryList). total (map (cellsWith m) l)) (from-cons (entryAt s) (s .count) i h) in
     omega (arith, e, step, q)
 
-pub cells-end : (P : List (List ℕ)) (s : Scheme) (i sum : ℕ) → s .count ≤ i → sum + cellsFrom P s (s .count) i ≡ sum
+pub cells-end : (m : ℕ) (s : Scheme) (i sum : ℕ) → s .count ≤ i → sum + cellsFrom m s (s .count) i ≡ sum
 unfolding cellsFrom
-cells-end P s i sum h =
-    let none : total (map (cellsWith P) (from (entryAt s) (s .count) i)) ≡ 0 =
-    ap (λ (l : List EntryList). total (map (cellsWith P) l)) (from-end (entryAt s) (s .count) i h) in
+cells-end m s i sum h =
+    let none : total (map (cellsWith m) (from (entryAt s) (s .count) i)) ≡ 0 =
+    ap (λ (l : List EntryList). total (map (cellsWith m) l)) (from-end (entryAt s) (s .count) i h) in
     omega (arith, none)

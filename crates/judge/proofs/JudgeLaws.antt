@@ -26,19 +26,20 @@ use Rattle.forms.specs.declared.memory.Fault.the-variants.{Clean, At}
 use Rattle.scheme.specs.TestLaws.{clean-of}
 use Rattle.wellformed.proofs.OrderLaws.{or-else-fault, or-else-clean, not-faulty, two-faults}
 use Rattle.text_page.specs.Page.{overlay}
-use Rattle.verdict.specs.Verdict.{claimTests, comparedCells, judgeTests, answered, verdictOf}
+use Rattle.verdict.specs.Verdict.{comparedCellsUnder, claimTests, comparedCells, judgeTests, answered, verdictOf}
 use Rattle.verdict.specs.Truth.{WellFormed}
 use Rattle.claims.specs.EntryMemory.{ProperSet}
 use Rattle.forms.specs.SetMemory.{HasDigits, HasLengths}
 use Rattle.lost_word.specs.Shown.{ShowsWord}
 use Rattle.verdict.specs.Witness.{wordShown, bytesShown}
-use Rattle.judge.specs.SetMemory.{ComparesCells, lossShown, Loses}
+use Rattle.judge.specs.SetMemory.{lossShown, Loses}
 use Rattle.judge.specs.declared.deletions.Loss.{Loss}
 use Rattle.judge.proofs.LossLaws.{live-word, loss-word}
 use Rattle.scheme.specs.Proper.{Proper}
 use Rattle.scheme.specs.SetLaws.{set-held}
+use Rattle.scheme.specs.NumberLaws.{patterns-nine, scheme-nine}
 use Rattle.judge.specs.JudgementLaws.{verdict-parts, live-same, differs-same, refused-answer}
-use Rattle.judge.specs.WitnessPageLaws.{patterns-nine, scheme-nine, numberIn, number-found, earlier-nine, page-kept}
+use Rattle.judge.specs.WitnessPageLaws.{numberIn, number-found, earlier-nine, page-kept}
 use Rattle.judge.proofs.EntryWalkLaws.{liveEntry, differingEntry}
 
 -- the earlier of two findings, where the first decides and where it does not
@@ -100,6 +101,11 @@ module _ (set : List (List ℕ)) (lengths : List ℕ) (count : ℕ) (q : ProperS
   basis-holds : patternsOf rows sizes (b .count) ≡ basis (patternsOf set lengths count)
   basis-holds = set-held b (is-basis .few) (is-basis .short) rows sizes hr hs has sized ∙ is-basis .holds
 
+  -- m is the length of the longest pattern of the basis
+  pub basis-m : (m : ℕ) → m ≡ longest (patternsOf rows sizes (b .count)) → m ≡ mOf (patternsOf set lengths count)
+  unfolding mOf
+  basis-m m e = e ∙ ap longest basis-holds
+
   pub basis-proper : ProperSet rows sizes (b .count)
   basis-proper =
       record {
@@ -113,31 +119,32 @@ module _ (set : List (List ℕ)) (lengths : List ℕ) (count : ℕ) (q : ProperS
     live-is : live ≡ faultOf (firstAt LiveGap (liveEntry (patternsOf set lengths count)) 0 (schemeIn s))
     live-is =
         is ∙ ap (λ (Q : List (List ℕ)). faultOf (firstAt LiveGap (liveEntry Q) 0 (schemeIn s))) basis-holds ∙
-        ap faultOf (live-same (patternsOf set lengths count) (q .perms) s p)
+        ap faultOf (live-same (patternsOf set lengths count) (q .perms) s)
 
     tests-parts : faultOf (firstFault (claimTests (patternsOf set lengths count) (schemeIn s))) ≡
         orElse (faultOf (firstAt LiveGap (liveEntry (patternsOf set lengths count)) 0 (schemeIn s)))
-        (faultOf (firstAt Irreversible (differingEntry (patternsOf set lengths count)) 0 (schemeIn s)))
+        (faultOf (firstAt Irreversible (differingEntry (mOf (patternsOf set lengths count)) (patternsOf set lengths count)) 0 (schemeIn s)))
     tests-parts =
         two-faults (firstAt LiveGap (liveEntry (patternsOf set lengths count)) 0 (schemeIn s))
-        (firstAt Irreversible (differingEntry (patternsOf set lengths count)) 0 (schemeIn s))
+        (firstAt Irreversible (differingEntry (mOf (patternsOf set lengths count)) (patternsOf set lengths count)) 0 (schemeIn s))
 
-    lost-is : faultOf (firstAt Irreversible (differingEntry (patternsOf rows sizes (b .count))) 0 (schemeIn s)) ≡
-        faultOf (firstAt Irreversible (differingEntry (patternsOf set lengths count)) 0 (schemeIn s))
-    lost-is =
-        ap (λ (Q : List (List ℕ)). faultOf (firstAt Irreversible (differingEntry Q) 0 (schemeIn s))) basis-holds ∙
-        ap faultOf (differs-same (patternsOf set lengths count) (q .perms) s p)
+    lost-is : (m : ℕ) → m ≡ mOf (patternsOf set lengths count) →
+        faultOf (firstAt Irreversible (differingEntry m (patternsOf rows sizes (b .count))) 0 (schemeIn s)) ≡
+        faultOf (firstAt Irreversible (differingEntry (mOf (patternsOf set lengths count)) (patternsOf set lengths count)) 0 (schemeIn s))
+    lost-is m e =
+        ap₂ (λ (n : ℕ) (Q : List (List ℕ)). faultOf (firstAt Irreversible (differingEntry n Q) 0 (schemeIn s))) e basis-holds ∙
+        ap faultOf (differs-same (patternsOf set lengths count) (q .perms) s (mOf (patternsOf set lengths count)))
 
     -- a fault of test 10 on the basis is the first of the tests on the set
     pub claims-live : faulty live ≡ true → live ≡ faultOf (firstFault (claimTests (patternsOf set lengths count) (schemeIn s)))
     claims-live h = earlier-first live _ _ live-is h ∙ sym tests-parts
 
     -- where it finds none, what test 11 finds on the basis is
-    pub claims-lost : (lost : Fault) → lost ≡
-        faultOf (firstAt Irreversible (differingEntry (patternsOf rows sizes (b .count))) 0 (schemeIn s)) →
+    pub claims-lost : (m : ℕ) → m ≡ mOf (patternsOf set lengths count) → (lost : Fault) → lost ≡
+        faultOf (firstAt Irreversible (differingEntry m (patternsOf rows sizes (b .count))) 0 (schemeIn s)) →
         faulty live ≡ false →
         lost ≡ faultOf (firstFault (claimTests (patternsOf set lengths count) (schemeIn s)))
-    claims-lost lost e h = e ∙ lost-is ∙ earlier-second live _ _ live-is h ∙ sym tests-parts
+    claims-lost m is-m lost e h = e ∙ lost-is m is-m ∙ earlier-second live _ _ live-is h ∙ sym tests-parts
 
     -- what is shown with the first fault of the tests on the set: nothing with test 10 ..
     pub live-shown : faulty live ≡ true →
@@ -145,29 +152,31 @@ module _ (set : List (List ℕ)) (lengths : List ℕ) (count : ℕ) (q : ProperS
         (faultOf (firstFault (claimTests (patternsOf set lengths count) (schemeIn s)))) ≡ none
     live-shown h =
         ap (wordShown (patternsOf set lengths count) (schemeIn s)) (sym (claims-live h) ∙ live-is) ∙
-        live-word (patternsOf set lengths count) (q .perms) (schemeIn s) (p .each) (liveEntry (patternsOf set lengths count)) 0 (schemeIn s)
+        live-word (mOf (patternsOf set lengths count)) (patternsOf set lengths count) (q .perms) (schemeIn s) (p .each) (liveEntry (patternsOf set lengths count)) 0 (schemeIn s)
 
     -- .. and with test 11 what the search on the basis shows
-    pub lost-shown : (loss : Loss) → Loses (patternsOf rows sizes (b .count)) (schemeIn s) loss → faulty live ≡ false →
+    pub lost-shown : (m : ℕ) → m ≡ mOf (patternsOf set lengths count) → (loss : Loss) →
+        Loses m (patternsOf rows sizes (b .count)) (schemeIn s) loss → faulty live ≡ false →
         ShowsWord (wordShown (patternsOf set lengths count) (schemeIn s)
         (faultOf (firstFault (claimTests (patternsOf set lengths count) (schemeIn s))))) (loss .word)
-    lost-shown loss l h = rw same (l .shows)
+    lost-shown m is-m loss l h = rw same (l .shows)
       where
         same : wordShown (patternsOf set lengths count) (schemeIn s)
             (faultOf (firstFault (claimTests (patternsOf set lengths count) (schemeIn s)))) ≡
-            lossShown (patternsOf rows sizes (b .count)) (schemeIn s) (loss .fault)
+            lossShown m (patternsOf rows sizes (b .count)) (schemeIn s) (loss .fault)
         same =
-            ap (wordShown (patternsOf set lengths count) (schemeIn s)) (sym (claims-lost (loss .fault) (l .found) h) ∙ l .found ∙ lost-is) ∙
-            loss-word (patternsOf set lengths count) (q .perms) (schemeIn s) (p .each)
-            (differingEntry (patternsOf set lengths count)) 0 (schemeIn s) ∙
-            ap₂ (λ (Q : List (List ℕ)) (f : Fault). lossShown Q (schemeIn s) f) (sym basis-holds) (sym (l .found ∙ lost-is))
+            ap (wordShown (patternsOf set lengths count) (schemeIn s)) (sym (claims-lost m is-m (loss .fault) (l .found) h) ∙ l .found ∙ lost-is m is-m) ∙
+            loss-word (mOf (patternsOf set lengths count)) (patternsOf set lengths count) (q .perms) (schemeIn s) (p .each)
+            (differingEntry (mOf (patternsOf set lengths count)) (patternsOf set lengths count)) 0 (schemeIn s) ∙
+            ap₂ (λ (Q : List (List ℕ)) (f : Fault). lossShown (mOf (patternsOf set lengths count)) Q (schemeIn s) f) (sym basis-holds)
+            (sym (l .found ∙ lost-is m is-m)) ∙
+            ap (λ (n : ℕ). lossShown n (patternsOf rows sizes (b .count)) (schemeIn s) (loss .fault)) (sym is-m)
 
 -- the answer on the claims, from the set in memory
 pub claims-answer : (patterns : Patterns) (s : Scheme) (Q : List (List ℕ)) (f : Fault) (m cells : ℕ) → Q ≡ patternsIn patterns →
-    f ≡ faultOf (firstFault (claimTests Q (schemeIn s))) → m ≡ longest Q → ComparesCells m s cells →
+    f ≡ faultOf (firstFault (claimTests Q (schemeIn s))) → m ≡ mOf Q → cells ≡ comparedCellsUnder m (schemeIn s) →
     answered f cells ≡ answered (faultOf (firstFault (claimTests (patternsIn patterns) (schemeIn s))))
     (comparedCells (patternsIn patterns) (schemeIn s))
-unfolding mOf
 claims-answer patterns s Q f m cells holds e is c =
     ap₂ answered (e ∙ ap (λ (P : List (List ℕ)). faultOf (firstFault (claimTests P (schemeIn s)))) holds)
-    (c (patternsIn patterns) (ap longest (sym holds) ∙ sym is))
+    (c ∙ ap (λ (n : ℕ). comparedCellsUnder n (schemeIn s)) (is ∙ ap mOf holds))

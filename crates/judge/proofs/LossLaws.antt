@@ -25,15 +25,9 @@ use Rattle.scheme.specs.ProperLaws.{position-inside}
 use Rattle.lost_word.specs.Shown.{ShowsWord}
 use Rattle.lost_word.specs.declared.least.LostWord.{LostWord}
 use Rattle.claims.specs.EntryMemory.{ruleCandidate}
-use Rattle.verdict.specs.Witness.{ruleWord, indexedEntry, entryWord, wordShown}
-use Rattle.verdict.specs.WitnessLaws.{shown-candidate}
+use Rattle.verdict.specs.Witness.{ruleWordUnder, indexedEntry, entryWordUnder, wordShownUnder}
+use Rattle.verdict.specs.WitnessLaws.{shown-candidate, indexed-member}
 use Rattle.judge.specs.SetMemory.{entryLoss, lossShown}
-
--- the entry at an index is one of the list
-indexed-member : (E : List EntryList) (i : ℕ) (e : EntryList) → indexedEntry E i ≡ some e → List·Memᴰ e E
-indexed-member [] i e q = let z : _≡_ {A = ℕ} 0 1 = cc in absurd (omega arith)
-indexed-member (d ∷ E) zero e q = let same : e ≡ d = cc in List·Memᴰ·head same
-indexed-member (d ∷ E) (suc i) e q = List·Memᴰ·tail (indexed-member E i e q)
 
 -- the entry of a scheme in memory at an index
 indexed-row : (f : ℕ → EntryList) (a n i : ℕ) → i < n → indexedEntry (map f (row a n)) i ≡ some (f (a + i))
@@ -63,42 +57,42 @@ shows-some (some w) word h t = ap some (sym (h .1))
 pub shows-none : (o : Option (List ℕ)) (word : LostWord) → o ≡ none → word .found ≡ false → ShowsWord o word
 shows-none o word e f = rw e f
 
-module _ (P : List (List ℕ)) (perms : (β : List ℕ) → List·Memᴰ β P → isPerm β ≡ true) where
+module _ (m : ℕ) (P : List (List ℕ)) (perms : (β : List ℕ) → List·Memᴰ β P → isPerm β ≡ true) where
   -- the word of the definition is what the candidate search shows on the basis
   rule-word : (p : List ℕ) (B : List (List ℕ)) (rule : Does) → isPerm p ≡ true → outside (length p) rule ≡ false →
-      ruleWord P p B rule ≡ ruleCandidate (basis P) p B rule
+      ruleWordUnder m P p B rule ≡ ruleCandidate m (basis P) p B rule
   unfolding ruleCandidate
   rule-word p B expands perm inside = refl
-  rule-word p B (deletes r) perm inside = shown-candidate P perms p (r ∷ []) perm (position-inside (length p) r inside) B
+  rule-word p B (deletes r) perm inside = shown-candidate m P perms p (r ∷ []) perm (position-inside (length p) r inside) B
 
   module _ (E : List EntryList) (each : (e : EntryList) → List·Memᴰ e E → ProperEntry e) where
-    entry-word : (i : ℕ) → entryWord P (indexedEntry E i) ≡ entryLoss (basis P) (indexedEntry E i)
+    entry-word : (i : ℕ) → entryWordUnder m P (indexedEntry E i) ≡ entryLoss m (basis P) (indexedEntry E i)
     entry-word i = go (indexedEntry E i) refl
       where
-        go : (o : Option EntryList) → indexedEntry E i ≡ o → entryWord P o ≡ entryLoss (basis P) o
+        go : (o : Option EntryList) → indexedEntry E i ≡ o → entryWordUnder m P o ≡ entryLoss m (basis P) o
         go none q = refl
         go (some e) q = let p = each e (indexed-member E i e q) in rule-word (e .prefix) (e .gaps) (e .rule) (p .perm) (p .inside)
 
     -- what test 11 finds is shown by the search on the basis
     pub loss-word : (f : EntryList → Bool) (i : ℕ) (l : List EntryList) →
-        wordShown P E (faultOf (firstAt Irreversible f i l)) ≡ lossShown (basis P) E (faultOf (firstAt Irreversible f i l))
+        wordShownUnder m P E (faultOf (firstAt Irreversible f i l)) ≡ lossShown m (basis P) E (faultOf (firstAt Irreversible f i l))
     loss-word f i [] = refl
     loss-word f i (e ∷ l) = go (f e) (loss-word f (suc i) l)
       where
         go : (b : Bool) →
-            wordShown P E (faultOf (firstAt Irreversible f (suc i) l)) ≡
-            lossShown (basis P) E (faultOf (firstAt Irreversible f (suc i) l)) →
-            wordShown P E (faultOf (cond b (fault Irreversible i) (firstAt Irreversible f (suc i) l))) ≡
-            lossShown (basis P) E (faultOf (cond b (fault Irreversible i) (firstAt Irreversible f (suc i) l)))
+            wordShownUnder m P E (faultOf (firstAt Irreversible f (suc i) l)) ≡
+            lossShown m (basis P) E (faultOf (firstAt Irreversible f (suc i) l)) →
+            wordShownUnder m P E (faultOf (cond b (fault Irreversible i) (firstAt Irreversible f (suc i) l))) ≡
+            lossShown m (basis P) E (faultOf (cond b (fault Irreversible i) (firstAt Irreversible f (suc i) l)))
         go true below = entry-word i
         go false below = below
 
     -- what test 10 finds is shown by no word
-    pub live-word : (f : EntryList → Bool) (i : ℕ) (l : List EntryList) → wordShown P E (faultOf (firstAt LiveGap f i l)) ≡ none
+    pub live-word : (f : EntryList → Bool) (i : ℕ) (l : List EntryList) → wordShownUnder m P E (faultOf (firstAt LiveGap f i l)) ≡ none
     live-word f i [] = refl
     live-word f i (e ∷ l) = go (f e) (live-word f (suc i) l)
       where
-        go : (b : Bool) → wordShown P E (faultOf (firstAt LiveGap f (suc i) l)) ≡ none →
-            wordShown P E (faultOf (cond b (fault LiveGap i) (firstAt LiveGap f (suc i) l))) ≡ none
+        go : (b : Bool) → wordShownUnder m P E (faultOf (firstAt LiveGap f (suc i) l)) ≡ none →
+            wordShownUnder m P E (faultOf (cond b (fault LiveGap i) (firstAt LiveGap f (suc i) l))) ≡ none
         go true below = refl
         go false below = below

@@ -4,40 +4,31 @@ use native.Mathlib.Omega.{arith}
 use mathlib.Core.Path.{_≡_, refl, sym, ap, ap₂, _∙_, fun-ext}
 use mathlib.Core.Bool.{Bool, true, false, not, cond}
 use mathlib.Core.List.{List, [], _∷_, _++_, List·Memᴰ, List·Memᴰ·head, List·Memᴰ·tail}
-use mathlib.Core.Logic.{_↔_}
 use lib.ListN.{length}
+use lib.Dec.{eqb}
 use Rattle.word.specs.Lists.{any}
 use Rattle.word.specs.Word.{isPerm}
 use Rattle.word.specs.Finding.{Finding, fault, firstFault}
 use Rattle.word.specs.declared.refusal.Refusal.{Refusal}
 use Rattle.word.specs.declared.refusal.Refusal.the-variants.{LiveGap, Irreversible}
 use Rattle.cell.specs.Basis.{basis}
-use Rattle.cell.specs.BasisLaws.{basis-cell, basis-deletion}
+use Rattle.cell.specs.Cell.{deleted, merged, comparedTo}
+use Rattle.cell.specs.BasisLaws.{basis-cell}
 use Rattle.forms.specs.SchemeList.{Does, expands, deletes, EntryList}
-use Rattle.scheme.specs.WellFormed.{firstAt, outside, patternTests, schemeTests}
+use Rattle.scheme.specs.WellFormed.{firstAt, patternTests, schemeTests}
 use Rattle.forms.specs.SchemeMemory.{schemeIn, faultOf, orElse, faulty, toldOr}
 use Rattle.forms.specs.ToldLaws.{told-found}
 use Rattle.forms.specs.declared.memory.Scheme.{Scheme}
 use Rattle.forms.specs.declared.memory.Fault.{Fault}
 use Rattle.forms.specs.declared.memory.Fault.the-variants.{Clean, At}
 use Rattle.wellformed.proofs.OrderLaws.{faults-append}
-use Rattle.verdict.specs.Verdict.{isEmpty, liveGap, differs, claimTests, comparedCells, judgeTests, answered}
+use Rattle.verdict.specs.Verdict.{isEmpty, liveGap, sizesDiffer, differsUnder, claimTests, comparedCells, judgeTests, answered}
 use Rattle.verdict.specs.Verdict.{verdictOf, toldVerdict, accepted}
-use Rattle.verdict.specs.Truth.{RuleClaim}
-use Rattle.scheme.specs.FindingLaws.{same-failure}
-use Rattle.scheme.specs.Proper.{Proper}
-use Rattle.verdict.specs.VerdictLaws.{differs-law, accepted-exactly}
+use Rattle.scheme.specs.FindingLaws.{first-same}
+use Rattle.verdict.specs.VerdictLaws.{accepted-exactly}
 use Rattle.verdict.specs.declared.answer.Verdict.{Verdict}
 use Rattle.verdict.specs.declared.answer.Verdict.the-variants.{Accepted, Refused}
 use Rattle.judge.specs.Judgement.{JudgesWithoutPage}
-
--- tests that agree on the items find the same
-pub first-same : {A : Type 0} (r : Refusal) (f g : A → Bool) (i : ℕ) (l : List A) →
-    ((x : A) → List·Memᴰ x l → f x ≡ g x) → firstAt r f i l ≡ firstAt r g i l
-first-same r f g i [] h = refl
-first-same r f g i (x ∷ l) h =
-    ap₂ (λ (b : Bool) (y : Finding). cond b (fault r i) y) (h x (List·Memᴰ·head refl))
-    (first-same r f g (suc i) l (λ y m. h y (List·Memᴰ·tail m)))
 
 module _ (P : List (List ℕ)) (perms : (β : List ℕ) → List·Memᴰ β P → isPerm β ≡ true) where
   live-basis : (p : List ℕ) (B : List (List ℕ)) → liveGap (basis P) p B ≡ liveGap P p B
@@ -45,19 +36,18 @@ module _ (P : List (List ℕ)) (perms : (β : List ℕ) → List·Memᴰ β P �
   live-basis p B = ap (λ (f : List ℕ → Bool). any f B)
       (fun-ext (λ b. ap (λ (l : List (List ℕ)). not (isEmpty l)) (sym (basis-cell P perms p b))))
 
-  rule-basis : (p : List ℕ) (B : List (List ℕ)) (rule : Does) → RuleClaim (basis P) p B rule ↔ RuleClaim P p B rule
-  rule-basis p B expands = (λ h. h, λ h. h)
-  rule-basis p B (deletes r) = let (there, back) = basis-deletion P perms p B (r ∷ []) in (back, there)
+  sizes-basis : (p R g : List ℕ) → sizesDiffer (basis P) p R g ≡ sizesDiffer P p R g
+  unfolding sizesDiffer
+  sizes-basis p R g = ap₂ (λ (x y : List (List ℕ)). not (eqb (length x) (length y)))
+      (sym (basis-cell P perms p g)) (sym (basis-cell P perms (deleted R p) (merged R p g)))
 
-  differs-basis : (p : List ℕ) (B : List (List ℕ)) (rule : Does) → isPerm p ≡ true → outside (length p) rule ≡ false →
-      differs (basis P) p B rule ≡ differs P p B rule
-  differs-basis p B rule perm inside =
-      let (there, back) = rule-basis p B rule in
-      let (up, down) = differs-law (basis P) p B rule perm inside in
-      same-failure (differs (basis P) p B rule) (differs P p B rule) (λ e. there (up e), λ h. down (back h))
-      (differs-law P p B rule perm inside)
+  differs-basis : (m : ℕ) (p : List ℕ) (B : List (List ℕ)) (rule : Does) → differsUnder m (basis P) p B rule ≡ differsUnder m P p B rule
+  unfolding differsUnder
+  differs-basis m p B expands = refl
+  differs-basis m p B (deletes r) = ap (λ (f : List ℕ → Bool). any f (comparedTo m (length p) B))
+      (fun-ext (λ g. sizes-basis p (r ∷ []) g))
 
-  module _ (s : Scheme) (q : Proper (schemeIn s)) where
+  module _ (s : Scheme) where
     -- the tests on the basis are those on the set
     pub live-same : firstAt LiveGap (λ (e : EntryList). liveGap (basis P) (e .prefix) (e .gaps)) 0 (schemeIn s) ≡
         firstAt LiveGap (λ (e : EntryList). liveGap P (e .prefix) (e .gaps)) 0 (schemeIn s)
@@ -66,13 +56,13 @@ module _ (P : List (List ℕ)) (perms : (β : List ℕ) → List·Memᴰ β P �
         (λ (e : EntryList). liveGap P (e .prefix) (e .gaps)) 0 (schemeIn s)
         (λ e m. live-basis (e .prefix) (e .gaps))
 
-    pub differs-same : firstAt Irreversible (λ (e : EntryList). differs (basis P) (e .prefix) (e .gaps) (e .rule)) 0 (schemeIn s) ≡
-        firstAt Irreversible (λ (e : EntryList). differs P (e .prefix) (e .gaps) (e .rule)) 0 (schemeIn s)
-    differs-same =
-        first-same Irreversible (λ (e : EntryList). differs (basis P) (e .prefix) (e .gaps) (e .rule))
-        (λ (e : EntryList). differs P (e .prefix) (e .gaps) (e .rule))
-        0 (schemeIn s)
-        (λ e m. differs-basis (e .prefix) (e .gaps) (e .rule) (q .each e m .perm) (q .each e m .inside))
+    pub differs-same : (m : ℕ) →
+        firstAt Irreversible (λ (e : EntryList). differsUnder m (basis P) (e .prefix) (e .gaps) (e .rule)) 0 (schemeIn s) ≡
+        firstAt Irreversible (λ (e : EntryList). differsUnder m P (e .prefix) (e .gaps) (e .rule)) 0 (schemeIn s)
+    differs-same m =
+        first-same Irreversible (λ (e : EntryList). differsUnder m (basis P) (e .prefix) (e .gaps) (e .rule))
+        (λ (e : EntryList). differsUnder m P (e .prefix) (e .gaps) (e .rule)) 0 (schemeIn s)
+        (λ e d. differs-basis m (e .prefix) (e .gaps) (e .rule))
 
 -- the first of three findings
 pub or-else-assoc : (a b c : Fault) → orElse a (orElse b c) ≡ orElse (orElse a b) c

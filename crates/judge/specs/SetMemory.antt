@@ -7,7 +7,6 @@ use mathlib.Core.Option.{Option, none, some}
 use Rattle.word.specs.Ceilings.{DIGITS, PREFIX}
 use Rattle.word.specs.Finding.{firstFault}
 use Rattle.word.specs.declared.refusal.Refusal.the-variants.{Irreversible}
-use Rattle.cell.specs.Cell.{mOf}
 use Rattle.forms.specs.SchemeList.{EntryList}
 use Rattle.forms.specs.SchemeMemory.{schemeIn, faultOf}
 use Rattle.forms.specs.declared.memory.Scheme.{Scheme}
@@ -18,28 +17,24 @@ use Rattle.text_page.specs.Page.{Writes}
 use Rattle.lost_word.specs.Shown.{ShowsWord}
 use Rattle.lost_word.specs.declared.least.LostWord.{LostWord}
 use Rattle.claims.specs.EntryMemory.{ruleCandidate}
-use Rattle.verdict.specs.Verdict.{differs, claimTests, comparedCells, answered}
+use Rattle.verdict.specs.Verdict.{differsUnder, claimTests, comparedCells, answered}
 use Rattle.verdict.specs.Witness.{witnessBytes, indexedEntry, wordShown}
 use Rattle.judge.specs.declared.deletions.Loss.{Loss}
 use Rattle.judge.specs.declared.judging.Judged.{Judged}
 
--- the number of compared cells, for every set whose m is this one
-abbrev pub ComparesCells : ℕ → Scheme → ℕ → Type 0
-ComparesCells m s r = (P : List (List ℕ)) → mOf P ≡ m → r ≡ comparedCells P (schemeIn s)
+-- what the candidate search under m shows of the entry at fault
+abbrev pub entryLoss : ℕ → List (List ℕ) → Option EntryList → Option (List ℕ)
+entryLoss m P none = none
+entryLoss m P (some e) = ruleCandidate m P (e .prefix) (e .gaps) (e .rule)
 
--- what the candidate search shows of the entry at fault
-abbrev pub entryLoss : List (List ℕ) → Option EntryList → Option (List ℕ)
-entryLoss P none = none
-entryLoss P (some e) = ruleCandidate P (e .prefix) (e .gaps) (e .rule)
+abbrev pub lossShown : ℕ → List (List ℕ) → List EntryList → Fault → Option (List ℕ)
+lossShown m P E Clean = none
+lossShown m P E (At r i) = entryLoss m P (indexedEntry E i)
 
-abbrev pub lossShown : List (List ℕ) → List EntryList → Fault → Option (List ℕ)
-lossShown P E Clean = none
-lossShown P E (At r i) = entryLoss P (indexedEntry E i)
-
--- test 11 on the patterns P: the first entry at fault, and what the search shows of it
-pub record Loses (P : List (List ℕ)) (E : List EntryList) (r : Loss) : Type 0 where
-  pub found : r .fault ≡ faultOf (firstAt Irreversible (λ e. differs P (e .prefix) (e .gaps) (e .rule)) 0 E)
-  pub shows : ShowsWord (lossShown P E (r .fault)) (r .word)
+-- test 11 on the patterns P under m: the first entry at fault, and what the search shows of it
+pub record Loses (m : ℕ) (P : List (List ℕ)) (E : List EntryList) (r : Loss) : Type 0 where
+  pub found : r .fault ≡ faultOf (firstAt Irreversible (λ e. differsUnder m P (e .prefix) (e .gaps) (e .rule)) 0 E)
+  pub shows : ShowsWord (lossShown m P E (r .fault)) (r .word)
 
 -- the verdict on the claims of a well-formed scheme, and the permutation that is shown with it
 pub record ClaimsJudged (P : List (List ℕ)) (E : List EntryList) (r : Judged) : Type 0 where

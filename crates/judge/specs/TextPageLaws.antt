@@ -36,7 +36,8 @@ use Rattle.judge.specs.TextJudgement.{faultRead, cellsRead, verdictOfTex
 use Rattle.judge.specs.TextJudgement.{faultReadOn, verdictReadOn, pageRead, JudgesTexts}
 use Rattle.judge.specs.TextVerdictLaws.{patterns-short, scheme-short, read-fault, read-scheme-fault, spelt-fault, spelt-list}
 use Rattle.judge.specs.TextVerdictLaws.{spelt-scheme-fault, spelt-scheme-list, refused-texts, judged-texts, or-else-clean-both}
-use Rattle.judge.specs.WitnessPageLaws.{patterns-nine, scheme-nine, numberIn, number-found, earlier-nine, nothing-shown, page-kept}
+use Rattle.judge.specs.WitnessPageLaws.{numberIn, number-found, earlier-nine, nothing-shown, page-kept}
+use Rattle.scheme.specs.NumberLaws.{patterns-nine, scheme-nine}
 use Rattle.judge.specs.WitnessPageLaws.{judges-short, judges-long}
 
 -- reading finds numbers up to 9

@@ -23,7 +23,7 @@ use Rattle.word.specs.declared.refusal.Refusal.{Refusal}
 use Rattle.word.specs.declared.refusal.Refusal.the-variants.{Oversize, NoPermutation, Repeated, Rootless, Width}
 use Rattle.word.specs.declared.refusal.Refusal.the-variants.{NoPosition, Childless, NoTarget, LiveGap, Irreversible, ShortPage}
 use Rattle.cell.specs.Cell.{mOf, compared}
-use Rattle.cell.specs.BasisLaws.{longest-at-most}
+use Rattle.cell.specs.BasisLaws.{longest-at-most, m-at-most}
 use Rattle.forms.specs.SchemeList.{Does, expands, deletes, EntryList}
 use Rattle.forms.specs.SchemeMemory.{faultOf, orElse}
 use Rattle.forms.specs.ToldLaws.{told-found}
@@ -32,99 +32,21 @@ use Rattle.forms.specs.declared.memory.Fault.the-variants.{Clean, At}
 use Rattle.scheme.specs.WellFormed.{firstAt, firstTwin, listed, twinEntry, outside, prefixes, patternTests, schemeTests}
 use Rattle.scheme.specs.Proper.{ProperEntry}
 use Rattle.scheme.specs.ProperLaws.{proper, proper-pattern, position-inside}
-use Rattle.scheme.specs.FindingLaws.{clean-append, fault-append}
+use Rattle.scheme.specs.FindingLaws.{clean-append}
+use Rattle.scheme.specs.NumberLaws.{numberFound, at-number}
 use Rattle.text_page.specs.Page.{overlay}
 use Rattle.text_page.specs.PageLaws.{overlay-none, overlay-whole}
-use Rattle.verdict.specs.Verdict.{liveGap, sizesDiffer, differs, claimTests, comparedCells, judgeTests, answered}
+use Rattle.verdict.specs.Verdict.{liveGap, sizesDiffer, differsUnder, differs, claimTests, comparedCells, judgeTests, answered}
 use Rattle.verdict.specs.Verdict.{verdictOf, toldVerdict, accepted}
 use Rattle.verdict.specs.Truth.{WellFormed}
 use Rattle.verdict.specs.VerdictLaws.{accepted-exactly}
+use Rattle.verdict.specs.SameVerdictLaws.{formed-behind}
 use Rattle.verdict.specs.Witness.{half, witnessBytes, shownWord, ruleWord, indexedEntry, entryWord, bytesShown, Witnesses}
 use Rattle.verdict.specs.WitnessLaws.{half-length, shown-there, shown-length, witnesses}
 use Rattle.verdict.specs.declared.answer.Verdict.{Verdict}
 use Rattle.verdict.specs.declared.answer.Verdict.the-variants.{Accepted, Refused}
 use Rattle.judge.specs.Judgement.{pageTest, pageTests, verdictOn, pageAfter, EntryWitness, Judges}
 use Rattle.judge.specs.JudgementLaws.{told-answered, accepted-cells}
-
--- the number of a finding, 0 for none
-abbrev pub numberFound : Finding → ℕ
-numberFound clean = 0
-numberFound (fault r i) = numberOf r
-
--- numbers of at most n
-abbrev Below : ℕ → List Finding → Type 0
-Below n [] = Unit {0}
-Below n (x ∷ l) = (numberFound x ≤ n) × Below n l
-
--- the first of several findings has a number as small as theirs
-first-number : (n : ℕ) (l : List Finding) → Below n l → numberFound (firstFault l) ≤ n
-first-number n [] h = omega arith
-first-number n (clean ∷ l) h = first-number n l (h .1)
-first-number n (fault r i ∷ l) h = h .0
-
-test-number : (r : Refusal) (b : Bool) → numberFound (test r b) ≤ numberOf r
-test-number r true = omega arith
-test-number r false = omega arith
-
-at-number : {A : Type 0} (r : Refusal) (f : A → Bool) (i : ℕ) (l : List A) → numberFound (firstAt r f i l) ≤ numberOf r
-at-number r f i [] = omega arith
-at-number r f i (x ∷ l) = go (f x) (at-number r f (suc i) l)
-  where
-    go : (b : Bool) → numberFound (firstAt r f (suc i) l) ≤ numberOf r →
-        numberFound (cond b (fault r i) (firstAt r f (suc i) l)) ≤ numberOf r
-    go true below = omega arith
-    go false below = below
-
-twin-number : {A : Type 0} (twin : List A → A → Bool) (i : ℕ) (seen l : List A) → numberFound (firstTwin twin i seen l) ≤ 4
-twin-number twin i seen [] = omega arith
-twin-number twin i seen (x ∷ l) = go (twin seen x) (twin-number twin (suc i) (x ∷ seen) l)
-  where
-    go : (b : Bool) → numberFound (firstTwin twin (suc i) (x ∷ seen) l) ≤ 4 →
-        numberFound (cond b (fault Repeated i)
-        (firstTwin twin (suc i) (x ∷ seen) l)) ≤ 4
-    go true below = omega arith
-    go false below = below
-
-at-nine : {A : Type 0} (r : Refusal) (f : A → Bool) (l : List A) → numberOf r ≤ 9 → numberFound (firstAt r f 0 l) ≤ 9
-at-nine r f l h = let low = at-number r f 0 l in omega arith
-
-test-nine : (r : Refusal) (b : Bool) → numberOf r ≤ 9 → numberFound (test r b) ≤ 9
-test-nine r b h = let low = test-number r b in omega arith
-
--- the tests of a list of patterns and of a scheme list find numbers up to 9
-pub patterns-nine : (P : List (List ℕ)) → numberFound (firstFault (patternTests P)) ≤ 9
-patterns-nine P =
-    let twins = twin-number listed 0 [] P in
-    first-number 9 (patternTests P) (
-      test-nine Oversize (ltb PATTERNS (length P)) (omega arith),
-      (
-        at-nine Oversize _ P (omega arith),
-        (at-nine NoPermutation _ P (omega arith), (omega arith, tt)),
-      ),
-    )
-
-pub scheme-nine : (E : List EntryList) → numberFound (firstFault (schemeTests E)) ≤ 9
-scheme-nine E =
-    let twins = twin-number twinEntry 0 [] E in
-    first-number 9 (schemeTests E) (
-      test-nine Oversize (ltb ENTRIES (length E)) (omega arith),
-      (
-        at-nine Oversize _ E (omega arith),
-        (
-          at-nine NoPermutation _ E (omega arith),
-          (
-            omega arith,
-            (
-              test-nine Rootless (not (listed (prefixes E) [])) (omega arith),
-              (
-                at-nine Width _ E (omega arith),
-                (at-nine NoPosition _ E (omega arith), (at-nine Childless _ E (omega arith), (at-nine NoTarget _ E (omega arith), tt))),
-              ),
-            ),
-          ),
-        ),
-      ),
-    )
 
 -- No finding but that of test 11 writes.
 abbrev pub numberIn : Fault → ℕ
@@ -157,18 +79,6 @@ page-long n l h = ap (λ (b : Bool). firstFault (test ShortPage b ∷ l)) (le-lt
 eleven : {x : Finding} {i : ℕ} → x ≡ fault Irreversible i → numberFound x ≡ 11
 eleven e = ap numberFound e
 
--- behind tests that find numbers up to 9 the finding is that of the rest
-rest-found : (l m : List Finding) (i : ℕ) → numberFound (firstFault l) ≤ 9 → firstFault (l ++ m) ≡ fault Irreversible i →
-    (firstFault l ≡ clean) × (firstFault m ≡ fault Irreversible i)
-rest-found l m i h e = go (firstFault l) refl
-  where
-    go : (x : Finding) → firstFault l ≡ x → (firstFault l ≡ clean) × (firstFault m ≡ fault Irreversible i)
-    go clean q = (q, sym (clean-append l m q) ∙ e)
-    go (fault r j) q =
-        let number : numberOf r ≤ 9 = rw q at h in
-        let same : numberOf r ≡ 11 = ap numberFound (sym (fault-append l m q) ∙ e) in
-        absurd (omega arith)
-
 module _ (P : List (List ℕ)) (E : List EntryList) where
   live : Finding
   live = firstAt LiveGap (λ (e : EntryList). liveGap P (e .prefix) (e .gaps)) 0 E
@@ -180,9 +90,13 @@ module _ (P : List (List ℕ)) (E : List EntryList) where
       WellFormed P E × (firstAt Irreversible (λ (e : EntryList). differs P (e .prefix) (e .gaps) (e .rule)) 0 E ≡ fault Irreversible i)
   unfolding live lossy
   irreversible-found i e =
-      let (pc, s) = rest-found (patternTests P) (schemeTests E ++ claimTests P E) i (patterns-nine P) e in
-      let (sc, c) = rest-found (schemeTests E) (claimTests P E) i (scheme-nine E) s in
-      (record { patterns = pc; scheme = sc }, second live lossy (at-number LiveGap _ 0 E) c)
+      let number : numberFound (firstFault (judgeTests P E)) ≡ 11 = ap numberFound e in
+      let formed = formed-behind (mOf P) P E (omega arith) in (
+        formed,
+        second live lossy (at-number LiveGap _ 0 E)
+            (sym (clean-append (schemeTests E) (claimTests P E) (formed .scheme)) ∙
+            sym (clean-append (patternTests P) (schemeTests E ++ claimTests P E) (formed .patterns)) ∙ e),
+      )
     where
       second : (x y : Finding) → numberFound x ≤ 10 → firstFault (x ∷ y ∷ []) ≡ fault Irreversible i → y ≡ fault Irreversible i
       second clean clean h q = q
@@ -212,8 +126,9 @@ entry-found f (e ∷ E) i j q = go (f e) refl q (entry-found f E (suc i) j)
 module _ (P : List (List ℕ)) (formed : firstFault (patternTests P) ≡ clean) where
   -- no pattern is longer than DIGITS
   m-small : mOf P ≤ DIGITS
-  unfolding mOf
-  m-small = longest-at-most P DIGITS (λ β m. proper-pattern P formed β m .short)
+  m-small =
+      let all = longest-at-most P DIGITS (λ β m. proper-pattern P formed β m .short) in
+      omega (arith, m-at-most P)
 
   -- the bytes of a short word are a page
   bytes-length : (w : List ℕ) → length w < HALF → length (witnessBytes P (some w)) ≡ PAGE
@@ -227,10 +142,10 @@ module _ (P : List (List ℕ)) (formed : firstFault (patternTests P) ≡ clean) 
       any (sizesDiffer P p (r ∷ [])) (compared P (length p) B) ≡ true → (page : List ℕ) → PAGE ≤ length page →
       Witnesses P p B (r ∷ []) (overlay 0 (witnessBytes P (shownWord P p B (r ∷ []))) page)
   shown-witness p B r perm short inside differ page long =
-      let (w, e) = shown-there P p (r ∷ []) perm (position-inside (length p) r inside) B differ in
-      let small = shown-length P p (r ∷ []) perm (position-inside (length p) r inside) B w e in
+      let (w, e) = shown-there (mOf P) P p (r ∷ []) perm (position-inside (length p) r inside) B differ in
+      let small = shown-length (mOf P) P p (r ∷ []) perm (position-inside (length p) r inside) B w e in
       let size = bytes-length w (omega (arith, m-small)) in
-      rw e (witnesses P p (r ∷ []) perm (position-inside (length p) r inside) B w (overlay 0 (witnessBytes P (some w)) page) e
+      rw e (witnesses (mOf P) P p (r ∷ []) perm (position-inside (length p) r inside) B w (overlay 0 (witnessBytes P (some w)) page) e
       (front (witnessBytes P (some w)) page size long))
     where
       front : (xs t : List ℕ) → length xs ≡ PAGE → PAGE ≤ length t → take PAGE (overlay 0 xs t) ≡ xs
@@ -249,7 +164,7 @@ module _ (P : List (List ℕ)) (E : List EntryList) (before after : List ℕ) (r
       ap (λ (x : Finding). answered (faultOf x) (comparedCells P E)) (page-long (length before) (judgeTests P E) long)
 
   entry-witness : (i : ℕ) → found ≡ fault Irreversible i → EntryWitness P E i after
-  unfolding found differs
+  unfolding found differsUnder
   entry-witness i e = go (below-or-not (length before) PAGE)
     where
       long-page : PAGE ≤ length before → EntryWitness P E i after

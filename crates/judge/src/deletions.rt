@@ -1,5 +1,4 @@
 // Test 11 over all entries, one entry at a time.
-use candidate::basis::longest_length;
 use candidate::needed::all_needs;
 use claims::entries::is_irreversible;
 use forms::memory::Fault;
@@ -9,6 +8,9 @@ use lost_word::least::no_word;
 use word::limits::DIGITS;
 use word::limits::PATTERNS;
 use word::refusal::Refusal;
+ghost use Prim.Native.Nat.{_≤_};
+ghost use Rattle.word.specs.Ceilings.{DIGITS};
+ghost use Rattle.word.specs.Word.{longest};
 ghost use Rattle.word.specs.Containment.{patternsOf};
 ghost use Rattle.forms.specs.SchemeMemory.{schemeIn};
 ghost use Rattle.claims.specs.EntryMemory.{ProperSet};
@@ -21,17 +23,19 @@ pub struct Loss {
     pub word: LostWord,
 }
 
-// Test 11: the first entry some of whose compared sizes differ.
+// Test 11: the first entry some of whose compared sizes differ. No pattern is longer than m, below
+// which the totals of the compared spacings lie.
 pub fn irreversible_fault(
     set: [[u8; DIGITS]; PATTERNS],
     lengths: [u8; PATTERNS],
     count: usize,
+    m: usize,
     s: Scheme,
 ) -> Loss
-    requires { ⌜ ProperSet set lengths count × Proper (schemeIn s) ⌝ }
-    ensures { λ r. ⌜ Loses (patternsOf set lengths count) (schemeIn s) r ⌝ }
+    requires { ⌜ ProperSet set lengths count × (longest (patternsOf set lengths count) ≤ m) × (m ≤ DIGITS) ×
+        Proper (schemeIn s) ⌝ }
+    ensures { λ r. ⌜ Loses m (patternsOf set lengths count) (schemeIn s) r ⌝ }
 {
-    let m = longest_length(set, lengths, count);
     let needs = all_needs(set, lengths, count);
     let n = s.count;
     let mut i: usize = 0;

@@ -97,7 +97,7 @@ fn formed_fault(patterns: Patterns, scheme: Scheme) -> Fault
 
 // Judges the claims of a well-formed scheme: test 10, then test 11, then the number of compared
 // cells of all entries. Patterns that contain another pattern of the set change no cell, so the
-// tests run on the others.
+// tests run on the others, the basis, and m is the length of its longest pattern.
 pub fn judge_claims(patterns: Patterns, scheme: Scheme) -> Judged
     requires { ⌜ WellFormed (patternsIn patterns) (schemeIn scheme) ⌝ }
     ensures { λ r. ⌜ ClaimsJudged (patternsIn patterns) (schemeIn scheme) r ⌝ }
@@ -113,13 +113,13 @@ pub fn judge_claims(patterns: Patterns, scheme: Scheme) -> Judged
     if is_fault(live) {
         return refused(live, no_word());
     }
-    let loss = irreversible_fault(basis_rows, sizes, n, scheme);
+    let m = longest_length(basis_rows, sizes, n);
+    let loss = irreversible_fault(basis_rows, sizes, n, m, scheme);
     let fault = loss.fault;
     let word = loss.word;
     if is_fault(fault) {
         return refused(fault, word);
     }
-    let m = longest_length(rows, lengths, count);
     let last = scheme.count;
     let mut cells: usize = 0;
     let mut i: usize = 0;

@@ -18,7 +18,7 @@ use Rattle.word.specs.Word.{before, has, entry}
 use Rattle.word.specs.Containment.{patternsOf}
 use Rattle.word.specs.CopyLaws.{found, entries}
 use Rattle.word.specs.ListLaws.{true-not-false, first-some}
-use Rattle.cell.specs.Cell.{total, without, compared}
+use Rattle.cell.specs.Cell.{total, without, comparedTo}
 use Rattle.cell.specs.Built.{built}
 use Rattle.cell.specs.Candidate.{violates, violated, restOf, violatedFirst, lostWords, leastOf, leastAt, leastCandidate}
 use Rattle.candidate.specs.Lookup.{VALUES, needAt, flagged}
@@ -227,19 +227,19 @@ unfolding violated lostWords
 least-found P p R g e = some-lost P p R g P e
 
 -- what is shown of an entry, by where the first violation was found
-module _ (P : List (List ℕ)) (p : List ℕ) (B : List (List ℕ)) (R : List ℕ) (k : ℕ) (r : Lost)
-    (at : FoundAt k (violatedFirst P p B R) r) where
-  pub candidate-none : r .found ≡ false → leastCandidate P p B R ≡ none
+module _ (m : ℕ) (P : List (List ℕ)) (p : List ℕ) (B : List (List ℕ)) (R : List ℕ) (k : ℕ) (r : Lost)
+    (at : FoundAt k (violatedFirst m P p B R) r) where
+  pub candidate-none : r .found ≡ false → leastCandidate m P p B R ≡ none
   unfolding leastCandidate
-  candidate-none h = go (violatedFirst P p B R) at
+  candidate-none h = go (violatedFirst m P p B R) at
     where
       go : (o : Option (List ℕ)) → FoundAt k o r → leastAt P p R o ≡ none
       go none e = refl
       go (some g) e = absurd (true-not-false (sym (e .0) ∙ h))
 
-  pub candidate-some : r .found ≡ true → leastCandidate P p B R ≡ leastOf none (lostWords P p R (take (k + 1) (r .spacing)))
+  pub candidate-some : r .found ≡ true → leastCandidate m P p B R ≡ leastOf none (lostWords P p R (take (k + 1) (r .spacing)))
   unfolding leastCandidate
-  candidate-some h = go (violatedFirst P p B R) at
+  candidate-some h = go (violatedFirst m P p B R) at
     where
       go : (o : Option (List ℕ)) → FoundAt k o r → leastAt P p R o ≡ leastOf none (lostWords P p R (take (k + 1) (r .spacing)))
       go none e = absurd (true-not-false (sym h ∙ e))
@@ -247,13 +247,13 @@ module _ (P : List (List ℕ)) (p : List ℕ) (B : List (List ℕ)) (R : List �
 
   pub candidate-found : r .found ≡ true → found (leastOf none (lostWords P p R (take (k + 1) (r .spacing)))) ≡ true
   unfolding violatedFirst
-  candidate-found h = go (violatedFirst P p B R) refl at
+  candidate-found h = go (violatedFirst m P p B R) refl at
     where
-      go : (o : Option (List ℕ)) → violatedFirst P p B R ≡ o → FoundAt k o r →
+      go : (o : Option (List ℕ)) → violatedFirst m P p B R ≡ o → FoundAt k o r →
           found (leastOf none (lostWords P p R (take (k + 1) (r .spacing)))) ≡ true
       go none q e = absurd (true-not-false (sym h ∙ e))
       go (some g) q e =
-          rw (e .1) (least-found P p R g (first-some (violated P p R) (compared P (length p) B) g q .1))
+          rw (e .1) (least-found P p R g (first-some (violated P p R) (comparedTo m (length p) B) g q .1))
 
 pub shows-found : (o : Option (List ℕ)) (r : LostWord) → ShowsWord o r → r .found ≡ found o
 shows-found none r e = e

@@ -16,7 +16,8 @@ use Rattle.word.specs.Lists.{any, row}
 use Rattle.word.specs.Word.{isPerm}
 use Rattle.word.specs.Finding.{clean}
 use Rattle.word.specs.declared.refusal.Refusal.the-variants.{Oversize, NoPermutation, NoPosition}
-use Rattle.cell.specs.Cell.{same, deleted, children}
+use Rattle.cell.specs.Basis.{same}
+use Rattle.cell.specs.Cell.{deleted, children}
 use Rattle.cell.specs.Child.{childAt}
 use Rattle.forms.specs.SchemeList.{EntryList}
 use Rattle.forms.specs.SchemeMemory.{padded, noEntry, entryIn, doesOf, schemeIn}

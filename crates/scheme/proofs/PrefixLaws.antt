@@ -17,7 +17,8 @@ use Rattle.word.specs.ListLaws.{not-in, getD-mem, map-same, any-map, row-out, r
 use Rattle.word.specs.Vocabulary.{unbump}
 use Rattle.word.specs.BumpLaws.{Bumped, stays, moves, bumped, unbump-below, unbump-above}
 use Rattle.word.specs.PermLaws.{perm-bounds, under-perm}
-use Rattle.cell.specs.Cell.{same, without, deleted, children}
+use Rattle.cell.specs.Basis.{same}
+use Rattle.cell.specs.Cell.{without, deleted, children}
 use Rattle.cell.specs.BuiltLaws.{getD-map}
 use Rattle.cell.specs.BuiltCells.{same-out, same-in}
 use Rattle.cell.specs.Child.{childAt}

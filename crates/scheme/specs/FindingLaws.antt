@@ -1,7 +1,7 @@
 -- Laws of tests in a row: when none of them finds a fault, and what that says of each item.
 use Prim.Native.Nat.{ℕ, suc}
 use native.Mathlib.Omega.{arith}
-use mathlib.Core.Path.{_≡_, refl, sym, ap, _∙_}
+use mathlib.Core.Path.{_≡_, refl, sym, ap, ap₂, _∙_}
 use mathlib.Core.Bool.{Bool, true, false, cond}
 use mathlib.Core.List.{List, [], _∷_, _++_, List·Memᴰ, List·Memᴰ·head, List·Memᴰ·tail, List·Memᴰ·not-nil, List·Memᴰ·cases-cons}
 use mathlib.Core.Logic.{_↔_, _⊎_, inl, inr}
@@ -71,6 +71,14 @@ module _ {A : Type 0} (r : Refusal) (f : A → Bool) where
   pub first-in : (i : ℕ) (l : List A) → ((x : A) → List·Memᴰ x l → f x ≡ false) → firstAt r f i l ≡ clean
   first-in i [] h = refl
   first-in i (x ∷ l) h = rw (h x (List·Memᴰ·head refl)) (first-in (suc i) l (λ y m. h y (List·Memᴰ·tail m)))
+
+-- tests that agree on the items find the same
+pub first-same : {A : Type 0} (r : Refusal) (f g : A → Bool) (i : ℕ) (l : List A) →
+    ((x : A) → List·Memᴰ x l → f x ≡ g x) → firstAt r f i l ≡ firstAt r g i l
+first-same r f g i [] h = refl
+first-same r f g i (x ∷ l) h =
+    ap₂ (λ (b : Bool) (y : Finding). cond b (fault r i) y) (h x (List·Memᴰ·head refl))
+    (first-same r f g (suc i) l (λ y m. h y (List·Memᴰ·tail m)))
 
 -- no element passes
 pub none-out : {A : Type 0} (f : A → Bool) {x : A} {l : List A} → any f l ≡ false → List·Memᴰ x l → f x ≡ false

@@ -5,6 +5,7 @@ pub mod Sized
 pub mod Links
 pub mod TestLaws
 pub mod FindingLaws
+pub mod NumberLaws
 pub mod Proper
 pub mod ProperLaws
 pub mod EntryMemoryLaws

@@ -10,7 +10,8 @@ use lib.Dec.{eqb}
 use Rattle.word.specs.Ceilings.{ENTRIES, PREFIX}
 use Rattle.word.specs.Lists.{any}
 use Rattle.word.specs.Word.{isPerm}
-use Rattle.cell.specs.Cell.{same, children}
+use Rattle.cell.specs.Basis.{same}
+use Rattle.cell.specs.Cell.{children}
 use Rattle.forms.specs.SchemeList.{EntryList}
 use Rattle.forms.specs.Codes.{Codes}
 use Rattle.forms.specs.SchemeMemory.{padded, noEntry, doesOf, schemeIn}

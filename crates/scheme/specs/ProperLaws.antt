@@ -16,7 +16,8 @@ use Rattle.word.specs.PermLaws.{within-in}
 use Rattle.word.specs.Containment.{isPattern}
 use Rattle.word.specs.Finding.{clean, firstFault}
 use Rattle.word.specs.declared.refusal.Refusal.the-variants.{Oversize, NoPermutation, Rootless, Width, NoPosition, Childless, NoTarget}
-use Rattle.cell.specs.Cell.{same, total, children}
+use Rattle.cell.specs.Basis.{same}
+use Rattle.cell.specs.Cell.{total, children}
 use Rattle.cell.specs.BuiltCells.{same-out}
 use Rattle.cell.specs.Child.{childAt}
 use Rattle.cell.specs.ChildLaws.{child-length, children-all}

@@ -13,7 +13,8 @@ use Rattle.word.specs.Finding.{Finding, clean, fault, test}
 use Rattle.word.specs.declared.refusal.Refusal.{Refusal}
 use Rattle.word.specs.declared.refusal.Refusal.the-variants.{Oversize, NoPermutation, Repeated, Rootless, Width}
 use Rattle.word.specs.declared.refusal.Refusal.the-variants.{NoPosition, Childless, NoTarget}
-use Rattle.cell.specs.Cell.{same, total, deleted, children}
+use Rattle.cell.specs.Basis.{same}
+use Rattle.cell.specs.Cell.{total, deleted, children}
 use Rattle.forms.specs.SchemeList.{Does, expands, deletes, EntryList}
 
 -- the first item at fault refuses, with its index counted from i

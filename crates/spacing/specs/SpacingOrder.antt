@@ -148,9 +148,3 @@ spacings-bound k m h l =
     let power : DIGITS ^ suc k ≤ DIGITS ^ COMPONENTS =
     pow-le-pow-right {n = DIGITS} (omega arith) {i = suc k} {j = COMPONENTS} (omega arith) in
     omega (arith, most, mul-le-mul {n₁ = m} {m₁ = DIGITS ^ suc k} {n₂ = DIGITS} {m₂ = DIGITS ^ COMPONENTS} l power)
-
--- the compared spacings of an entry of length k, where the longest pattern has length m
-pub compared-by : (P : List (List ℕ)) (k : ℕ) (B : List (List ℕ)) (m : ℕ) → mOf P ≡ m →
-    keep (free B) (each (vectors (suc k)) (row 0 m)) ≡ compared P k B
-unfolding compared
-compared-by P k B m e = ap (λ (n : ℕ). keep (free B) (each (vectors (suc k)) (row 0 n))) (sym e)

@@ -8,8 +8,8 @@ ghost use mathlib.Core.Path.{_≡_};
 ghost use Prim.Native.Nat.{suc, _+_, _<_, _≤_};
 ghost use lib.ListN.{length, take};
 ghost use Rattle.word.specs.Ceilings.{DIGITS, COMPONENTS};
-ghost use Rattle.word.specs.Lists.{keep, each, row};
-ghost use Rattle.cell.specs.Cell.{total, atLeast, free, vectors};
+ghost use Rattle.word.specs.Lists.{keep};
+ghost use Rattle.cell.specs.Cell.{total, atLeast, free, vectors, comparedTo};
 ghost use Rattle.forms.specs.GapRows.{vectorAt, gapsOf, HasVectors};
 ghost use Rattle.spacing.specs.Following.{firstVector, Steps};
 
@@ -119,7 +119,7 @@ fn free_count(gaps: &[u8], n: usize, k: usize, t: u8) -> usize
 // least none of the first n gap vectors.
 pub fn compared_count(m: usize, k: usize, gaps: &[u8], n: usize) -> usize
     requires { ⌜ (k < COMPONENTS) × (m ≤ DIGITS) × HasVectors (now gaps) n ⌝ }
-    ensures { λ r. ⌜ r ≡ length (keep (free (gapsOf (now (gaps .entry)) (k + 1) n)) (each (vectors (suc k)) (row 0 m))) ⌝ }
+    ensures { λ r. ⌜ r ≡ length (comparedTo m k (gapsOf (now (gaps .entry)) (k + 1) n)) ⌝ }
 {
     let mut count: usize = 0;
     let mut t: usize = 0;

@@ -1,5 +1,5 @@
--- The starred examples of document 01, and examples of order 1 of document 02: one table, and one
--- theorem for all of it.
+-- The starred examples of document 01, and examples of orders 1 and 3 of document 02: one table, and
+-- one theorem for all of it.
 use Prim.Native.Nat.{ℕ, suc}
 use Prim.Native.String.{String}
 use mathlib.Core.Path.{_≡_, refl}
@@ -16,7 +16,8 @@ use Rattle.word.specs.Containment.{containment}
 use Rattle.word.specs.declared.containment.Contained.{Contained}
 use Rattle.word.specs.declared.containment.Contained.the-variants.{Yes, No}
 use Rattle.word.specs.declared.refusal.Refusal.the-variants.{Rootless, LiveGap, Irreversible}
-use Rattle.cell.specs.Cell.{spacing, cell, deleted, merged, vectors, free, same, total, children, compared}
+use Rattle.cell.specs.Basis.{same, basis}
+use Rattle.cell.specs.Cell.{spacing, cell, deleted, merged, vectors, free, total, children, mOf, comparedTo}
 use Rattle.forms.specs.SchemeList.{Does, expands, deletes, EntryList}
 use Rattle.forms.specs.SchemeMemory.{patternsIn, schemeIn}
 use Rattle.forms.specs.declared.memory.Fault.{Fault}
@@ -28,11 +29,11 @@ use Rattle.text_gaps.specs.GapMemory.{partsOfAll, widthsOf}
 use Rattle.text_schemes.specs.SchemeLoaded.{loadedScheme}
 use Rattle.notation.specs.PatternAnswers.{patternsAnswer}
 use Rattle.notation.specs.SchemeAnswers.{schemeAnswer}
-use Rattle.verdict.specs.Verdict.{verdictOf, toldVerdict, comparedCells, liveGap, differs, sizesDiffer, comparedWith}
+use Rattle.verdict.specs.Verdict.{verdictOf, toldVerdict, comparedCellsUnder, liveGap, differsUnder, sizesDiffer, comparedWithUnder}
 use Rattle.verdict.specs.declared.answer.Verdict.{Verdict}
 use Rattle.verdict.specs.declared.answer.Verdict.the-variants.{Accepted, Refused}
 use Rattle.judge.specs.TextJudgement.{verdictOfTexts, verdictReadOn, pageRead}
-use Rattle.verdict.specs.Witness.{shownWord}
+use Rattle.verdict.specs.Witness.{shownWordUnder, shownWord}
 use Rattle.verdict.specs.Value.{countOf}
 use Rattle.starred.specs.Utf8.{bytes}
 
@@ -58,6 +59,8 @@ pub data Question : Type 0 where
   showing : (patterns : List (List ℕ)) (prefix : List ℕ) (vectors : List (List ℕ)) (positions : List ℕ) → Question
   -- with what are the texts refused, and what does a page of so many bytes 7 hold afterwards?
   judgingPage : (patterns scheme : String) (size : ℕ) → Question
+  -- the number of cells that are compared under this m
+  comparingUnder : (m : ℕ) (E : List EntryList) → Question
   -- the verdict and the count on the texts of the set and of the scheme
   judgingTexts : (patterns scheme : String) → Question
   countingTexts : (patterns scheme : String) (n : ℕ) → Question
@@ -101,8 +104,8 @@ abbrev sevens : ℕ → List ℕ
 sevens n = replicate n 7
 
 unfoldable pub answer : Question → Answer
-unfolding shownWord earliest countOf firstCopy isPerm reduce spacing shorterSize vectors free total children deleted merged cell
-    compared comparedCells liveGap differs sizesDiffer comparedWith tokens tokensAfter tokenAt readPatterns
+unfolding shownWordUnder earliest countOf firstCopy isPerm reduce spacing shorterSize vectors free total children deleted merged cell
+    basis mOf comparedTo comparedCellsUnder liveGap differsUnder sizesDiffer comparedWithUnder tokens tokensAfter tokenAt readPatterns
     readEntries itemsOf same loadedPatterns loadedScheme bytes partsOfAll widthsOf
 answer (containsPattern w β) = contained ((containment β w) .contained)
 answer (firstEntries n u) = prefixAndSpacing (reduce u) (spacing n u)
@@ -117,6 +120,7 @@ answer (showing P p B R) = shownIn P (shownWord P p B R)
 answer (judgingPage s t n) =
     holdsPage ((toldVerdict (verdictReadOn n (patternsAnswer (bytes s)) (schemeAnswer (bytes t)))) .number)
     (pageRead (patternsAnswer (bytes s)) (schemeAnswer (bytes t)) (sevens n))
+answer (comparingUnder m E) = countIs (comparedCellsUnder m E)
 answer (judgingTexts s t) = toldAs (toldVerdict (verdictOfTexts (bytes s) (bytes t)))
 answer (countingTexts s t n) = countIs (countOf (patternsIn ((patternsAnswer (bytes s)) .patterns))
     (schemeIn ((schemeAnswer (bytes t)) .scheme)) n)
@@ -133,6 +137,10 @@ abbrev scheme123 : ℕ → List EntryList
 scheme123 r =
     entry [] [] expands ∷ entry (1 ∷ []) [] expands ∷ entry (1 ∷ 2 ∷ []) ((0 ∷ 0 ∷ 1 ∷ []) ∷ []) (deletes r) ∷ entry
     (2 ∷ 1 ∷ []) [] (deletes 1) ∷ []
+
+-- the set {12345}, which is superfluous beside {123}
+abbrev set12345 : List (List ℕ)
+set12345 = (1 ∷ 2 ∷ 3 ∷ 4 ∷ 5 ∷ []) ∷ []
 
 -- `{(ε,∅,∅),(1,∅,{1})}` with these gap vectors on ε and on 1
 abbrev scheme1 : List (List ℕ) → List (List ℕ) → List EntryList
@@ -208,6 +216,13 @@ starred =
       told = holdsPage 13 (sevens 31);
     } ∷
     record { asked = judgingPage "{123" "{(ε,∅,∅)}" 32; told = holdsPage 1 (sevens 32) } ∷
+    -- order 3 of document 02: {123,12345} and {12345,123} with the scheme of {123}, "and our m is 5
+    -- where the literature has 3": accepted, 16 compared cells; under 5 there are 50
+    record { asked = judging (set123 ++ set12345) (scheme123 2); told = verdictIs (Accepted 16) } ∷
+    record { asked = judging (set12345 ++ set123) (scheme123 2); told = verdictIs (Accepted 16) } ∷
+    record { asked = judgingTexts "{123,12345}" "{(ε,∅,∅),(1,∅,∅),(12,{⟨0,0,1⟩},{2}),(21,∅,{1})}"; told = tells 0 (16 ∷ []) } ∷
+    record { asked = judgingTexts "{12345,123}" "{(ε,∅,∅),(1,∅,∅),(12,{⟨0,0,1⟩},{2}),(21,∅,{1})}"; told = tells 0 (16 ∷ []) } ∷
+    record { asked = comparingUnder 5 (scheme123 2); told = countIs 50 } ∷
     []
 
 -- every row of the table holds

@@ -108,7 +108,7 @@ module _ (t : Three) (w : TextsTrue (t .set) (t .scheme)) where
   claims-so : faultOf (firstFault (claimTests (patternsIn (p .patterns)) (schemeIn (q .scheme)))) ≡ Clean
   claims-so = ap₂ (λ (P : List (List ℕ)) (E : List EntryList). faultOf (firstFault (claimTests P E)))
       (set-list (t .set) (t .scheme) w p reads) (scheme-list (t .set) (t .scheme) w q reads-scheme) ∙
-      ap faultOf (claims-clean (w .patterns) (w .scheme) (w .formed .scheme) (w .claims))
+      ap faultOf (claims-clean (w .patterns) (w .scheme) (w .formed .patterns) (w .formed .scheme) (w .claims))
 
   accepted-so : faultIn (verdictOfTexts (t .set) (t .scheme)) ≡ Clean
   accepted-so =

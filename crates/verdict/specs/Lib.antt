@@ -4,6 +4,7 @@ pub mod Truth
 pub mod Witness
 pub mod VerdictLaws
 pub mod WitnessLaws
+pub mod SameVerdictLaws
 pub mod Value
 pub mod Size
 pub mod ValueLaws

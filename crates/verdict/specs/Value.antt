@@ -6,7 +6,8 @@ use mathlib.Core.Option.{Option, none, some}
 use lib.Dec.{eqb}
 use Rattle.word.specs.Lists.{first, oneTo}
 use Rattle.word.specs.Word.{avoids}
-use Rattle.cell.specs.Cell.{same, total, deleted, merged, free}
+use Rattle.cell.specs.Basis.{same}
+use Rattle.cell.specs.Cell.{total, deleted, merged, free}
 use Rattle.cell.specs.Child.{slot, childAt, split}
 use Rattle.forms.specs.SchemeList.{Does, expands, deletes, EntryList}
 

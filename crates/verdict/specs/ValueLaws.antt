@@ -16,7 +16,8 @@ use Rattle.word.specs.Word.{avoids, isPerm, perms, avoiders}
 use Rattle.word.specs.ListLaws.{true-not-false, all-fails, map-same, row-out}
 use Rattle.word.specs.Vocabulary.{factorial}
 use Rattle.word.specs.PermLaws.{perms-are, perm-bounds}
-use Rattle.cell.specs.Cell.{same, total, cell, deleted, merged, free, atLeast}
+use Rattle.cell.specs.Basis.{same}
+use Rattle.cell.specs.Cell.{total, cell, deleted, merged, free, atLeast}
 use Rattle.cell.specs.Claim.{DeletionClaim}
 use Rattle.cell.specs.Child.{slot, childAt, split}
 use Rattle.cell.specs.Built.{built, lift}

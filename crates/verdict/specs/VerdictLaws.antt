@@ -1,6 +1,6 @@
 -- The theorem on the verdict: a scheme is accepted exactly if it is well-formed and all its claims
 -- are true at every length.
-use Prim.Native.Nat.{ℕ}
+use Prim.Native.Nat.{ℕ, _≤_}
 use mathlib.Core.Path.{_≡_, refl, sym, ap, _∙_}
 use mathlib.Core.Bool.{Bool, true, false, not}
 use mathlib.Core.List.{List, [], _∷_, _++_, List·Memᴰ, List·Memᴰ·head, List·Memᴰ·tail}
@@ -9,21 +9,23 @@ use lib.ListN.{length}
 use lib.Dec.{eqb}
 use borrow.Author.Tests.{eqb-true, eq-eqb}
 use Rattle.word.specs.Lists.{any}
-use Rattle.word.specs.Word.{isPerm}
+use Rattle.word.specs.Word.{longest, isPerm}
 use Rattle.word.specs.ListLaws.{true-not-false}
 use Rattle.word.specs.Finding.{Finding, clean, fault, firstFault}
 use Rattle.word.specs.declared.refusal.Refusal.the-variants.{LiveGap, Irreversible}
-use Rattle.cell.specs.Cell.{cell, deleted, merged, compared}
-use Rattle.cell.specs.Claim.{GapClaim, SizesAgree}
-use Rattle.cell.specs.Theorems.{gap-law, finite-law}
+use Rattle.cell.specs.Basis.{basis}
+use Rattle.cell.specs.Cell.{cell, deleted, merged, mOf, comparedTo}
+use Rattle.cell.specs.Claim.{GapClaim, SizesAgreeTo}
+use Rattle.cell.specs.Theorems.{gap-law}
+use Rattle.cell.specs.BasisLaws.{m-reaches, finite-basis}
 use Rattle.forms.specs.SchemeList.{Does, expands, deletes, EntryList}
 use Rattle.scheme.specs.WellFormed.{firstAt, outside, patternTests, schemeTests}
 use Rattle.forms.specs.SchemeMemory.{faultOf}
-use Rattle.verdict.specs.Verdict.{isEmpty, liveGap, sizesDiffer, differs, claimTests, comparedCells}
+use Rattle.verdict.specs.Verdict.{isEmpty, liveGap, sizesDiffer, differsUnder, differs, claimTests, comparedCells}
 use Rattle.verdict.specs.Verdict.{judgeTests, answered, verdictOf, accepted}
 use Rattle.verdict.specs.Truth.{WellFormed, RuleClaim, AllTrue}
 use Rattle.scheme.specs.FindingLaws.{clean-in, clean-left, clean-right, clean-append, clean-two, first-out, first-in, none-out, none-in}
-use Rattle.scheme.specs.ProperLaws.{proper, position-inside}
+use Rattle.scheme.specs.ProperLaws.{proper, proper-pattern, position-inside}
 
 -- a list is empty or not
 pub empty-out : (l : List (List ℕ)) → not (isEmpty l) ≡ false → l ≡ []
@@ -60,26 +62,35 @@ pub same-sizes : (P : List (List ℕ)) (p R g : List ℕ) → length (cell P p g
 unfolding sizesDiffer
 same-sizes P p R g e = ap not (eq-eqb (length (cell P p g)) (length (cell P (deleted R p) (merged R p g))) e)
 
--- the sizes agree at all compared spacings
-pub sizes-agree : (P : List (List ℕ)) (p : List ℕ) (B : List (List ℕ)) (R : List ℕ) →
-    (any (sizesDiffer P p R) (compared P (length p) B) ≡ false) ↔ SizesAgree P p B R
-sizes-agree P p B R = (
-  λ e g m. sizes-same P p R g (none-out (sizesDiffer P p R) e m),
-  λ h. none-in (sizesDiffer P p R) (compared P (length p) B) (λ g m. same-sizes P p R g (h g m)),
+-- the sizes agree at all spacings that are compared under m
+pub sizes-agree : (m : ℕ) (P : List (List ℕ)) (p : List ℕ) (B : List (List ℕ)) (R : List ℕ) →
+    (any (sizesDiffer P p R) (comparedTo m (length p) B) ≡ false) ↔ SizesAgreeTo m P p B R
+sizes-agree m P p B R = (
+  λ e g d. sizes-same P p R g (none-out (sizesDiffer P p R) e d),
+  λ h. none-in (sizesDiffer P p R) (comparedTo m (length p) B) (λ g d. same-sizes P p R g (h g d)),
 )
 
--- No compared sizes differ exactly if the claim of the rule is true.
-pub differs-law : (P : List (List ℕ)) (p : List ℕ) (B : List (List ℕ)) (rule : Does) → isPerm p ≡ true → outside (length p) rule ≡ false →
-    (differs P p B rule ≡ false) ↔ RuleClaim P p B rule
-unfolding differs
-differs-law P p B expands perm inside = (λ e. tt, λ h. refl)
-differs-law P p B (deletes r) perm inside =
-    let (there, back) = sizes-agree P p B (r ∷ []) in
-    let (up, down) = finite-law P p (r ∷ []) perm (position-inside (length p) r inside) B in
+-- No sizes that are compared under m differ exactly if the claim of the rule is true, for every m
+-- that is at least the length of the longest pattern of the basis.
+pub differs-law : (m : ℕ) (P : List (List ℕ)) → longest (basis P) ≤ m → ((β : List ℕ) → List·Memᴰ β P → isPerm β ≡ true) →
+    (p : List ℕ) (B : List (List ℕ)) (rule : Does) → isPerm p ≡ true → outside (length p) rule ≡ false →
+    (differsUnder m P p B rule ≡ false) ↔ RuleClaim P p B rule
+unfolding differsUnder
+differs-law m P reach each-perm p B expands perm inside = (λ e. tt, λ h. refl)
+differs-law m P reach each-perm p B (deletes r) perm inside =
+    let (there, back) = sizes-agree m P p B (r ∷ []) in
+    let (up, down) = finite-basis P each-perm m reach p (r ∷ []) perm (position-inside (length p) r inside) B in
     (λ e. up (there e), λ h. back (down h))
 
 -- the tests 10 and 11 find nothing exactly if all claims are true
-module _ (P : List (List ℕ)) (E : List EntryList) (formed : firstFault (schemeTests E) ≡ clean) where
+module _ (P : List (List ℕ)) (E : List EntryList) (patterns : firstFault (patternTests P) ≡ clean)
+    (formed : firstFault (schemeTests E) ≡ clean) where
+  differs-exactly : (e : EntryList) → List·Memᴰ e E →
+      (differs P (e .prefix) (e .gaps) (e .rule) ≡ false) ↔ RuleClaim P (e .prefix) (e .gaps) (e .rule)
+  differs-exactly e m =
+      let q = proper E formed .each e m in
+      differs-law (mOf P) P (m-reaches P) (λ β n. proper-pattern P patterns β n .perm) (e .prefix) (e .gaps) (e .rule) (q .perm) (q .inside)
+
   pub claims-true : firstFault (claimTests P E) ≡ clean → AllTrue P E
   claims-true c e m =
       let q = proper E formed .each e m in
@@ -89,7 +100,7 @@ module _ (P : List (List ℕ)) (E : List EntryList) (formed : firstFault (scheme
             (first-out LiveGap (λ (d : EntryList). liveGap P (d .prefix) (d .gaps)) 0
             (clean-in (claimTests P E) (List·Memᴰ·head refl) c) m);
         rule =
-            differs-law P (e .prefix) (e .gaps) (e .rule) (q .perm) (q .inside) .0
+            differs-exactly e m .0
             (first-out Irreversible (λ (d : EntryList). differs P (d .prefix) (d .gaps) (d .rule)) 0
             (clean-in (claimTests P E) (List·Memᴰ·tail (List·Memᴰ·head refl)) c) m);
       }
@@ -101,7 +112,7 @@ module _ (P : List (List ℕ)) (E : List EntryList) (formed : firstFault (scheme
       (first-in LiveGap (λ (d : EntryList). liveGap P (d .prefix) (d .gaps)) 0 E
       (λ e m. live-law P (e .prefix) (e .gaps) (proper E formed .each e m .perm) .1 (h e m .gaps)))
       (first-in Irreversible (λ (d : EntryList). differs P (d .prefix) (d .gaps) (d .rule)) 0 E
-      (λ e m. let q = proper E formed .each e m in differs-law P (e .prefix) (e .gaps) (e .rule) (q .perm) (q .inside) .1 (h e m .rule)))
+      (λ e m. differs-exactly e m .1 (h e m .rule)))
 
 -- an answer accepts exactly if no test finds a fault
 pub accepted-clean : (x : Finding) (n : ℕ) → accepted (answered (faultOf x) n) ≡ true → x ≡ clean
@@ -119,13 +130,14 @@ accepted-exactly P E = (there, back)
     there a =
         let c = accepted-clean (firstFault (judgeTests P E)) (comparedCells P E) a in
         let s = clean-right (patternTests P) (schemeTests E ++ claimTests P E) c in
+        let b = clean-left (patternTests P) (schemeTests E ++ claimTests P E) c in
         let f = clean-left (schemeTests E) (claimTests P E) s in (
-          record { patterns = clean-left (patternTests P) (schemeTests E ++ claimTests P E) c; scheme = f },
-          claims-true P E f (clean-right (schemeTests E) (claimTests P E) s),
+          record { patterns = b; scheme = f },
+          claims-true P E b f (clean-right (schemeTests E) (claimTests P E) s),
         )
 
     back : WellFormed P E × AllTrue P E → accepted (verdictOf P E) ≡ true
     back h =
         ap accepted (clean-accepted (firstFault (judgeTests P E)) (comparedCells P E)
         (clean-append (patternTests P) (schemeTests E ++ claimTests P E) (h .0 .patterns) ∙
-        clean-append (schemeTests E) (claimTests P E) (h .0 .scheme) ∙ claims-clean P E (h .0 .scheme) (h .1)))
+        clean-append (schemeTests E) (claimTests P E) (h .0 .scheme) ∙ claims-clean P E (h .0 .patterns) (h .0 .scheme) (h .1)))

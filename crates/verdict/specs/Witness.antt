@@ -11,7 +11,8 @@ use Rattle.word.specs.Lists.{first}
 use Rattle.word.specs.Word.{contains, firstCopy, avoids, reduce, isPerm, perms, before}
 use Rattle.word.specs.Earliest.{earliest, positionsOf}
 use Rattle.word.specs.Refusal.{numberOf}
-use Rattle.cell.specs.Cell.{same, total, spacing, cell, deleted, merged, compared}
+use Rattle.cell.specs.Basis.{same}
+use Rattle.cell.specs.Cell.{total, spacing, cell, deleted, merged, mOf, comparedTo}
 use Rattle.forms.specs.SchemeList.{Does, expands, deletes, EntryList}
 use Rattle.forms.specs.declared.memory.Fault.{Fault}
 use Rattle.forms.specs.declared.memory.Fault.the-variants.{Clean, At}
@@ -30,9 +31,9 @@ lost P p R g w =
 -- "Among the compared spacings, the one shown has the least total of spacing, then the least
 -- spacing of the refused entry" (02): the compared spacings go by rising total and are
 -- lexicographic within a total
-unfoldable pub shownSpacing : List (List ℕ) → List ℕ → List (List ℕ) → List ℕ → Option (List ℕ)
-unfolding sizesDiffer compared
-shownSpacing P p B R = first (sizesDiffer P p R) (compared P (length p) B)
+unfoldable pub shownSpacingUnder : ℕ → List (List ℕ) → List ℕ → List (List ℕ) → List ℕ → Option (List ℕ)
+unfolding sizesDiffer comparedTo
+shownSpacingUnder m P p B R = first (sizesDiffer P p R) (comparedTo m (length p) B)
 
 -- "then the least permutation, both lexicographic" (02)
 unfoldable pub shownAt : List (List ℕ) → List ℕ → List ℕ → Option (List ℕ) → Option (List ℕ)
@@ -40,9 +41,9 @@ unfolding lost perms total
 shownAt P p R none = none
 shownAt P p R (some g) = first (lost P p R g) (perms (length p + total g))
 
-unfoldable pub shownWord : List (List ℕ) → List ℕ → List (List ℕ) → List ℕ → Option (List ℕ)
-unfolding shownSpacing shownAt
-shownWord P p B R = shownAt P p R (shownSpacing P p B R)
+unfoldable pub shownWordUnder : ℕ → List (List ℕ) → List ℕ → List (List ℕ) → List ℕ → Option (List ℕ)
+unfolding shownSpacingUnder shownAt
+shownWordUnder m P p B R = shownAt P p R (shownSpacingUnder m P p B R)
 
 -- "The first 16 bytes hold its length, its entries and zeros; the next 16 hold the length of a copy
 -- in it, the copy's positions and zeros" (02)
@@ -54,9 +55,9 @@ witnessBytes P none = []
 witnessBytes P (some w) = half w ++ half (positionsOf (earliest P w))
 
 -- the permutation that is shown for an entry; an expanding entry loses none
-abbrev pub ruleWord : List (List ℕ) → List ℕ → List (List ℕ) → Does → Option (List ℕ)
-ruleWord P p B expands = none
-ruleWord P p B (deletes r) = shownWord P p B (r ∷ [])
+abbrev pub ruleWordUnder : ℕ → List (List ℕ) → List ℕ → List (List ℕ) → Does → Option (List ℕ)
+ruleWordUnder m P p B expands = none
+ruleWordUnder m P p B (deletes r) = shownWordUnder m P p B (r ∷ [])
 
 -- the entry at an index, counted from 0
 abbrev pub indexedEntry : List EntryList → ℕ → Option EntryList
@@ -64,19 +65,38 @@ indexedEntry [] i = none
 indexedEntry (e ∷ E) zero = some e
 indexedEntry (e ∷ E) (suc i) = indexedEntry E i
 
-abbrev pub entryWord : List (List ℕ) → Option EntryList → Option (List ℕ)
-entryWord P none = none
-entryWord P (some e) = ruleWord P (e .prefix) (e .gaps) (e .rule)
+abbrev pub entryWordUnder : ℕ → List (List ℕ) → Option EntryList → Option (List ℕ)
+entryWordUnder m P none = none
+entryWordUnder m P (some e) = ruleWordUnder m P (e .prefix) (e .gaps) (e .rule)
 
 -- "With refusal 11 the judge's lent page .. receives a witness for the refused entry" (02): the
 -- permutation that is shown with a finding; none without refusal 11
-abbrev pub wordShown : List (List ℕ) → List EntryList → Fault → Option (List ℕ)
-wordShown P E Clean = none
-wordShown P E (At r i) = cond (eqb (numberOf r) 11) (entryWord P (indexedEntry E i)) none
+abbrev pub wordShownUnder : ℕ → List (List ℕ) → List EntryList → Fault → Option (List ℕ)
+wordShownUnder m P E Clean = none
+wordShownUnder m P E (At r i) = cond (eqb (numberOf r) 11) (entryWordUnder m P (indexedEntry E i)) none
 
 -- the bytes that are written
+abbrev pub bytesShownUnder : ℕ → List (List ℕ) → List EntryList → Fault → List ℕ
+bytesShownUnder m P E f = witnessBytes P (wordShownUnder m P E f)
+
+-- All of these with the m of the set.
+abbrev pub shownSpacing : List (List ℕ) → List ℕ → List (List ℕ) → List ℕ → Option (List ℕ)
+shownSpacing P p B R = shownSpacingUnder (mOf P) P p B R
+
+abbrev pub shownWord : List (List ℕ) → List ℕ → List (List ℕ) → List ℕ → Option (List ℕ)
+shownWord P p B R = shownWordUnder (mOf P) P p B R
+
+abbrev pub ruleWord : List (List ℕ) → List ℕ → List (List ℕ) → Does → Option (List ℕ)
+ruleWord P p B rule = ruleWordUnder (mOf P) P p B rule
+
+abbrev pub entryWord : List (List ℕ) → Option EntryList → Option (List ℕ)
+entryWord P e = entryWordUnder (mOf P) P e
+
+abbrev pub wordShown : List (List ℕ) → List EntryList → Fault → Option (List ℕ)
+wordShown P E f = wordShownUnder (mOf P) P E f
+
 abbrev pub bytesShown : List (List ℕ) → List EntryList → Fault → List ℕ
-bytesShown P E f = witnessBytes P (wordShown P E f)
+bytesShown P E f = bytesShownUnder (mOf P) P E f
 
 -- The same as statements, for whoever reads a page.
 
@@ -95,15 +115,18 @@ earlier h v g w =
 
 -- the page begins with the least word that is lost at a compared spacing, and with the first copy
 -- of the earliest pattern that has one in it
-pub record Witnesses (P : List (List ℕ)) (p : List ℕ) (B : List (List ℕ)) (R page : List ℕ) : Type 0 where
+pub record WitnessesUnder (m : ℕ) (P : List (List ℕ)) (p : List ℕ) (B : List (List ℕ)) (R page : List ℕ) : Type 0 where
   pub at : List ℕ
   pub word : List ℕ
   pub pattern : ℕ
   pub copy : List ℕ
   pub bytes : take PAGE page ≡ half word ++ half copy
-  pub at-compared : List·Memᴰ at (compared P (length p) B)
+  pub at-compared : List·Memᴰ at (comparedTo m (length p) B)
   pub is-lost : IsLost P p R at word
-  pub least : (h v : List ℕ) → List·Memᴰ h (compared P (length p) B) → IsLost P p R h v → earlier h v at word ≡ false
+  pub least : (h v : List ℕ) → List·Memᴰ h (comparedTo m (length p) B) → IsLost P p R h v → earlier h v at word ≡ false
   pub in-set : pattern < length P
   pub copied : firstCopy (getD P pattern []) word ≡ some copy
   pub none-before : (j : ℕ) → j < pattern → contains (getD P j []) word ≡ false
+
+abbrev pub Witnesses : List (List ℕ) → List ℕ → List (List ℕ) → List ℕ → List ℕ → Type 0
+Witnesses P p B R page = WitnessesUnder (mOf P) P p B R page

@@ -7,7 +7,7 @@ use mathlib.Core.Path.{_≡_, refl, sym, ap, ap₂, _∙_}
 use mathlib.Core.Logic.{_↔_, _⊎_, inl, inr}
 use mathlib.Core.Bool.{Bool, true, false, not, cond, _&&_}
 use mathlib.Core.List.{List, [], _∷_, _++_, map, List·Memᴰ, List·Memᴰ·cases-cons, List·Memᴰ·not-nil, List·Memᴰ·append-cases}
-use mathlib.Core.List.{List·Memᴰ·head, Memᴰ·cast, Memᴰ·map, Memᴰ·of-map, Memᴰ·append-right}
+use mathlib.Core.List.{List·Memᴰ·head, List·Memᴰ·tail, Memᴰ·cast, Memᴰ·map, Memᴰ·of-map, Memᴰ·append-right}
 use mathlib.Core.Option.{Option, none, some}
 use lib.ListN.{length, take, drop, replicate, length-take, length-append, length-replicate}
 use lib.Dec.{ltb, eqb}
@@ -23,8 +23,8 @@ use Rattle.word.specs.FirstLaws.{ascends-behind, ascends-in-order}
 use Rattle.word.specs.Earliest.{Earliest, positionsOf}
 use Rattle.word.specs.EarliestLaws.{fails-stands, earliest-is}
 use Rattle.word.specs.Ceilings.{PAGE, HALF}
-use Rattle.cell.specs.Cell.{same, total, spacing, cell, without, deleted, merged, free, mOf, vectors, compared}
-use Rattle.cell.specs.Basis.{basis}
+use Rattle.cell.specs.Basis.{same, basis}
+use Rattle.cell.specs.Cell.{total, spacing, cell, without, deleted, merged, free, comparedTo}
 use Rattle.cell.specs.Built.{built}
 use Rattle.cell.specs.Candidate.{violates, violated, violatedFirst, irreversible, restOf, lostWords, leastOf, leastAt, leastCandidate}
 use Rattle.cell.specs.SpacingWalk.{compared-are, compared-all}
@@ -45,8 +45,8 @@ use Rattle.scheme.specs.FindingLaws.{same-failure, none-in}
 use Rattle.scheme.specs.WellFormed.{listed}
 use Rattle.verdict.specs.Verdict.{sizesDiffer}
 use Rattle.verdict.specs.VerdictLaws.{sizes-same, same-sizes, sizes-agree}
-use Rattle.verdict.specs.Witness.{lost, shownSpacing, shownAt, shownWord, half, witnessBytes}
-use Rattle.verdict.specs.Witness.{indexedEntry, entryWord, wordShown, IsLost, earlier, Witnesses}
+use Rattle.verdict.specs.Witness.{lost, shownSpacingUnder, shownAt, shownWordUnder, half, witnessBytes}
+use Rattle.verdict.specs.Witness.{indexedEntry, entryWord, wordShown, IsLost, earlier, WitnessesUnder}
 
 -- what stands in a list is listed
 listed-out : (l : List (List ℕ)) (x : List ℕ) → listed l x ≡ true → List·Memᴰ x l
@@ -189,29 +189,8 @@ module _ (P : List (List ℕ)) (p R : List ℕ) (perm : isPerm p ≡ true) (insi
             let (σ, q, r) = rest-of-lost w i in
             absurd (true-not-false (sym (sizes-agree-here .0 e σ (r .perm) (r .size) (r .avoiding)) ∙ r .fails))
 
--- The compared spacings of a smaller m are the first of those of a larger.
-row-append : (a m n : ℕ) → row a (m + n) ≡ row a m ++ row (a + m) n
-row-append a zero n = rw (add-zero a, zero-add n) refl
-row-append a (suc m) n = rw (suc-add m n) (ap (λ (l : List ℕ). a ∷ l)
-    (row-append (suc a) m n ∙ ap (λ (b : ℕ). row (suc a) m ++ row b n) (omega arith)))
-
-pub compared-more : (P Q : List (List ℕ)) (k : ℕ) (B : List (List ℕ)) → mOf Q ≤ mOf P →
-    (l : List (List ℕ)) × (compared P k B ≡ compared Q k B ++ l)
-unfolding compared
-compared-more P Q k B h =
-    let m = mOf Q in
-    let n = mOf P - mOf Q in
-    let e : mOf P ≡ m + n = omega arith in (
-      keep (free B) (each (vectors (suc k)) (row (0 + m) n)),
-      ap (λ (t : ℕ). keep (free B) (each (vectors (suc k)) (row 0 t))) e ∙
-          ap (λ (r : List ℕ). keep (free B) (each (vectors (suc k)) r)) (row-append 0 m n) ∙
-          ap (keep (free B)) (each-append (vectors (suc k)) (row 0 m) (row (0 + m) n)) ∙
-          keep-append (free B) (each (vectors (suc k)) (row 0 m)) (each (vectors (suc k)) (row (0 + m) n)),
-    )
-
--- The candidate search shows the spacing and the word of the definition: on the basis, with the
--- basis' own longest length.
-module _ (P : List (List ℕ)) (each-perm : (β : List ℕ) → List·Memᴰ β P → isPerm β ≡ true) (p R : List ℕ) (perm : isPerm p ≡ true)
+-- The candidate search on the basis shows the spacing and the word of the definition, under every m.
+module _ (m : ℕ) (P : List (List ℕ)) (each-perm : (β : List ℕ) → List·Memᴰ β P → isPerm β ≡ true) (p R : List ℕ) (perm : isPerm p ≡ true)
     (inside : all (within (length p)) R ≡ true) (B : List (List ℕ)) where
   Q : List (List ℕ)
   Q = basis P
@@ -232,15 +211,15 @@ module _ (P : List (List ℕ)) (each-perm : (β : List ℕ) → List·Memᴰ β 
       )
 
   -- a spacing of a smaller total stands before one of a larger
-  stands-before : (u : List (List ℕ)) (x : List ℕ) (v : List (List ℕ)) → compared Q (length p) B ≡ u ++ (x ∷ v) →
+  stands-before : (u : List (List ℕ)) (x : List ℕ) (v : List (List ℕ)) → comparedTo m (length p) B ≡ u ++ (x ∷ v) →
       (b : List ℕ) → length b ≡ suc (length p) → free B b ≡ true → total b < total x → List·Memᴰ b u
   stands-before u x v q b size open-b less =
-      let m : List·Memᴰ x (u ++ (x ∷ v)) = Memᴰ·append-right u (List·Memᴰ·head refl) in
-      let (sx, tx, fx) = compared-are Q (length p) B (rw (← q) at m) in
-      go (List·Memᴰ·append-cases u (rw q at (compared-all Q (length p) B b size (omega arith) open-b)))
+      let d : List·Memᴰ x (u ++ (x ∷ v)) = Memᴰ·append-right u (List·Memᴰ·head refl) in
+      let (sx, tx, fx) = compared-are m (length p) B (rw (← q) at d) in
+      go (List·Memᴰ·append-cases u (rw q at (compared-all m (length p) B b size (omega arith) open-b)))
     where
       ascending : ascends (map totalled (u ++ (x ∷ v))) ≡ true
-      ascending = rw (← q) (compared-ascend Q (length p) B)
+      ascending = rw (← q) (compared-ascend m (length p) B)
 
       behind : (b ≡ x) ⊎ List·Memᴰ b v → List·Memᴰ b u
       behind (inl e) = let t : total b ≡ total x = ap total e in absurd (omega arith)
@@ -251,48 +230,32 @@ module _ (P : List (List ℕ)) (each-perm : (β : List ℕ) → List·Memᴰ β 
       go (inl n) = n
       go (inr n) = behind (List·Memᴰ·cases-cons n)
 
-  first-same : first (sizesDiffer P p R) (compared Q (length p) B) ≡ first (violated Q p R) (compared Q (length p) B)
+  first-same : first (sizesDiffer P p R) (comparedTo m (length p) B) ≡ first (violated Q p R) (comparedTo m (length p) B)
   first-same =
-      first-agree (sizesDiffer P p R) (violated Q p R) (compared Q (length p) B)
-      (λ u x v q clean. let m : List·Memᴰ x (u ++ (x ∷ v)) = Memᴰ·append-right u (List·Memᴰ·head refl) in
-      let (size, t, f) = compared-are Q (length p) B (rw (← q) at m) in
+      first-agree (sizesDiffer P p R) (violated Q p R) (comparedTo m (length p) B)
+      (λ u x v q clean. let d : List·Memᴰ x (u ++ (x ∷ v)) = Memᴰ·append-right u (List·Memᴰ·head refl) in
+      let (size, t, f) = compared-are m (length p) B (rw (← q) at d) in
       differs-violated x size f (λ b sb fb less. clean b (stands-before u x v q b sb fb less)))
 
-  -- where the candidates find nothing, no compared sizes differ
-  none-differ : first (violated Q p R) (compared Q (length p) B) ≡ none → shownSpacing P p B R ≡ none
-  unfolding shownSpacing irreversible Q
-  none-differ e =
-      let clean : irreversible Q p B R ≡ false = none-in (violated Q p R) (compared Q (length p) B)
-      (none-first (violated Q p R) (compared Q (length p) B) e) in
-      let claim = basis-deletion P each-perm p B R .1 (irreversible-law Q p R perm inside apart B .0 clean) in
-      first-none (sizesDiffer P p R) (compared P (length p) B) (sizes-agree P p B R .1 (finite-law P p R perm inside B .1 claim))
-
-  pub shown-spacing : shownSpacing P p B R ≡ violatedFirst (basis P) p B R
-  unfolding shownSpacing violatedFirst mOf Q
-  shown-spacing = go (first (violated Q p R) (compared Q (length p) B)) refl
-    where
-      go : (o : Option (List ℕ)) → first (violated Q p R) (compared Q (length p) B) ≡ o →
-          first (sizesDiffer P p R) (compared P (length p) B) ≡ first (violated Q p R) (compared Q (length p) B)
-      go none e = none-differ e ∙ sym e
-      go (some g) e =
-          let (l, q) = compared-more P Q (length p) B (longest-basis P) in
-          ap (first (sizesDiffer P p R)) q ∙ first-append (sizesDiffer P p R) (compared Q (length p) B) l g (first-same ∙ e) ∙ sym e
+  pub shown-spacing : shownSpacingUnder m P p B R ≡ violatedFirst m (basis P) p B R
+  unfolding shownSpacingUnder violatedFirst Q
+  shown-spacing = first-same
 
   -- at the first violated spacing the least of the candidates is the least lost word
-  module _ (g : List ℕ) (shows : first (violated Q p R) (compared Q (length p) B) ≡ some g) where
-    at-compared : List·Memᴰ g (compared Q (length p) B) × (violated Q p R g ≡ true)
-    at-compared = first-some (violated Q p R) (compared Q (length p) B) g shows
+  module _ (g : List ℕ) (shows : first (violated Q p R) (comparedTo m (length p) B) ≡ some g) where
+    at-compared : List·Memᴰ g (comparedTo m (length p) B) × (violated Q p R g ≡ true)
+    at-compared = first-some (violated Q p R) (comparedTo m (length p) B) g shows
 
-    spaced : (length g ≡ suc (length p)) × (total g < mOf Q) × (free B g ≡ true)
-    spaced = compared-are Q (length p) B (at-compared .0)
+    spaced : (length g ≡ suc (length p)) × (total g < m) × (free B g ≡ true)
+    spaced = compared-are m (length p) B (at-compared .0)
 
     clean-below : CleanBelow Q p R perm apart B g
     clean-below b size open-b less = go (violated Q p R b) refl
       where
         go : (t : Bool) → violated Q p R b ≡ t → t ≡ false
         go true e = absurd (true-not-false (sym (before-first (total b) (total g) b g less) ∙
-            first-ordered totalled (violated Q p R) (compared Q (length p) B) g b (compared-ascend Q (length p) B) shows
-            (compared-all Q (length p) B b size (omega (arith, spaced .1)) open-b) e))
+            first-ordered totalled (violated Q p R) (comparedTo m (length p) B) g b (compared-ascend m (length p) B) shows
+            (compared-all m (length p) B b size (omega (arith, spaced .1)) open-b) e))
         go false e = refl
 
     -- the rests that the candidates make are the lost rests
@@ -341,11 +304,11 @@ module _ (P : List (List ℕ)) (each-perm : (β : List ℕ) → List·Memᴰ β 
         sym q
 
   -- The permutation shown is the least of the candidates.
-  pub shown-candidate : shownWord P p B R ≡ leastCandidate (basis P) p B R
-  unfolding shownWord leastCandidate shownAt leastAt violatedFirst Q
-  shown-candidate = ap (shownAt P p R) shown-spacing ∙ go (first (violated Q p R) (compared Q (length p) B)) refl
+  pub shown-candidate : shownWordUnder m P p B R ≡ leastCandidate m (basis P) p B R
+  unfolding shownWordUnder leastCandidate shownAt leastAt violatedFirst Q
+  shown-candidate = ap (shownAt P p R) shown-spacing ∙ go (first (violated Q p R) (comparedTo m (length p) B)) refl
     where
-      go : (o : Option (List ℕ)) → first (violated Q p R) (compared Q (length p) B) ≡ o → shownAt P p R o ≡ leastAt Q p R o
+      go : (o : Option (List ℕ)) → first (violated Q p R) (comparedTo m (length p) B) ≡ o → shownAt P p R o ≡ leastAt Q p R o
       go none e = refl
       go (some g) e = least-lost g e (lostWords Q p R g) refl
 
@@ -353,13 +316,13 @@ module _ (P : List (List ℕ)) (each-perm : (β : List ℕ) → List·Memᴰ β 
 some-not-none : {A : Type 0} (x : A) → none ≡ some x → ⊥
 some-not-none x e = let z : _≡_ {A = ℕ} 0 1 = cc in absurd (omega arith)
 
-module _ (P : List (List ℕ)) (p R : List ℕ) (perm : isPerm p ≡ true) (inside : all (within (length p)) R ≡ true) (B : List (List ℕ)) where
+module _ (m : ℕ) (P : List (List ℕ)) (p R : List ℕ) (perm : isPerm p ≡ true) (inside : all (within (length p)) R ≡ true) (B : List (List ℕ)) where
   -- what is shown is lost at a compared spacing, and no word that is lost at one comes before it
   record Shown (w : List ℕ) : Type 0 where
     at : List ℕ
-    at-compared : List·Memᴰ at (compared P (length p) B)
+    at-compared : List·Memᴰ at (comparedTo m (length p) B)
     is-lost : IsLost P p R at w
-    least : (h v : List ℕ) → List·Memᴰ h (compared P (length p) B) → IsLost P p R h v → earlier h v at w ≡ false
+    least : (h v : List ℕ) → List·Memᴰ h (comparedTo m (length p) B) → IsLost P p R h v → earlier h v at w ≡ false
 
   -- the order of spacings and words
   not-earlier : (h v g w : List ℕ) → before (totalled h) (totalled g) ≡ false → (h ≡ g → before v w ≡ false) → earlier h v g w ≡ false
@@ -380,35 +343,35 @@ module _ (P : List (List ℕ)) (p R : List ℕ) (perm : isPerm p ≡ true) (insi
       go true e = e
       go false e = within-total (eqb (total h) (total g)) (before h g) e
 
-  shown-at : (g w : List ℕ) → first (sizesDiffer P p R) (compared P (length p) B) ≡ some g →
+  shown-at : (g w : List ℕ) → first (sizesDiffer P p R) (comparedTo m (length p) B) ≡ some g →
       first (lost P p R g) (perms (length p + total g)) ≡ some w → Shown w
   shown-at g w s e =
-      let (m, d) = first-some (sizesDiffer P p R) (compared P (length p) B) g s in
+      let (c, d) = first-some (sizesDiffer P p R) (comparedTo m (length p) B) g s in
       let (n, l) = first-some (lost P p R g) (perms (length p + total g)) w e in
       record {
         at = g;
-        at-compared = m;
+        at-compared = c;
         is-lost = lost-out P p R g w n l;
         least = λ h v k i. not-earlier h v g w
-            (first-ordered totalled (sizesDiffer P p R) (compared P (length p) B) g h (compared-ascend P (length p) B) s k
-            (sizes-lost P p R perm inside h (compared-are P (length p) B k .0) .1 (v, i)))
+            (first-ordered totalled (sizesDiffer P p R) (comparedTo m (length p) B) g h (compared-ascend m (length p) B) s k
+            (sizes-lost P p R perm inside h (compared-are m (length p) B k .0) .1 (v, i)))
             (λ q. let (x, y) = lost-in P p R g v (rw q at i) in
             first-least (lost P p R g) (perms (length p + total g)) w v
             (ascends-in-order (perms (length p + total g)) (perms-ascend (length p + total g))) e x y);
       }
 
-  shown-is : (w : List ℕ) → shownWord P p B R ≡ some w → Shown w
-  unfolding shownWord shownAt shownSpacing
-  shown-is w e = go (first (sizesDiffer P p R) (compared P (length p) B)) refl e
+  shown-is : (w : List ℕ) → shownWordUnder m P p B R ≡ some w → Shown w
+  unfolding shownWordUnder shownAt shownSpacingUnder
+  shown-is w e = go (first (sizesDiffer P p R) (comparedTo m (length p) B)) refl e
     where
-      go : (o : Option (List ℕ)) → first (sizesDiffer P p R) (compared P (length p) B) ≡ o → shownAt P p R o ≡ some w → Shown w
+      go : (o : Option (List ℕ)) → first (sizesDiffer P p R) (comparedTo m (length p) B) ≡ o → shownAt P p R o ≡ some w → Shown w
       go none s q = absurd (some-not-none w q)
       go (some g) s q = shown-at g w s q
 
   -- Where some compared sizes differ, a word is shown: the definition never shows nothing.
-  pub shown-there : any (sizesDiffer P p R) (compared P (length p) B) ≡ true → (w : List ℕ) × (shownWord P p B R ≡ some w)
-  unfolding shownWord shownAt shownSpacing
-  shown-there d = go (first (sizesDiffer P p R) (compared P (length p) B)) refl
+  pub shown-there : any (sizesDiffer P p R) (comparedTo m (length p) B) ≡ true → (w : List ℕ) × (shownWordUnder m P p B R ≡ some w)
+  unfolding shownWordUnder shownAt shownSpacingUnder
+  shown-there d = go (first (sizesDiffer P p R) (comparedTo m (length p) B)) refl
     where
       lost-there : (g : List ℕ) (o : Option (List ℕ)) → first (lost P p R g) (perms (length p + total g)) ≡ o →
           (w : List ℕ) × IsLost P p R g w → (w : List ℕ) × (first (lost P p R g) (perms (length p + total g)) ≡ some w)
@@ -417,17 +380,17 @@ module _ (P : List (List ℕ)) (p R : List ℕ) (perm : isPerm p ≡ true) (insi
           absurd (true-not-false (sym l ∙ none-first (lost P p R g) (perms (length p + total g)) e w m))
       lost-there g (some w) e i = (w, e)
 
-      go : (o : Option (List ℕ)) → first (sizesDiffer P p R) (compared P (length p) B) ≡ o → (w : List ℕ) ×
-          (shownAt P p R (first (sizesDiffer P p R) (compared P (length p) B)) ≡ some w)
-      go none e = absurd (true-not-false (sym d ∙ sym (first-found (sizesDiffer P p R) (compared P (length p) B)) ∙ ap found e))
+      go : (o : Option (List ℕ)) → first (sizesDiffer P p R) (comparedTo m (length p) B) ≡ o → (w : List ℕ) ×
+          (shownAt P p R (first (sizesDiffer P p R) (comparedTo m (length p) B)) ≡ some w)
+      go none e = absurd (true-not-false (sym d ∙ sym (first-found (sizesDiffer P p R) (comparedTo m (length p) B)) ∙ ap found e))
       go (some g) e =
-          let (m, t) = first-some (sizesDiffer P p R) (compared P (length p) B) g e in
+          let (c, t) = first-some (sizesDiffer P p R) (comparedTo m (length p) B) g e in
           let (w, q) = lost-there g (first (lost P p R g) (perms (length p + total g))) refl
-          (sizes-lost P p R perm inside g (compared-are P (length p) B m .0) .0 t) in
+          (sizes-lost P p R perm inside g (compared-are m (length p) B c .0) .0 t) in
           (w, ap (shownAt P p R) e ∙ q)
 
   -- A page that begins with the bytes of what is shown is a witness.
-  pub witnesses : (w page : List ℕ) → shownWord P p B R ≡ some w → take PAGE page ≡ witnessBytes P (some w) → Witnesses P p B R page
+  pub witnesses : (w page : List ℕ) → shownWordUnder m P p B R ≡ some w → take PAGE page ≡ witnessBytes P (some w) → WitnessesUnder m P p B R page
   witnesses w page e q =
       let s = shown-is w e in
       let (i, copy, c) = fails-stands P w (s .is-lost .contains-one) in
@@ -447,10 +410,10 @@ module _ (P : List (List ℕ)) (p R : List ℕ) (perm : isPerm p ≡ true) (insi
       }
 
   -- what is shown is as long as its prefix and the total of a compared spacing
-  pub shown-length : (w : List ℕ) → shownWord P p B R ≡ some w → length w < length p + mOf P
+  pub shown-length : (w : List ℕ) → shownWordUnder m P p B R ≡ some w → length w < length p + m
   shown-length w e =
       let s = shown-is w e in
-      let (size, t, f) = compared-are P (length p) B (s .at-compared) in
+      let (size, t, f) = compared-are m (length p) B (s .at-compared) in
       omega (arith, lost-length P p R (s .at) w (s .is-lost), t)
 
 -- a half has HALF bytes
@@ -466,3 +429,9 @@ shown-with-eleven P E i = refl
 
 pub none-with-ten : (P : List (List ℕ)) (E : List EntryList) (i : ℕ) → wordShown P E (At LiveGap i) ≡ none
 none-with-ten P E i = refl
+
+-- the entry at an index is one of the list
+pub indexed-member : (E : List EntryList) (i : ℕ) (e : EntryList) → indexedEntry E i ≡ some e → List·Memᴰ e E
+indexed-member [] i e q = let z : _≡_ {A = ℕ} 0 1 = cc in absurd (omega arith)
+indexed-member (d ∷ E) zero e q = let same : e ≡ d = cc in List·Memᴰ·head same
+indexed-member (d ∷ E) (suc i) e q = List·Memᴰ·tail (indexed-member E i e q)

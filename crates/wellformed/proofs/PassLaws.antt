@@ -13,7 +13,7 @@ use Rattle.word.specs.Finding.{clean, fault}
 use Rattle.word.specs.declared.refusal.Refusal.{Refusal}
 use Rattle.word.specs.declared.refusal.Refusal.the-variants.{Oversize, NoPermutation, Repeated, Width, NoPosition}
 use Rattle.word.specs.Lists.{any}
-use Rattle.cell.specs.Cell.{same}
+use Rattle.cell.specs.Basis.{same}
 use Rattle.forms.specs.SchemeList.{EntryList}
 use Rattle.forms.specs.SchemeMemory.{entryAt, schemeIn, faultOf, orElse, faultIf}
 use Rattle.forms.specs.Codes.{IsCode, Codes}

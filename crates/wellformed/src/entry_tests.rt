@@ -16,7 +16,7 @@ ghost use mathlib.Core.List.{map};
 ghost use Rattle.word.specs.Ceilings.{COMPONENTS};
 ghost use Rattle.word.specs.Lists.{row};
 ghost use Rattle.word.specs.Word.{isPerm};
-ghost use Rattle.cell.specs.Cell.{same};
+ghost use Rattle.cell.specs.Basis.{same};
 ghost use Rattle.scheme.specs.WellFormed.{listed, repeats, largeGap, largeEntry, wrongWidth, outside};
 ghost use Rattle.forms.specs.SchemeMemory.{padded, gapIn, gapAt, doesOf, entryIn};
 ghost use Rattle.scheme.specs.Sized.{SizedEntry};

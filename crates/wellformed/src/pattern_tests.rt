@@ -18,7 +18,7 @@ ghost use Rattle.word.specs.Ceilings.{DIGITS, PATTERNS};
 ghost use Rattle.word.specs.Containment.{isPattern};
 ghost use Rattle.word.specs.Finding.{firstFault};
 ghost use Rattle.word.specs.declared.refusal.Refusal.the-variants.{Oversize, NoPermutation};
-ghost use Rattle.cell.specs.Cell.{same};
+ghost use Rattle.cell.specs.Basis.{same};
 ghost use Rattle.scheme.specs.WellFormed.{firstAt, firstTwin, listed, patternTests};
 ghost use Rattle.forms.specs.SchemeMemory.{patternIn, patternsIn, faultOf};
 ghost use Rattle.scheme.specs.TestOrder.{placeIn};

@@ -7,7 +7,7 @@ use mathlib.Core.Path.{_≡_}
 use borrow.Author.Needs.{needs}
 use native.Mathlib.Omega.{arith}
 use Rattle.word.specs.Lists.{each, row}
-use Rattle.cell.specs.Cell.{free, vectors}
+use Rattle.cell.specs.Cell.{free, vectors, comparedTo}
 use Rattle.forms.specs.GapRows.{gapsOf}
 use Rattle.spacing.proofs.SpacingCount.{passing, from-total, totals-start, totals-step, totals-end, totals-bound}
 use Rattle.spacing.proofs.compared_count.Statement.{statement}
@@ -44,6 +44,7 @@ loop-again c =
     (omega arith, omega (arith, l .inv .1, totals-step f (a .k) (a .m) (l .t) (omega arith), c .free-count .ensures))
 
 returns : tie.Need-returns Inv-loop μ-loop
+unfolding comparedTo
 returns c =
     let start = c .before .before .before in
     let a = start .args in

@@ -3,7 +3,7 @@
 use mathlib.Core.Path.{_≡_, refl, sym, _∙_}
 use mathlib.Core.Bool.{true, false}
 use lib.ListN.{take}
-use Rattle.cell.specs.Cell.{same}
+use Rattle.cell.specs.Basis.{same}
 use borrow.Author.Needs.{needs}
 use Rattle.candidate.proofs.basis.leaves.Statement.{statement}
 use Rattle.candidate.proofs.basis.leaves.Tie as tie

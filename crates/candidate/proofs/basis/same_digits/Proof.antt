@@ -8,7 +8,7 @@ use lib.Seq.{length-take-le}
 use Prim.Native.Nat.{ℕ}
 use mathlib.Core.List.{List}
 use Rattle.word.specs.Ceilings.{DIGITS}
-use Rattle.cell.specs.Cell.{same}
+use Rattle.cell.specs.Basis.{same}
 use Rattle.candidate.proofs.BasisWalk.{take-again}
 use Rattle.candidate.proofs.basis.same_digits.Statement.{statement}
 use Rattle.candidate.proofs.basis.same_digits.Tie as tie

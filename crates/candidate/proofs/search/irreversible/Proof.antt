@@ -40,27 +40,27 @@ deleted-values-requires c κs =
     length-take-le (a .deletion .length) (a .deletion .prefix) (omega (arith, start .pre .1)) in (
       start .pre .1,
       start .pre .2,
-      start .pre .6 .perm,
+      start .pre .5 .perm,
       ap (λ (n : ℕ). all (within n) (take (a .deletion .«position_count») (a .deletion .positions))) (sym wide) ∙
-          start .pre .6 .inside,
+          start .pre .5 .inside,
     )
 
 loop-holds : tie.Need-loop-holds Inv-loop μ-loop
 loop-holds c =
     let start = c .before .before .before .before .before in
     let a = start .args in (
-      start .pre .4,
+      start .pre .3,
       omega arith,
       λ R F. totals-start (lost
           (gapsOf (now (a .gaps)) (a .deletion .length + 1) (a .deletion .«gap_count»))
           (patternsOf (a .set) (a .lengths) (a .count)) (take (a .deletion .length) (a .deletion .prefix)) R)
-          (a .deletion .length) (a .deletion .longest),
+          (a .deletion .length) (a .deletion .m),
     )
 
 total-violated-requires : tie.Need-total-violated-requires Inv-loop μ-loop
 total-violated-requires c κs =
     let start = c .before .before .before .before .before .before .before in
-    (start .pre .6 .few, start .pre .1, omega (arith, c .before .loop .inv .0), start .pre .0, start .pre .5)
+    (start .pre .5 .few, start .pre .1, omega (arith, c .before .loop .inv .0), start .pre .0, start .pre .4)
 
 -- the array of the prefix has all its places
 six-digits : (start : tie.Start Inv-loop μ-loop) → length (start .args .deletion .prefix) ≡ 6
@@ -74,7 +74,7 @@ returns c =
     let R = take (a .deletion .«position_count») (a .deletion .positions) in
     let P = patternsOf (a .set) (a .lengths) (a .count) in
     let A = gapsOf (now (a .gaps)) (a .deletion .length + 1) (a .deletion .«gap_count») in
-    let G = start .pre .6 in
+    let G = start .pre .5 in
     let six = six-digits start in
     let wide : length (take (a .deletion .length) (a .deletion .prefix)) ≡ a .deletion .length =
     length-take-le (a .deletion .length) (a .deletion .prefix) (omega (arith, start .pre .1)) in
@@ -83,11 +83,11 @@ returns c =
     let l = c .before .before .before .loop in
     let v = c .before .total-violated in
     let here = totals-here (lost A P (take (a .deletion .length) (a .deletion .prefix)) R) (a .deletion .length)
-    (a .deletion .longest) (l .t) (omega arith) (v .result) (v .ensures R F (sym wide)) (c .if1 .taken) in
-    entry-answer (a .set) (a .lengths) (a .count) (take (a .deletion .length) (a .deletion .prefix)) A R
+    (a .deletion .m) (l .t) (omega arith) (v .result) (v .ensures R F (sym wide)) (c .if1 .taken) in
+    entry-answer (a .deletion .m) (a .set) (a .lengths) (a .count) (take (a .deletion .length) (a .deletion .prefix)) A R
     (a .deletion .length) (v .result) G (sym wide)
     (rw (entry-first P (take (a .deletion .length) (a .deletion .prefix)) A R (a .deletion .length)
-    (a .deletion .longest) (sym wide) (start .pre .3) ∙ l .inv .2 R F) here)
+    (a .deletion .m) (sym wide) ∙ l .inv .2 R F) here)
 
 loop-again : tie.Need-loop-again Inv-loop μ-loop
 loop-again c =
@@ -103,7 +103,7 @@ loop-again c =
       omega arith,
       λ R F. l .inv .2 R F ∙
           totals-later (lost A P (take (a .deletion .length) (a .deletion .prefix)) R) (a .deletion .length)
-          (a .deletion .longest) (l .t) (omega arith) (c .before .total-violated .result)
+          (a .deletion .m) (l .t) (omega arith) (c .before .total-violated .result)
           (c .before .total-violated .ensures R F (sym wide)) (c .if1 .left),
     )
 
@@ -115,19 +115,19 @@ returns-2 c =
     let R = take (a .deletion .«position_count») (a .deletion .positions) in
     let P = patternsOf (a .set) (a .lengths) (a .count) in
     let A = gapsOf (now (a .gaps)) (a .deletion .length + 1) (a .deletion .«gap_count») in
-    let G = start .pre .6 in
+    let G = start .pre .5 in
     let six = six-digits start in
     let wide : length (take (a .deletion .length) (a .deletion .prefix)) ≡ a .deletion .length =
     length-take-le (a .deletion .length) (a .deletion .prefix) (omega (arith, start .pre .1)) in
     let F : FlaggedFor (a .set) (a .lengths) (a .count) (take (a .deletion .length) (a .deletion .prefix)) R
     (at-deleted-values .deleted-values .result) = (G, at-deleted-values .deleted-values .ensures) in
     let l = c .before .before .loop in
-    entry-answer (a .set) (a .lengths) (a .count) (take (a .deletion .length) (a .deletion .prefix)) A R
+    entry-answer (a .deletion .m) (a .set) (a .lengths) (a .count) (take (a .deletion .length) (a .deletion .prefix)) A R
     (a .deletion .length) (c .nothing-lost .result) G (sym wide)
     (rw (entry-first P (take (a .deletion .length) (a .deletion .prefix)) A R (a .deletion .length)
-    (a .deletion .longest) (sym wide) (start .pre .3) ∙ l .inv .2 R F ∙
+    (a .deletion .m) (sym wide) ∙ l .inv .2 R F ∙
     totals-end (lost A P (take (a .deletion .length) (a .deletion .prefix)) R) (a .deletion .length)
-    (a .deletion .longest) (l .t) (omega arith)) (c .nothing-lost .ensures))
+    (a .deletion .m) (l .t) (omega arith)) (c .nothing-lost .ensures))
 
 pub irreversible-spec : {M : Type 1} → statement M
 irreversible-spec =

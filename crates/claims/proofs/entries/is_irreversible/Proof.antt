@@ -14,7 +14,7 @@ returns : tie.Need-returns
 returns c =
     let start = c .before .before .before in
     let a = start .args in
-    expands-answer (patternsOf (a .set) (a .lengths) (a .count)) (a .e) _ (c .enum-told .given .1) refl
+    expands-answer (a .m) (patternsOf (a .set) (a .lengths) (a .count)) (a .e) _ (c .enum-told .given .1) refl
 
 pub is-irreversible-spec : {M : Type 1} → statement M
 is-irreversible-spec =

@@ -40,7 +40,6 @@ irreversible-requires c κs =
       q .0,
       entry-short (a .e) (q .4),
       omega arith,
-      q .2,
       q .3,
       gaps-in (a .e) (q .4) (all-parts start),
       given (a .e) (q .4) (six-digits start) (a .cut .position) (q .5) (a .set) (a .lengths) (a .count) (all-rows start)
@@ -54,8 +53,8 @@ returns c =
     let a = start .args in
     let q = start .pre in
     let i = at-irreversible .irreversible in
-    answers-none (a .e) (q .4) (six-digits start) (a .cut .position) (q .5) (patternsOf (a .set) (a .lengths) (a .count))
-    (i .result) (all-parts start) (i .ensures) (c .no-word .result) (not-true _ (c .before .if1 .taken)) (c .no-word .ensures .0)
+    answers-none (a .e) (q .4) (six-digits start) (a .cut .position) (q .5) (a .cut .m)
+    (patternsOf (a .set) (a .lengths) (a .count)) (i .result) (all-parts start) (i .ensures) (q .2) (q .1 .perms) (c .no-word .result) (not-true _ (c .before .if1 .taken)) (c .no-word .ensures .0)
 
 least-lost-requires : tie.Need-least-lost-requires
 least-lost-requires c κs =
@@ -64,8 +63,8 @@ least-lost-requires c κs =
     let a = start .args in
     let q = start .pre in
     let i = at-irreversible .irreversible in
-    let t = found-total (a .e) (q .4) (six-digits start) (a .cut .position) (q .5) (patternsOf (a .set) (a .lengths) (a .count))
-    (i .result) (all-parts start) (i .ensures) (not-false _ (c .if1 .left)) (omega (arith, q .2, q .3)) in (
+    let t = found-total (a .e) (q .4) (six-digits start) (a .cut .position) (q .5) (a .cut .m)
+    (patternsOf (a .set) (a .lengths) (a .count)) (i .result) (all-parts start) (i .ensures) (not-false _ (c .if1 .left)) (q .3) in (
       q .0,
       entry-short (a .e) (q .4),
       omega arith,
@@ -82,8 +81,8 @@ returns-2 c =
     let a = start .args in
     let q = start .pre in
     let i = at-irreversible .irreversible in
-    answers-some (a .e) (q .4) (six-digits start) (a .cut .position) (q .5) (patternsOf (a .set) (a .lengths) (a .count))
-    (i .result) (all-parts start) (i .ensures) (c .least-lost .result) (not-false _ (c .before .if1 .left)) (c .least-lost .ensures)
+    answers-some (a .e) (q .4) (six-digits start) (a .cut .position) (q .5) (a .cut .m)
+    (patternsOf (a .set) (a .lengths) (a .count)) (i .result) (all-parts start) (i .ensures) (q .2) (q .1 .perms) (c .least-lost .result) (not-false _ (c .before .if1 .left)) (c .least-lost .ensures)
 
 pub loses-spec : {M : Type 1} → statement M
 loses-spec =

@@ -6,7 +6,7 @@ use mathlib.Core.Path.{_≡_, sym, _∙_}
 use borrow.Author.Needs.{needs}
 use native.Mathlib.Omega.{arith}
 use lib.ListN.{length, drop}
-use Rattle.cell.specs.Cell.{same}
+use Rattle.cell.specs.Basis.{same}
 use Rattle.forms.specs.MemoryLaws.{same-lengths}
 use Rattle.forms.proofs.SameWalk.{same-other, same-next, same-end}
 use Rattle.forms.proofs.lists.same_bytes.Statement.{statement}

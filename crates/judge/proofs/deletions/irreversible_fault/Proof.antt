@@ -19,23 +19,23 @@ use Rattle.judge.proofs.deletions.irreversible_fault.Statement.{stateme
 use Rattle.judge.proofs.deletions.irreversible_fault.Tie as tie
 
 abbrev Inv-loop : tie.InvT-loop
-Inv-loop set lengths count s m bytes n i₀ i = (n ≤ ENTRIES) × (i ≤ n) ×
-    (firstAt Irreversible (differingEntry (patternsOf set lengths count)) 0 (schemeIn s) ≡
-    firstAt Irreversible (differingEntry (patternsOf set lengths count)) i (from (entryAt s) n i))
+Inv-loop set lengths count m s bytes n i₀ i = (n ≤ ENTRIES) × (i ≤ n) ×
+    (firstAt Irreversible (differingEntry m (patternsOf set lengths count)) 0 (schemeIn s) ≡
+    firstAt Irreversible (differingEntry m (patternsOf set lengths count)) i (from (entryAt s) n i))
 
 abbrev μ-loop : tie.MeasureT-loop
-μ-loop set lengths count s m bytes n i₀ i = n - i
+μ-loop set lengths count m s bytes n i₀ i = n - i
 
 all-needs-requires : tie.Need-all-needs-requires Inv-loop μ-loop
-all-needs-requires c κs = c .before .pre .0 .few
+all-needs-requires c κs = c .pre .0 .few
 
 loop-holds : tie.Need-loop-holds Inv-loop μ-loop
 loop-holds c =
-    let a = c .before .before .args in
+    let a = c .before .args in
     let P = patternsOf (a .set) (a .lengths) (a .count) in (
-      proper-count (a .t4) (c .before .before .pre .1),
+      proper-count (a .t5) (c .before .pre .3),
       omega arith,
-      first-start Irreversible (differingEntry P) (entryAt (a .t4)) (a .t4 .count),
+      first-start Irreversible (differingEntry (a .m) P) (entryAt (a .t5)) (a .t5 .count),
     )
 
 is-irreversible-requires : tie.Need-is-irreversible-requires Inv-loop μ-loop
@@ -43,48 +43,47 @@ is-irreversible-requires c κs =
     let at-loop = c .before .before .before in
     let l = at-loop .loop in
     let made = at-loop .before .all-needs in
-    let m = at-loop .before .before .longest-length in
-    let start = at-loop .before .before .before in
+    let start = at-loop .before .before in
     let q = start .pre in
-    (made .ensures, q .0, m .ensures .0, m .ensures .1, proper-at (start .args .t4) (q .1) (l .i) (omega arith))
+    (made .ensures, q .0, q .1, q .2, proper-at (start .args .t5) (q .3) (l .i) (omega arith))
 
 returns : tie.Need-returns Inv-loop μ-loop
 returns c =
     let at-loop = c .before .before .before .before .before in
-    let start = at-loop .before .before .before in
+    let start = at-loop .before .before in
     let a = start .args in
     let l = at-loop .loop in
     let P = patternsOf (a .set) (a .lengths) (a .count) in
     let answer = c .before .is-irreversible .ensures in
     record {
-      found = sym (ap faultOf (l .inv .2 ∙ first-here Irreversible (differingEntry P) (entryAt (a .t4)) (a .t4 .count) (l .i)
+      found = sym (ap faultOf (l .inv .2 ∙ first-here Irreversible (differingEntry (a .m) P) (entryAt (a .t5)) (a .t5 .count) (l .i)
           (omega arith) (sym (answer .said) ∙ c .if1 .taken)));
-      shows = rw (indexed-scheme (a .t4) (l .i) (omega arith)) (answer .shows);
+      shows = rw (indexed-scheme (a .t5) (l .i) (omega arith)) (answer .shows);
     }
 
 loop-again : tie.Need-loop-again Inv-loop μ-loop
 loop-again c =
     let at-loop = c .before .before .before .before .before in
-    let start = at-loop .before .before .before in
+    let start = at-loop .before .before in
     let a = start .args in
     let l = at-loop .loop in
     let P = patternsOf (a .set) (a .lengths) (a .count) in (
       l .inv .0,
       omega arith,
-      l .inv .2 ∙ first-later Irreversible (differingEntry P) (entryAt (a .t4))
-          (a .t4 .count) (l .i) (omega arith) (sym (c .before .is-irreversible .ensures .said) ∙ c .if1 .left),
+      l .inv .2 ∙ first-later Irreversible (differingEntry (a .m) P) (entryAt (a .t5))
+          (a .t5 .count) (l .i) (omega arith) (sym (c .before .is-irreversible .ensures .said) ∙ c .if1 .left),
     )
 
 returns-2 : tie.Need-returns-2 Inv-loop μ-loop
 returns-2 c =
     let at-loop = c .before .before in
-    let start = at-loop .before .before .before in
+    let start = at-loop .before .before in
     let a = start .args in
     let l = at-loop .loop in
     let P = patternsOf (a .set) (a .lengths) (a .count) in
     record {
       found = sym (ap faultOf
-          (l .inv .2 ∙ first-end Irreversible (differingEntry P) (entryAt (a .t4)) (a .t4 .count) (l .i) (omega arith)));
+          (l .inv .2 ∙ first-end Irreversible (differingEntry (a .m) P) (entryAt (a .t5)) (a .t5 .count) (l .i) (omega arith)));
       shows = c .no-word .ensures .0;
     }
 
@@ -94,7 +93,6 @@ irreversible-fault-spec =
     (tie.spec
     Inv-loop
     μ-loop
-    (λ c κs. search needs)
     all-needs-requires
     loop-holds
     (λ c. search needs)

@@ -9,6 +9,7 @@ use mathlib.Core.List.{List}
 use mathlib.Core.Option.{Option, none}
 use lib.ListN.{length}
 use Rattle.word.specs.Ceilings.{PATTERNS}
+use Rattle.word.specs.Word.{longest}
 use Rattle.word.specs.Finding.{firstFault}
 use Rattle.word.specs.Containment.{patternsOf}
 use Rattle.forms.specs.SchemeMemory.{patternsIn, schemeIn, faultOf, faulty}
@@ -19,10 +20,10 @@ use Rattle.claims.specs.EntryMemory.{ProperSet}
 use Rattle.scheme.specs.ProperLaws.{proper as proper-scheme}
 use Rattle.judge.proofs.EntryWalkLaws.{differingEntry}
 use Rattle.forms.specs.declared.memory.Fault.{Fault}
-use Rattle.verdict.specs.Verdict.{claimTests, comparedCells, answered}
+use Rattle.verdict.specs.Verdict.{comparedCellsUnder, claimTests, comparedCells, answered}
 use Rattle.scheme.specs.SetLaws.{set-holds}
 use Rattle.judge.specs.ProperSetLaws.{proper-set}
-use Rattle.judge.proofs.JudgeLaws.{basis-proper, claims-live, claims-lost, claims-answer, live-shown, lost-shown}
+use Rattle.judge.proofs.JudgeLaws.{basis-m, basis-proper, claims-live, claims-lost, claims-answer, live-shown, lost-shown}
 use Rattle.judge.proofs.LossLaws.{shows-none}
 use Rattle.lost_word.specs.Shown.{ShowsWord}
 use Rattle.verdict.specs.Witness.{wordShown}
@@ -40,12 +41,12 @@ use Rattle.judge.proofs.judging.judge_claims.Statement.{statement}
 use Rattle.judge.proofs.judging.judge_claims.Tie as tie
 
 abbrev Inv-loop : tie.InvT-loop
-Inv-loop scheme count n fault word m last cells₀ i₀ cells i =
+Inv-loop scheme count n m fault word last cells₀ i₀ cells i =
     (last ≤ ENTRIES) × (i ≤ last) × (cells ≤ COMPARED * i) ×
-    ((P : List (List ℕ)) → mOf P ≡ m → comparedCells P (schemeIn scheme) ≡ cells + cellsFrom P scheme last i)
+    (comparedCellsUnder m (schemeIn scheme) ≡ cells + cellsFrom m scheme last i)
 
 abbrev μ-loop : tie.MeasureT-loop
-μ-loop scheme count n fault word m last cells₀ i₀ cells i = last - i
+μ-loop scheme count n m fault word last cells₀ i₀ cells i = last - i
 
 -- the places behind which the sets and the first finding are there
 abbrev Sets : Type 0
@@ -126,10 +127,20 @@ live-first c h =
     (basis-lengths o) (r .ensures) (k .ensures) (scheme o) (proper-entries o) (c .live-fault .result)
     (c .live-fault .ensures) h
 
-lost-first : (c : Live) (lost : Fault) →
-    lost ≡ faultOf (firstAt Irreversible (differingEntry (basis (c .before))) 0 (schemeIn (scheme (c .before)))) →
+-- m is the length of the longest pattern of the basis
+long-basis : (c : Sets) (m : ℕ) → m ≡ longest (basis c) → m ≡ mOf (set c)
+long-basis c m e =
+    let r = c .before .rows-of2 in
+    let k = c .lengths-of2 in
+    let b = c .before .before .basis-of in
+    basis-m (c .before .before .before .before .rows-of .result) (c .before .before .before .lengths-of .result)
+    (first c .args .patterns .count) (proper c) (b .result) (b .ensures) (r .result) (k .result) (basis-rows c)
+    (basis-lengths c) (r .ensures) (k .ensures) m e
+
+lost-first : (c : Live) (m : ℕ) → m ≡ longest (basis (c .before)) → (lost : Fault) →
+    lost ≡ faultOf (firstAt Irreversible (differingEntry m (basis (c .before))) 0 (schemeIn (scheme (c .before)))) →
     faulty (c .live-fault .result) ≡ false → lost ≡ claimed (c .before)
-lost-first c lost e h =
+lost-first c m is-m lost e h =
     let o = c .before in
     let r = o .before .rows-of2 in
     let k = o .lengths-of2 in
@@ -137,7 +148,7 @@ lost-first c lost e h =
     claims-lost (o .before .before .before .before .rows-of .result) (o .before .before .before .lengths-of .result)
     (first o .args .patterns .count) (proper o) (b .result) (b .ensures) (r .result) (k .result) (basis-rows o)
     (basis-lengths o) (r .ensures) (k .ensures) (scheme o) (proper-entries o) (c .live-fault .result)
-    (c .live-fault .ensures) lost e h
+    (c .live-fault .ensures) m (long-basis o m is-m) lost e h
 
 -- a fault that the tests find is the answer
 refused : (c : Sets) (f : Fault) (r : Verdict) → faulty f ≡ true → f ≡ claimed c → r ≡ answered f 0 →
@@ -193,22 +204,26 @@ returns c =
 
 irreversible-fault-requires : tie.Need-irreversible-fault-requires Inv-loop μ-loop
 irreversible-fault-requires c κs =
-    let o = c .before .before .before in
-    (small-proper o, proper-entries o)
+    let o = c .before .before .before .before in
+    let m = c .longest-length in
+    (small-proper o, omega (arith, m .ensures .0), m .ensures .1, proper-entries o)
 
 -- what test 11 finds, where test 10 finds nothing, and what is shown with it
 lost : (o : tie.After-irreversible-fault Inv-loop μ-loop) →
-    o .irreversible-fault .result .fault ≡ claimed (o .before .before .before .before)
+    o .irreversible-fault .result .fault ≡ claimed (o .before .before .before .before .before)
 lost o =
     let f = o .irreversible-fault in
-    let clean = o .before in
-    lost-first (clean .before .before) (f .result .fault) (f .ensures .found) (sym (clean .before .is-fault .ensures) ∙ clean .if1 .left)
+    let m = o .before .longest-length in
+    let clean = o .before .before in
+    lost-first (clean .before .before) (m .result) (m .ensures .0) (f .result .fault) (f .ensures .found) (sym (clean .before .is-fault .ensures) ∙ clean .if1 .left)
 
 shown-lost : (a : tie.After-irreversible-fault Inv-loop μ-loop) →
-    ShowsWord (shownOf (a .before .before .before .before) (patternsIn (first (a .before .before .before .before) .args .patterns)))
+    ShowsWord (shownOf (a .before .before .before .before .before)
+    (patternsIn (first (a .before .before .before .before .before) .args .patterns)))
     (a .irreversible-fault .result .word)
 shown-lost a =
-    let clean = a .before in
+    let m = a .before .longest-length in
+    let clean = a .before .before in
     let c = clean .before .before in
     let o = c .before in
     let r = o .before .rows-of2 in
@@ -217,7 +232,7 @@ shown-lost a =
     rw (← holds o) (lost-shown (o .before .before .before .before .rows-of .result) (o .before .before .before .lengths-of .result)
     (first o .args .patterns .count) (proper o) (b .result) (b .ensures) (r .result) (k .result) (basis-rows o)
     (basis-lengths o) (r .ensures) (k .ensures) (scheme o) (proper-entries o) (c .live-fault .result)
-    (c .live-fault .ensures) (a .irreversible-fault .result) (a .irreversible-fault .ensures)
+    (c .live-fault .ensures) (m .result) (long-basis o (m .result) (m .ensures .0)) (a .irreversible-fault .result) (a .irreversible-fault .ensures)
     (sym (clean .before .is-fault .ensures) ∙ clean .if1 .left))
 
 returns-2 : tie.Need-returns-2 Inv-loop μ-loop
@@ -226,7 +241,7 @@ returns-2 c =
     let at-lost = tested .before .before in
     let h = sym (tested .is-fault2 .ensures) ∙ c .before .if2 .taken in
     record {
-      verdict = refused (at-lost .before .before .before .before) (at-lost .irreversible-fault .result .fault)
+      verdict = refused (at-lost .before .before .before .before .before) (at-lost .irreversible-fault .result .fault)
           (c .refused2 .result .verdict) h (lost at-lost) (c .refused2 .ensures .0);
       shows = rw (c .refused2 .ensures .1) (shown-lost at-lost);
     }
@@ -235,10 +250,19 @@ returns-2 c =
 abbrev sets : tie.At-loop Inv-loop μ-loop → Sets
 sets o = o .before .before .before .before .before .before .before .before .before
 
+-- where m is there, from the loop
+abbrev long : tie.At-loop Inv-loop μ-loop → tie.After-longest-length Inv-loop μ-loop
+long o = o .before .before .before .before .before
+
 loop-holds : tie.Need-loop-holds Inv-loop μ-loop
 loop-holds c =
     let o = c .before .before .before .before .before .before .before .before in
-    (proper-count (scheme o) (proper-entries o), omega arith, omega arith, λ P h. cells-start P (scheme o))
+    (
+      proper-count (scheme o) (proper-entries o),
+      omega arith,
+      omega arith,
+      cells-start (c .before .before .before .before .longest-length .result) (scheme o),
+    )
 
 element-copy-out-e : tie.Need-element-copy-out-e Inv-loop μ-loop
 element-copy-out-e c =
@@ -249,7 +273,7 @@ compared-with-requires : tie.Need-compared-with-requires Inv-loop μ-loop
 compared-with-requires c κs =
     let at-loop = c .before .before in
     let o = sets at-loop in
-    (at-loop .before .longest-length .ensures .1, proper-at (scheme o) (proper-entries o) (at-loop .loop .i) (omega arith))
+    (long at-loop .longest-length .ensures .1, proper-at (scheme o) (proper-entries o) (at-loop .loop .i) (omega arith))
 
 add-cells : tie.Need-add-cells Inv-loop μ-loop
 add-cells c =
@@ -268,22 +292,22 @@ loop-again c =
       l .inv .0,
       omega arith,
       omega (arith, w .small, l .inv .2),
-      λ P h. cells-next P (scheme (sets at-loop)) (l .i) (l .cells) (c .compared-with .result) (omega arith) (l .inv .3 P h)
-          (w .compares P h),
+      cells-next (long at-loop .longest-length .result) (scheme (sets at-loop)) (l .i) (l .cells) (c .compared-with .result) (omega arith)
+          (l .inv .3) (w .compares),
     )
 
 returns-3 : tie.Need-returns-3 Inv-loop μ-loop
 returns-3 c =
     let at-loop = c .before .before in
     let l = at-loop .loop in
-    let m = at-loop .before .longest-length in
-    let at-lost = at-loop .before .before .before .before .before in
+    let m = long at-loop .longest-length in
+    let at-lost = at-loop .before .before .before .before in
     let o = sets at-loop in
     record {
       verdict = c .answer .ensures ∙
           claims-answer (first o .args .patterns) (scheme o) (set o) (at-lost .irreversible-fault .result .fault) (m .result)
-          (l .cells) (holds o) (lost at-lost) (m .ensures .0)
-          (λ P h. sym (l .inv .3 P h ∙ cells-end P (scheme o) (l .i) (l .cells) (omega arith)));
+          (l .cells) (holds o) (lost at-lost) (long-basis o (m .result) (m .ensures .0))
+          (sym (l .inv .3 ∙ cells-end (m .result) (scheme o) (l .i) (l .cells) (omega arith)));
       shows = shown-lost at-lost;
     }
 
@@ -303,11 +327,11 @@ judge-claims-spec =
     (λ c κs. search needs)
     (λ c κs. search needs)
     returns
+    (λ c κs. search needs)
     irreversible-fault-requires
     (λ c κs. search needs)
     (λ c κs. search needs)
     returns-2
-    (λ c κs. search needs)
     loop-holds
     (λ c. search needs)
     element-copy-out-e

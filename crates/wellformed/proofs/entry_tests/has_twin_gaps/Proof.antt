@@ -9,7 +9,7 @@ use native.Mathlib.Omega.{arith}
 use Rattle.scheme.specs.WellFormed.{listed, repeats}
 use Rattle.forms.specs.SchemeMemory.{entryIn}
 use Rattle.word.specs.Lists.{any, row}
-use Rattle.cell.specs.Cell.{same}
+use Rattle.cell.specs.Basis.{same}
 use Rattle.scheme.specs.TestLaws.{from-at, repeats-start, repeats-here, repeats-later, repeats-end, from}
 use Rattle.forms.specs.SchemeMemory.{gapIn, gapAt}
 use Rattle.forms.specs.declared.memory.Gap.{Gap}

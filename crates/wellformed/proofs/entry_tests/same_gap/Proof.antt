@@ -6,7 +6,7 @@ use native.Mathlib.Omega.{arith}
 use lib.ListN.{length}
 use lib.Seq.{length-take-le}
 use Rattle.word.specs.Ceilings.{COMPONENTS}
-use Rattle.cell.specs.Cell.{same}
+use Rattle.cell.specs.Basis.{same}
 use Rattle.forms.specs.MemoryLaws.{padded-within}
 use borrow.Author.Needs.{needs}
 use Rattle.wellformed.proofs.entry_tests.same_gap.Statement.{statement}

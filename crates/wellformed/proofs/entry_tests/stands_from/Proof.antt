@@ -7,7 +7,7 @@ use borrow.Author.Needs.{needs}
 use native.Mathlib.Omega.{arith}
 use Rattle.forms.specs.SchemeMemory.{gapIn}
 use Rattle.word.specs.Lists.{any}
-use Rattle.cell.specs.Cell.{same}
+use Rattle.cell.specs.Basis.{same}
 use Rattle.scheme.specs.TestLaws.{from-at, from, any-here, any-later, any-end}
 use Rattle.forms.specs.SchemeMemory.{gapAt}
 use Rattle.forms.specs.declared.memory.Gap.{Gap}

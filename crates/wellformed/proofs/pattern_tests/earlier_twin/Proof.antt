@@ -6,7 +6,7 @@ use mathlib.Core.Path.{_≡_, sym, _∙_}
 use mathlib.Core.Bool.{Bool}
 use borrow.Author.Needs.{needs}
 use native.Mathlib.Omega.{arith}
-use Rattle.cell.specs.Cell.{same}
+use Rattle.cell.specs.Basis.{same}
 use Rattle.scheme.specs.TestOrder.{placeIn}
 use Rattle.forms.specs.declared.memory.Patterns.{Patterns}
 use Rattle.wellformed.specs.Twin.{nearestBelow, nearestTwin}

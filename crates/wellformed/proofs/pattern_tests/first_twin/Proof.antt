@@ -8,7 +8,7 @@ use borrow.Author.Needs.{needs}
 use borrow.Author.Tests.{lt-ltb, le-ltb}
 use native.Mathlib.Omega.{arith}
 use lib.Dec.{ltb}
-use Rattle.cell.specs.Cell.{same}
+use Rattle.cell.specs.Basis.{same}
 use Rattle.scheme.specs.WellFormed.{firstTwin, listed}
 use Rattle.forms.specs.SchemeMemory.{patternsIn, faultOf}
 use Rattle.scheme.specs.TestOrder.{placeIn, seen}

@@ -8,7 +8,7 @@ use native.Mathlib.Omega.{arith}
 use lib.ListN.{length}
 use lib.Seq.{length-take-le}
 use Rattle.word.specs.Ceilings.{DIGITS}
-use Rattle.cell.specs.Cell.{same}
+use Rattle.cell.specs.Basis.{same}
 use Rattle.forms.specs.SchemeMemory.{padded, patternIn}
 use Rattle.forms.specs.MemoryLaws.{length-padded, padded-within, same-lengths, same-padded}
 use Rattle.forms.specs.declared.memory.Pattern.{Pattern}
