@@ -18,7 +18,7 @@ use twin::containment::copy_of;
 use twin::counting::{count, need, plain};
 use twin::engine;
 use twin::guarded::{Guarded, FILL};
-use twin::inputs::{exact_need, examples, fixed, Case, Maker};
+use twin::inputs::{exact_need, examples, fixed, lengthened, Case, Maker};
 use twin::judging::{judge_texts, new_longest, old_longest};
 use twin::list_inputs::{self, length_three, Listed, Lister, Start, NAMED, SMALL};
 use twin::listing::{first_copy_slowly, Listing};
@@ -170,6 +170,12 @@ impl Test {
             }
             self.published_counts(&p);
         }
+        for (patterns, scheme, expected) in lengthened() {
+            let verdict = line(judge_texts(patterns.as_bytes(), scheme.as_bytes()));
+            if verdict != expected {
+                self.report("the verdict worked out by hand", expected, &verdict, patterns.as_bytes(), scheme.as_bytes());
+            }
+        }
         self.examples();
         for case in fixed() {
             self.judge(&case);
@@ -182,6 +188,10 @@ impl Test {
         }
         for _ in 0..count / 8 {
             let case = maker.next_deletion();
+            self.judge(&case);
+        }
+        for _ in 0..count / 8 {
+            let case = maker.next_lengthened();
             self.judge(&case);
         }
         self.print();
