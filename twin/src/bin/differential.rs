@@ -38,6 +38,9 @@ const PAGES: [usize; 5] = [0, 1, 31, WITNESS, 40];
 /// A run that meets fewer refusals 11, or compares fewer witnesses with listing, or finds fewer
 /// copies, or has fewer sets with two different m, than this proves too little, and fails.
 const ENOUGH: usize = 500;
+/// Every run has at least so many inputs with longer patterns put into the set, so that a short one
+/// has enough of them.
+const LENGTHENED: usize = 2_000;
 /// The words that the second implementation may look at for one avoider. An input that takes more
 /// is left out.
 const WORDS: u64 = 10_000;
@@ -109,8 +112,10 @@ struct TwoM {
     /// those whose verdict was compared with listing up to the old m: accepted, and refused 11
     accepted: usize,
     refused: usize,
-    /// those whose witness was compared with listing up to the old m
+    /// those whose witness was compared with listing up to the old m; of these, the witnesses at
+    /// the greatest total that is compared
     witnesses: usize,
+    last: usize,
 }
 
 struct Test {
@@ -120,8 +125,10 @@ struct Test {
     page: Guarded,
     kinds: BTreeMap<&'static str, (usize, usize)>,
     verdicts: BTreeMap<u32, usize>,
-    /// inputs whose claims were judged; the first ones and one in eight of the others are listed
+    /// inputs whose claims were judged; the first ones, all of them while `thorough` and one in
+    /// eight of the others are listed
     claims: usize,
+    thorough: bool,
     listed: usize,
     counted: usize,
     /// witnesses; those compared with listing, and with listing at greater lengths
@@ -147,6 +154,7 @@ impl Test {
             kinds: BTreeMap::new(),
             verdicts: BTreeMap::new(),
             claims: 0,
+            thorough: false,
             listed: 0,
             counted: 0,
             witnesses: 0,
@@ -190,7 +198,8 @@ impl Test {
             let case = maker.next_deletion();
             self.judge(&case);
         }
-        for _ in 0..count / 8 {
+        self.thorough = true;
+        for _ in 0..(count / 8).max(LENGTHENED) {
             let case = maker.next_lengthened();
             self.judge(&case);
         }
@@ -302,7 +311,10 @@ impl Test {
         self.listed_witnesses += slow.is_some() as usize;
         self.long_witnesses += longer.is_some() as usize;
         let (m, old_m) = listing.both_m();
-        self.two_m.witnesses += (m != old_m && (slow.is_some() || longer.is_some())) as usize;
+        if m != old_m && (slow.is_some() || longer.is_some()) {
+            self.two_m.witnesses += 1;
+            self.two_m.last += (fast[0] as usize + 1 == entry.prefix.count() + m) as usize;
+        }
         self.longest_witness = self.longest_witness.max(fast[0]);
     }
 
@@ -510,7 +522,7 @@ impl Test {
         let two = m != old_m;
         self.two_m.judged += two as usize;
         self.claims += 1;
-        if self.claims > 3_700 && self.claims & 7 != 0 && !two {
+        if self.claims > 3_700 && self.claims & 7 != 0 && !self.thorough {
             return;
         }
         let depth = scheme.entries.iter().map(|e| e.prefix.count()).max().unwrap_or(0);
@@ -573,9 +585,9 @@ impl Test {
         let (listed, long) = (self.listed_witnesses, self.long_witnesses);
         println!("{} refusals 11, of up to {} entries", self.witnesses, self.longest_witness);
         println!("witnesses compared with listing: {listed}, at greater lengths: {long}");
-        let TwoM { judged, accepted, refused, witnesses } = self.two_m;
+        let TwoM { judged, accepted, refused, witnesses, last } = self.two_m;
         println!("inputs with an m that is not the old one: {judged}; compared with listing up to the old one:");
-        println!("  {accepted} accepted, {refused} refused 11, {witnesses} witnesses");
+        println!("  {accepted} accepted, {refused} refused 11, {witnesses} witnesses, {last} of them at total m - 1");
         let (longest, kind) = self.slowest;
         let (longest, all) = (longest.as_secs_f64() * 1e3, self.calls.as_secs_f64());
         println!("longest call of the engine: {longest:.1} ms ({kind}); all: {all:.1} s");
