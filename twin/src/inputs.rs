@@ -126,8 +126,9 @@ pub fn lengthened() -> Vec<(String, &'static str, &'static str)> {
     // the longest pattern contains no other one, though another of its length does
     add("{12,1234,4321}", "{(ε,∅,∅),(1,{⟨0,1⟩,⟨3,0⟩},{1})}", "accepted 3");
     add("{12,1234,4321}", falling, "refused 11 1");
-    for (last, scheme, verdict) in [("12", falling, "accepted 2"), ("1", nothing, "accepted 0"), ("123", SCHEME, "accepted 16"), ("123", wrong, "refused 11 2")]
-    {
+    // 24 patterns, of which 23 contain the last one
+    let last_ones = [("12", falling, "accepted 2"), ("1", nothing, "accepted 0"), ("123", SCHEME, "accepted 16"), ("123", wrong, "refused 11 2")];
+    for (last, scheme, verdict) in last_ones {
         let mut set = beginning_with(&[1, 2, 3, 4])[..PATTERNS - 1].to_vec();
         set.push(Pattern::of(&last.bytes().map(|d| d - b'0').collect::<Vec<u8>>()));
         add(&String::from_utf8_lossy(&write_patterns(&set)), scheme, verdict);
@@ -597,7 +598,8 @@ impl Maker {
         self.texts(kind, &pair)
     }
 
-    /// A pair of the pool with patterns, whose set can be lengthened and still be listed.
+    /// A pair of the pool with patterns, whose set can be lengthened and still be listed. The
+    /// published scheme of {123} is one.
     fn small(&mut self) -> Pair {
         loop {
             let pair = self.random.pick(&self.pool);
@@ -777,14 +779,15 @@ impl Maker {
 /// target has an entry.
 fn delete_another(r: &mut Random, entries: &mut [Entry]) {
     let prefixes: Vec<Prefix> = entries.iter().map(|e| e.prefix).collect();
-    let other = |(i, e): (usize, &Entry)| {
-        let (rule, word) = (e.rule, e.prefix.items().to_vec());
-        let leads = |r: usize| prefixes.contains(&Prefix::of(deleted(&word, r).items()));
-        let positions = 1..=word.len();
-        let changes: Vec<(usize, Rule)> = positions.filter(|&r| leads(r)).map(|r| (i, Rule::Delete(r as u16))).filter(|c| c.1 != rule).collect();
-        changes
-    };
-    let changes: Vec<(usize, Rule)> = entries.iter().enumerate().flat_map(other).collect();
+    let mut changes = vec![];
+    for (i, e) in entries.iter().enumerate() {
+        for r in 1..=e.prefix.count() {
+            let target = Prefix::of(deleted(e.prefix.items(), r).items());
+            if prefixes.contains(&target) && e.rule != Rule::Delete(r as u16) {
+                changes.push((i, Rule::Delete(r as u16)));
+            }
+        }
+    }
     if !changes.is_empty() {
         let (i, rule) = *r.pick(&changes);
         entries[i].rule = rule;

@@ -46,8 +46,9 @@ pub fn longest(patterns: &[Pattern]) -> usize {
 }
 
 /// The m of document 01 before order 3: the length of the longest pattern of the whole set, 0 for
-/// no patterns. It is at least the m of order 3, and with it more cells are compared; the verdict,
-/// its index and the witness are the same, which the slow mode tests.
+/// no patterns. It is at least the m of order 3, and with it as many cells are compared or more;
+/// acceptance, the number and index of a refusal and the witness are the same, which the slow mode
+/// tests.
 pub fn old_longest(patterns: &Patterns) -> usize {
     longest(patterns.items())
 }

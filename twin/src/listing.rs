@@ -232,10 +232,10 @@ impl Listing {
         !is_covered(entry, &g) && self.is_lost(p, r as usize, &g, word) && self.page(word) == bytes
     }
 
-    /// The bytes of the witness for an entry at greater lengths: at each spacing in order that is at
-    /// least no vector and has a total below the old m, all words that begin with the prefix there
-    /// are listed in lexicographic order, up to a number of words; the first that is lost is shown.
-    /// None if it is not among them.
+    /// The bytes of the witness for an entry at greater lengths: at each spacing in order that is
+    /// at least no vector and has a total below the old m, all words that begin with the prefix
+    /// there are listed in lexicographic order, up to a number of words; the first that is lost is
+    /// shown. None if it is not among them.
     pub fn witness_among(&self, entry: &Entry, number: usize) -> Option<Vec<u8>> {
         let Rule::Delete(r) = entry.rule else { return None };
         let p = entry.prefix.items();
