@@ -120,7 +120,7 @@ pub fn short_basis() -> Pair {
 
 /// {12,87654321}, which is its own basis and has m = 8, with 128 entries that are accepted. Most of
 /// them are prefixes of length 6 that contain 12 with and without the deleted position, so that all
-/// sizes are 0: little to search, but 414,685 compared cells to go through.
+/// sizes are 0: little to search, but 412,969 compared cells to go through.
 pub fn own_basis() -> Pair {
     let patterns = vec![Pattern::of(&[1, 2]), Pattern::of(&[8, 7, 6, 5, 4, 3, 2, 1])];
     let root = [1, 2, 3, 4];

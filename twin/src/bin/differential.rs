@@ -28,6 +28,7 @@ use twin::published::published;
 use twin::random::Random;
 use twin::table::table;
 use twin::witness::judge_texts_on_page;
+use twin::worst::own_basis;
 
 /// The stack that include/judge.h asks of a thread that calls the judge.
 const STACK: usize = 512 * 1024;
@@ -183,6 +184,13 @@ impl Test {
             if verdict != expected {
                 self.report("the verdict worked out by hand", expected, &verdict, patterns.as_bytes(), scheme.as_bytes());
             }
+        }
+        // the number that the benchmark names
+        let own = own_basis();
+        let (patterns, scheme) = (write_patterns(&own.patterns), write_scheme(&own.entries));
+        let verdict = line(judge_texts(&patterns, &scheme));
+        if verdict != "accepted 412969" {
+            self.report("the set that is its own basis", "accepted 412969", &verdict, &patterns, &scheme);
         }
         self.examples();
         for case in fixed() {
