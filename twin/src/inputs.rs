@@ -1,13 +1,14 @@
 //! The inputs of the differential test: a set's text and a scheme's, of many kinds.
 
 use crate::finder::{decide, empty_vectors, find};
-use crate::judging::basis;
+use crate::judging::{basis, longest};
+use crate::listing::LISTED;
 use crate::model::*;
 use crate::notation::{pattern_pieces, read_patterns, read_scheme, scheme_pieces};
 use crate::notation::{write_patterns, write_scheme};
 use crate::published::published;
 use crate::random::Random;
-use crate::word::child;
+use crate::word::{child, deleted};
 use crate::worst::*;
 
 pub struct Case {
@@ -70,6 +71,9 @@ pub fn fixed() -> Vec<Case> {
         cases.push(case("examples of witnesses", patterns, scheme));
     }
     wrong_deletions(&mut cases);
+    for (patterns, scheme, _) in lengthened() {
+        cases.push(case("examples of order 3", patterns, scheme));
+    }
     cases
 }
 
@@ -90,6 +94,52 @@ pub fn examples() -> Vec<(&'static str, &'static str, &'static [u8], &'static [u
         ("{1234,1423}", root, &[1, 2, 3, 4], &[1, 2, 3, 4]),
         ("{12345678}", falling, &[7, 6, 5, 4, 3, 1, 2, 8, 9, 10, 11, 12, 13], &[6, 7, 8, 9, 10, 11, 12, 13]),
     ]
+}
+
+/// Inputs of order 3 that were worked out by hand, most of them with patterns that contain another
+/// one: the set, the scheme and the verdict, with the number of compared cells or the index.
+pub fn lengthened() -> Vec<(String, &'static str, &'static str)> {
+    let wrong = "{(ε,∅,∅),(1,∅,∅),(12,{⟨0,0,1⟩},{1}),(21,∅,{1})}";
+    let live = "{(ε,∅,∅),(1,∅,∅),(12,{⟨0,1,0⟩},{2}),(21,∅,{1})}";
+    let (falling, falling_wrong) = ("{(ε,∅,∅),(1,{⟨0,1⟩},{1})}", "{(ε,∅,∅),(1,∅,{1})}");
+    let (nothing, nothing_wrong) = ("{(ε,{⟨1⟩},∅),(1,{⟨0,0⟩},{1})}", "{(ε,∅,∅),(1,∅,{1})}");
+    let mut inputs: Vec<(String, &str, &str)> = vec![];
+    let mut add = |set: &str, scheme, verdict| inputs.push((set.to_string(), scheme, verdict));
+    for set in ["{123}", "{123,12345}", "{12345,123}", "{1234,123,12345}", "{12345678,1234567,123456,12345,1234,123}"] {
+        add(set, SCHEME, "accepted 16");
+        add(set, wrong, "refused 11 2");
+        add(set, live, "refused 10 2");
+    }
+    for set in ["{12,132,1432}", "{12,1432,132}", "{132,12,1432}", "{132,1432,12}", "{1432,12,132}", "{1432,132,12}"] {
+        add(set, falling, "accepted 2");
+        add(set, falling_wrong, "refused 11 1");
+    }
+    for set in ["{1,21,321}", "{321,21,1}", "{12345678,1}", "{12,1,21}"] {
+        add(set, nothing, "accepted 0");
+        add(set, nothing_wrong, "refused 11 1");
+    }
+    // the deletion of 1 is false at total 2 alone, the last one that is compared
+    for set in ["{12,321,1234}", "{1234,12,321}", "{321,12345678,12}"] {
+        add(set, falling, "refused 11 1");
+        add(set, "{(ε,∅,∅),(1,{⟨0,1⟩,⟨2,0⟩},{1})}", "accepted 2");
+    }
+    // the longest pattern contains no other one, though another of its length does
+    add("{12,1234,4321}", "{(ε,∅,∅),(1,{⟨0,1⟩,⟨3,0⟩},{1})}", "accepted 3");
+    add("{12,1234,4321}", falling, "refused 11 1");
+    // 24 patterns, of which 23 contain the last one
+    let last_ones = [("12", falling, "accepted 2"), ("1", nothing, "accepted 0"), ("123", SCHEME, "accepted 16"), ("123", wrong, "refused 11 2")];
+    for (last, scheme, verdict) in last_ones {
+        let mut set = beginning_with(&[1, 2, 3, 4])[..PATTERNS - 1].to_vec();
+        set.push(Pattern::of(&last.bytes().map(|d| d - b'0').collect::<Vec<u8>>()));
+        add(&String::from_utf8_lossy(&write_patterns(&set)), scheme, verdict);
+    }
+    for set in ["{123,123}", "{12345,12345,123}"] {
+        add(set, SCHEME, "refused 4 1");
+    }
+    add("{12345,123,12345}", SCHEME, "refused 4 2");
+    add("∅", falling_wrong, "accepted 0");
+    add("{}", falling_wrong, "refused 1 0");
+    inputs
 }
 
 /// The published schemes with one position put in for another, or for an expansion; the sets as
@@ -121,19 +171,71 @@ pub fn add_superfluous(random: &mut Random, patterns: &mut Vec<Pattern>) -> bool
     if patterns.is_empty() || patterns.len() >= PATTERNS {
         return false;
     }
-    let mut word = random.pick(patterns).items().to_vec();
-    let more = random.within(1, 2);
-    for _ in 0..more {
-        let value = random.within(1, word.len() + 1) as u8;
-        word.iter_mut().for_each(|x| *x += (*x >= value) as u8);
-        word.insert(random.below(word.len() + 1), value);
-    }
-    let longer = Pattern::of(&word);
-    if word.len() > PATTERN_LENGTH || patterns.contains(&longer) {
+    let member = *random.pick(patterns);
+    let length = member.count() + random.within(1, 2);
+    let longer = extended(random, &member, length);
+    if length > PATTERN_LENGTH || patterns.contains(&longer) {
         return false;
     }
     patterns.insert(random.below(patterns.len() + 1), longer);
     true
+}
+
+/// A permutation of a length that contains the pattern: values are put in at random places.
+fn extended(random: &mut Random, pattern: &Pattern, length: usize) -> Pattern {
+    let mut word = pattern.items().to_vec();
+    while word.len() < length {
+        let value = random.within(1, word.len() + 1) as u8;
+        word.iter_mut().for_each(|x| *x += (*x >= value) as u8);
+        word.insert(random.below(word.len() + 1), value);
+    }
+    Pattern::of(&word)
+}
+
+/// Where a pattern is put into a set.
+#[derive(Clone, Copy)]
+enum Place {
+    Front,
+    Behind,
+    Anywhere,
+}
+
+/// Puts patterns of at most a length that contain a member into a set; how it was done. A set that
+/// has no member shorter than that stays as it is.
+fn lengthen(r: &mut Random, patterns: &mut Vec<Pattern>, longest: usize) -> &'static str {
+    let short: Vec<Pattern> = patterns.iter().filter(|p| p.count() < longest).copied().collect();
+    if short.is_empty() || patterns.len() >= PATTERNS {
+        return "a set as it was found";
+    }
+    let member = *r.pick(&short);
+    let (kind, place, count, chained) = match r.below(7) {
+        0 => ("a longer pattern in front", Place::Front, 1, false),
+        1 => ("a longer pattern anywhere", Place::Anywhere, 1, false),
+        2 => ("a longer pattern behind", Place::Behind, 1, false),
+        3 | 4 => ("a chain of patterns", *r.pick(&[Place::Front, Place::Behind, Place::Anywhere]), r.within(2, 5), true),
+        5 => ("several above one", Place::Anywhere, r.within(2, 5), false),
+        _ => ("many above one", Place::Anywhere, PATTERNS, false),
+    };
+    let mut below = member;
+    for _ in 0..count {
+        if below.count() == longest || patterns.len() == PATTERNS {
+            break;
+        }
+        let length = if chained { below.count() + 1 } else { r.within(below.count() + 1, longest) };
+        let longer = extended(r, &below, length);
+        if !patterns.contains(&longer) {
+            let at = match place {
+                Place::Front => 0,
+                Place::Behind => patterns.len(),
+                Place::Anywhere => r.below(patterns.len() + 1),
+            };
+            patterns.insert(at, longer);
+        }
+        if chained {
+            below = longer;
+        }
+    }
+    kind
 }
 
 fn ceilings(cases: &mut Vec<Case>) {
@@ -254,7 +356,7 @@ fn ceilings(cases: &mut Vec<Case>) {
             cases.push(case("small schemes", set, text));
         }
     }
-    let mut pairs = vec![exact_need(), unpatterned(128), short_basis(), long_text()];
+    let mut pairs = vec![exact_need(), unpatterned(128), short_basis(), own_basis(), long_text()];
     pairs.extend([late_gap_vectors(), late_witness(), gap_vectors(5, 96, 2), gap_vectors(6, 4, 2)]);
     for set in [beginning_low(1), beginning_with(&[2, 1, 4, 3]), beginning_with(&[5, 6, 7, 8]), ending_with(&[8, 7, 6, 5])] {
         let mut pair = true_deletions(set, 30);
@@ -301,11 +403,11 @@ pub fn exact_need() -> Pair {
     let mut add = |word: &[u8], r| entries.push(Entry { prefix: Prefix::of(word), rule: Rule::Delete(r), ..Entry::default() });
     add(&[1, 2], 1);
     for w in [[1, 2, 3], [1, 3, 2], [2, 3, 1], [2, 1, 3]] {
-        let r = (1..=3).find(|&r| crate::word::deleted(&w, r).items() == [1, 2]).expect("12 stands in it");
+        let r = (1..=3).find(|&r| deleted(&w, r).items() == [1, 2]).expect("12 stands in it");
         add(&w, r as u16);
     }
     for w in [[1, 2, 3, 4], [1, 2, 4, 3], [1, 3, 4, 2], [2, 3, 4, 1], [4, 1, 2, 3], [1, 4, 2, 3]] {
-        let r = (1..=4).find(|&r| crate::word::deleted(&w, r).items() == [1, 2, 3]).expect("123 stands in it");
+        let r = (1..=4).find(|&r| deleted(&w, r).items() == [1, 2, 3]).expect("123 stands in it");
         add(&w, r as u16);
     }
     add(&[1, 2, 3, 4, 5], 1);
@@ -362,7 +464,7 @@ impl Maker {
         let mut tries = 0;
         loop {
             let patterns = self.set();
-            let longest = crate::judging::longest(&patterns);
+            let longest = longest(&patterns);
             let depth = if longest > 5 { 2 } else { self.random.within(2, 4) };
             let total = self.random.within(0, if longest > 5 { 1 } else { 3 });
             let mut more = vec![];
@@ -440,7 +542,7 @@ impl Maker {
         if r.one_in(3) && add_superfluous(r, &mut patterns) {
             kind = "random, superfluous patterns";
         }
-        let longest = crate::judging::longest(&patterns);
+        let longest = longest(&patterns);
         let length = if r.one_in(4) { r.within(4, PREFIX_LENGTH) } else { r.within(1, 4) };
         let prefix = r.permutation(length);
         let mut entry = deleting(&prefix, r.within(1, length));
@@ -460,6 +562,53 @@ impl Maker {
             entries.rotate_left(at);
         }
         self.texts(kind, &Pair { patterns, entries })
+    }
+
+    /// A set with patterns that contain a member put into it, and the scheme of the set without
+    /// them: as it is, or with an entry that deletes another position, or one vector less. Most are
+    /// small enough for listing.
+    pub fn next_lengthened(&mut self) -> Case {
+        let mut pair = self.small();
+        let r = &mut self.random;
+        let depth = pair.entries.iter().map(|e| e.prefix.count()).max().unwrap_or(0);
+        let longest = if r.one_in(10) { PATTERN_LENGTH } else { (LISTED - depth).min(PATTERN_LENGTH - 2) };
+        let mut kind = lengthen(r, &mut pair.patterns, longest);
+        if r.one_in(10) && pair.patterns.len() < PATTERNS {
+            pair.patterns.retain(|p| p.count() > 1);
+            pair.patterns.insert(r.below(pair.patterns.len() + 1), Pattern::of(&[1]));
+            kind = "all above 1";
+        }
+        if r.one_in(40) {
+            let twin = *r.pick(&pair.patterns);
+            pair.patterns.push(twin);
+        }
+        if !r.one_in(3) {
+            delete_another(r, &mut pair.entries);
+        } else if r.one_in(3) {
+            let at = r.below(pair.entries.len());
+            let vectors = &mut pair.entries[at].vectors;
+            if vectors.count() > 0 {
+                vectors.remove(0);
+            }
+        }
+        if r.one_in(3) {
+            let at = r.below(pair.entries.len());
+            pair.entries.rotate_left(at);
+        }
+        self.texts(kind, &pair)
+    }
+
+    /// A pair of the pool with patterns, whose set can be lengthened and still be listed. The
+    /// published scheme of {123} is one.
+    fn small(&mut self) -> Pair {
+        loop {
+            let pair = self.random.pick(&self.pool);
+            let depth = pair.entries.iter().map(|e| e.prefix.count()).max().unwrap_or(0);
+            let shortest = pair.patterns.iter().map(|p| p.count()).min();
+            if shortest.is_some_and(|s| s + depth < LISTED) && longest(&pair.patterns) + depth <= LISTED && pair.entries.len() <= 40 {
+                return pair.clone();
+            }
+        }
     }
 
     fn texts(&mut self, kind: &'static str, pair: &Pair) -> Case {
@@ -598,7 +747,7 @@ impl Maker {
     fn mixed(&mut self, pair: Pair) -> Case {
         let other = self.random.below(self.pool.len());
         let entries = self.pool[other].entries.clone();
-        let longest = crate::judging::longest(&pair.patterns);
+        let longest = longest(&pair.patterns);
         let deepest = entries.iter().map(|e| e.prefix.count()).max().unwrap_or(0);
         if longest + deepest > 11 && pair.patterns.len() > 3 {
             return self.random_bytes();
@@ -623,6 +772,25 @@ impl Maker {
         let patterns = if r.one_in(2) { SET.into() } else { text(r) };
         let scheme = if r.one_in(8) { SCHEME.into() } else { text(r) };
         Case { kind: "random bytes and pieces", patterns, scheme }
+    }
+}
+
+/// Has one entry delete another position than it does, or one where it expands, of those whose
+/// target has an entry.
+fn delete_another(r: &mut Random, entries: &mut [Entry]) {
+    let prefixes: Vec<Prefix> = entries.iter().map(|e| e.prefix).collect();
+    let mut changes = vec![];
+    for (i, e) in entries.iter().enumerate() {
+        for r in 1..=e.prefix.count() {
+            let target = Prefix::of(deleted(e.prefix.items(), r).items());
+            if prefixes.contains(&target) && e.rule != Rule::Delete(r as u16) {
+                changes.push((i, Rule::Delete(r as u16)));
+            }
+        }
+    }
+    if !changes.is_empty() {
+        let (i, rule) = *r.pick(&changes);
+        entries[i].rule = rule;
     }
 }
 

@@ -35,13 +35,28 @@ pub fn judge_showing(patterns: &Patterns, scheme: &Scheme) -> (Verdict, Option<S
             return (Err(Refusal(IRREVERSIBLE, i)), shown);
         }
     }
-    let m = longest(patterns.items());
+    let m = longest(&basis);
     (Ok(entries.iter().map(|e| compared(e, m)).sum()), None)
 }
 
-/// The length of the longest pattern, 0 for no patterns.
+/// The length of the longest of some patterns, 0 for none. Of the basis of a set it is m, as order
+/// 3 defines it.
 pub fn longest(patterns: &[Pattern]) -> usize {
     patterns.iter().map(|p| p.count()).max().unwrap_or(0)
+}
+
+/// The m of document 01 before order 3: the length of the longest pattern of the whole set, 0 for
+/// no patterns. It is at least the m of order 3, and with it as many cells are compared or more;
+/// acceptance, the number and index of a refusal and the witness are the same, which the slow mode
+/// tests.
+pub fn old_longest(patterns: &Patterns) -> usize {
+    longest(patterns.items())
+}
+
+/// The m of order 3: the length of the longest of the patterns that contain no other pattern of the
+/// set, 0 for no patterns. `judge_showing` has the basis at hand and takes its longest.
+pub fn new_longest(patterns: &Patterns) -> usize {
+    longest(&basis(patterns.items()))
 }
 
 /// The patterns that contain no other pattern of the set. The others change no cell.

@@ -47,17 +47,38 @@ fn permutations(n: usize) -> Vec<Vec<u8>> {
 /// The sizes of the cells of one prefix length and one length, by prefix and spacing.
 type Sizes = HashMap<(Vec<u8>, Vec<usize>), usize>;
 
+/// Every list of some of the word's entries in their order, but not all of them, reduced.
+fn proper_sublists(word: &[u8]) -> impl Iterator<Item = Vec<u8>> + '_ {
+    let all = (1u32 << word.len()) - 1;
+    (0..all).map(|set| {
+        let chosen = word.iter().enumerate().filter(|(i, _)| set >> i & 1 == 1);
+        reduce(&chosen.map(|(_, &x)| x).collect::<Vec<u8>>())
+    })
+}
+
 /// The avoiders of each length, listed once, and the sizes of their cells.
 pub struct Listing {
     patterns: Vec<Vec<u8>>,
+    /// m as order 3 defines it: the length of the longest pattern that contains no other one
+    m: usize,
+    /// m as document 01 had it before order 3: the length of the longest pattern
+    old_m: usize,
     avoiders: Vec<Vec<Vec<u8>>>,
     cells: HashMap<(usize, usize), Sizes>,
 }
 
 impl Listing {
     pub fn of(patterns: &Patterns) -> Listing {
-        let patterns = patterns.items().iter().map(|p| p.items().to_vec()).collect();
-        Listing { patterns, avoiders: vec![], cells: HashMap::new() }
+        let patterns: Vec<Vec<u8>> = patterns.items().iter().map(|p| p.items().to_vec()).collect();
+        let minimal = |p: &&Vec<u8>| !proper_sublists(p).any(|q| patterns.contains(&q));
+        let m = patterns.iter().filter(minimal).map(|p| p.len()).max().unwrap_or(0);
+        let old_m = patterns.iter().map(|p| p.len()).max().unwrap_or(0);
+        Listing { patterns, m, old_m, avoiders: vec![], cells: HashMap::new() }
+    }
+
+    /// m as order 3 defines it, and as document 01 had it before.
+    pub fn both_m(&self) -> (usize, usize) {
+        (self.m, self.old_m)
     }
 
     /// The permutations of length n that avoid every pattern.
@@ -95,12 +116,12 @@ impl Listing {
     }
 
     /// The verdict on a well-formed scheme by comparing sizes, or None if some length is too large
-    /// to list.
+    /// to list. Sizes are compared at all totals below the old m, so that a fault which only it
+    /// reaches would be found; the compared cells are those with a total below the m of order 3.
     pub fn judge(&mut self, scheme: &Scheme) -> Option<Result<usize, Refusal>> {
-        let m = self.patterns.iter().map(|p| p.len()).max().unwrap_or(0);
         let too_long = |e: &Entry| {
             let total = e.vectors.items().iter().map(|v| v.items().iter().sum::<u16>() as usize).max().unwrap_or(0);
-            let compared = if e.rule == Rule::Expand { 0 } else { m.max(1) - 1 };
+            let compared = if e.rule == Rule::Expand { 0 } else { self.old_m.max(1) - 1 };
             e.prefix.count() + total.max(compared) > LISTED
         };
         if scheme.entries.iter().any(too_long) {
@@ -120,12 +141,12 @@ impl Listing {
             let p = entry.prefix.items();
             let value = p[r as usize - 1] as usize;
             let shorter = deleted(p, r as usize);
-            for total in 0..m {
+            for total in 0..self.old_m {
                 for g in spacings(p.len() + 1, total) {
                     if is_covered(entry, &g) {
                         continue;
                     }
-                    compared += 1;
+                    compared += (total < self.m) as usize;
                     if self.size(p, &g) != self.size(shorter.items(), &merged(&g, value)) {
                         return Some(Err(Refusal(IRREVERSIBLE, i)));
                     }
@@ -135,16 +156,16 @@ impl Listing {
         Some(Ok(compared))
     }
 
-    /// The bytes of the witness for an entry: the first compared spacing at which the sizes of the
-    /// two cells differ, the first permutation that is lost there, and the first copy in it of the
-    /// earliest pattern that has one. None if sizes differ at no length up to `limit`.
+    /// The bytes of the witness for an entry: the first spacing that is at least no vector, with a
+    /// total below the old m, at which the sizes of the two cells differ; the first permutation
+    /// that is lost there, and the first copy in it of the earliest pattern that has one. None if
+    /// sizes differ at no length up to `limit`.
     pub fn witness(&mut self, entry: &Entry, limit: usize) -> Option<Vec<u8>> {
         let Rule::Delete(r) = entry.rule else { return None };
-        let m = self.patterns.iter().map(|p| p.len()).max().unwrap_or(0);
         let (p, r) = (entry.prefix.items(), r as usize);
         let value = p[r - 1] as usize;
         let shorter = deleted(p, r);
-        for total in (0..m).take_while(|total| p.len() + total <= limit) {
+        for total in (0..self.old_m).take_while(|total| p.len() + total <= limit) {
             for g in spacings(p.len() + 1, total) {
                 if is_covered(entry, &g) {
                     continue;
@@ -193,13 +214,12 @@ impl Listing {
     }
 
     /// Whether 32 bytes are a witness for an entry, at any length: what they show is lost at a
-    /// compared spacing, and the copy is the right one. That nothing smaller is lost is not looked
-    /// at.
+    /// compared spacing, by the m of order 3, and the copy is the right one. That nothing smaller
+    /// is lost is not looked at.
     pub fn admits(&self, entry: &Entry, bytes: &[u8]) -> bool {
         let Rule::Delete(r) = entry.rule else { return false };
         let (p, n) = (entry.prefix.items(), bytes[0] as usize);
-        let m = self.patterns.iter().map(|p| p.len()).max().unwrap_or(0);
-        if n < p.len() || n >= p.len() + m {
+        if n < p.len() || n >= p.len() + self.m {
             return false;
         }
         let word = &bytes[1..=n];
@@ -212,16 +232,16 @@ impl Listing {
         !is_covered(entry, &g) && self.is_lost(p, r as usize, &g, word) && self.page(word) == bytes
     }
 
-    /// The bytes of the witness for an entry at greater lengths: at each compared spacing in order,
-    /// all words that begin with the prefix there are listed in lexicographic order, up to a number
-    /// of words; the first that is lost is shown. None if it is not among them.
+    /// The bytes of the witness for an entry at greater lengths: at each spacing in order that is
+    /// at least no vector and has a total below the old m, all words that begin with the prefix
+    /// there are listed in lexicographic order, up to a number of words; the first that is lost is
+    /// shown. None if it is not among them.
     pub fn witness_among(&self, entry: &Entry, number: usize) -> Option<Vec<u8>> {
         let Rule::Delete(r) = entry.rule else { return None };
-        let m = self.patterns.iter().map(|p| p.len()).max().unwrap_or(0);
         let p = entry.prefix.items();
         let avoids = |word: &[u8]| self.patterns.iter().all(|p| contains(p, word).is_none());
         let mut listed = 0;
-        for total in 0..m {
+        for total in 0..self.old_m {
             let orders = permutations(total);
             for g in spacings(p.len() + 1, total) {
                 if is_covered(entry, &g) {

@@ -85,7 +85,8 @@ pub fn deleting(prefix: &[u8], r: usize) -> Entry {
 }
 
 /// 23 patterns of length 8 beside 12: a long set with a short basis. Prefixes of length 6 that
-/// contain 12 with and without the deleted position.
+/// contain 12 with and without the deleted position. Since order 3 only totals below 2 are compared
+/// for it; before, it had 352,910 compared cells.
 pub fn short_basis() -> Pair {
     let mut patterns = vec![Pattern::of(&[1, 2])];
     patterns.extend(&beginning_with(&[1, 2, 3, 4])[..PATTERNS - 1]);
@@ -109,6 +110,40 @@ pub fn short_basis() -> Pair {
     for entry in &mut entries {
         match entry.prefix.items() {
             [1] => entry.vectors.push(Vector::of(&[0, 1])),
+            [1, 2] => entry.vectors.push(Vector::of(&[0, 0, 0])),
+            _ => {}
+        }
+    }
+    entries.push(Entry::default());
+    Pair { patterns, entries }
+}
+
+/// {12,87654321}, which is its own basis and has m = 8, with 128 entries that are accepted. Most of
+/// them are prefixes of length 6 that contain 12 with and without the deleted position, so that all
+/// sizes are 0: little to search, but 412,969 compared cells to go through.
+pub fn own_basis() -> Pair {
+    let patterns = vec![Pattern::of(&[1, 2]), Pattern::of(&[8, 7, 6, 5, 4, 3, 2, 1])];
+    let root = [1, 2, 3, 4];
+    let mut needed = with_targets(&BTreeMap::new(), &root);
+    let mut longest = BTreeMap::new();
+    let leads = |p: &[u8], target: &[u8]| (1..=p.len()).find(|&r| deleted(p, r).items() == target);
+    for target in words(5).iter().filter(|p| leads(p, &root).is_some()) {
+        if longest.len() + needed.len() + 1 >= ENTRIES {
+            break;
+        }
+        needed = with_targets(&needed, target);
+        for p in words(6) {
+            if let Some(r) = leads(&p, target) {
+                longest.entry(p).or_insert(r);
+            }
+        }
+    }
+    let longest = longest.iter().take(ENTRIES - 1 - needed.len());
+    let mut entries: Vec<Entry> = longest.chain(needed.iter().rev()).map(|(p, &r)| deleting(p, r)).collect();
+    for entry in &mut entries {
+        match entry.prefix.items() {
+            // nothing above the first entry, and at most six values below it
+            [1] => entry.vectors = Kept::of(&[Vector::of(&[0, 1]), Vector::of(&[7, 0])]),
             [1, 2] => entry.vectors.push(Vector::of(&[0, 0, 0])),
             _ => {}
         }

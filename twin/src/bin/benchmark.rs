@@ -160,6 +160,7 @@ fn inputs(wanted: impl Fn(&str) -> bool, each: impl Fn(&Input)) {
     add("worst: any order, then 3456", worst, judge, &|| texts(true_deletions(ending_with(&[3, 4, 5, 6]), 100)));
     add("worst: a live gap beside true deletions", worst, judge, &|| texts(with_live_gap(true_deletions(beginning_low(3), 100))));
     add("worst: long set, short basis", worst, judge, &|| texts(short_basis()));
+    add("worst: own basis, 412,969 compared cells", worst, judge, &|| texts(own_basis()));
 
     let refused = "{(ε,∅,∅),(1,∅,∅),(12,{⟨0,0,1⟩},{1}),(21,∅,{1})}";
     add("witness: {123}, 4 entries", None, Work::Witness, &|| (set(), refused.as_bytes().to_vec()));

@@ -3,8 +3,8 @@
 //!
 //! `differential [COUNT] [SEED]` makes COUNT random inputs beside the fixed ones. It prints how
 //! many there were of each kind, how many were accepted and refused, and each disagreement with its
-//! input. The exit status is 1 where there was a disagreement, a crash or a hang, or too few
-//! refusals 11.
+//! input. The exit status is 1 where there was a disagreement, a crash or a hang, or too few inputs
+//! of some kind, such as refusals 11, or sets whose m is not the one before order 3.
 
 use std::collections::BTreeMap;
 use std::fs;
@@ -18,8 +18,8 @@ use twin::containment::copy_of;
 use twin::counting::{count, need, plain};
 use twin::engine;
 use twin::guarded::{Guarded, FILL};
-use twin::inputs::{exact_need, examples, fixed, Case, Maker};
-use twin::judging::judge_texts;
+use twin::inputs::{exact_need, examples, fixed, lengthened, Case, Maker};
+use twin::judging::{judge_texts, new_longest, old_longest};
 use twin::list_inputs::{self, length_three, Listed, Lister, Start, NAMED, SMALL};
 use twin::listing::{first_copy_slowly, Listing};
 use twin::model::{Entry, Refusal, IRREVERSIBLE, LONGEST, LONGEST_PLAIN, WITNESS};
@@ -28,6 +28,7 @@ use twin::published::published;
 use twin::random::Random;
 use twin::table::table;
 use twin::witness::judge_texts_on_page;
+use twin::worst::own_basis;
 
 /// The stack that include/judge.h asks of a thread that calls the judge.
 const STACK: usize = 512 * 1024;
@@ -36,8 +37,11 @@ const PATIENCE: u64 = 120;
 /// The lengths of the pages that judging is lent.
 const PAGES: [usize; 5] = [0, 1, 31, WITNESS, 40];
 /// A run that meets fewer refusals 11, or compares fewer witnesses with listing, or finds fewer
-/// copies, than this proves too little, and fails.
+/// copies, or has fewer sets with two different m, than this proves too little, and fails.
 const ENOUGH: usize = 500;
+/// Every run has at least so many inputs with longer patterns put into the set, so that a short one
+/// has enough of them.
+const LENGTHENED: usize = 2_000;
 /// The words that the second implementation may look at for one avoider. An input that takes more
 /// is left out.
 const WORDS: u64 = 10_000;
@@ -101,6 +105,20 @@ fn watch() {
     });
 }
 
+/// Inputs with a set whose m is not its old one, the m before order 3.
+#[derive(Default)]
+struct TwoM {
+    /// those whose claims were judged
+    judged: usize,
+    /// those whose verdict was compared with listing up to the old m: accepted, and refused 11
+    accepted: usize,
+    refused: usize,
+    /// those whose witness was compared with listing up to the old m; of these, the witnesses at
+    /// the greatest total that is compared
+    witnesses: usize,
+    last: usize,
+}
+
 struct Test {
     seed: u64,
     /// where the engine's two texts stand, and its page
@@ -108,8 +126,10 @@ struct Test {
     page: Guarded,
     kinds: BTreeMap<&'static str, (usize, usize)>,
     verdicts: BTreeMap<u32, usize>,
-    /// inputs whose claims were judged; the first ones and one in eight of the others are listed
+    /// inputs whose claims were judged; the first ones, all of them while `thorough` and one in
+    /// eight of the others are listed
     claims: usize,
+    thorough: bool,
     listed: usize,
     counted: usize,
     /// witnesses; those compared with listing, and with listing at greater lengths
@@ -117,6 +137,7 @@ struct Test {
     listed_witnesses: usize,
     long_witnesses: usize,
     longest_witness: u8,
+    two_m: TwoM,
     wrong: usize,
     slowest: (Duration, &'static str),
     calls: Duration,
@@ -134,12 +155,14 @@ impl Test {
             kinds: BTreeMap::new(),
             verdicts: BTreeMap::new(),
             claims: 0,
+            thorough: false,
             listed: 0,
             counted: 0,
             witnesses: 0,
             listed_witnesses: 0,
             long_witnesses: 0,
             longest_witness: 0,
+            two_m: TwoM::default(),
             wrong: 0,
             slowest,
             calls: Duration::ZERO,
@@ -156,6 +179,19 @@ impl Test {
             }
             self.published_counts(&p);
         }
+        for (patterns, scheme, expected) in lengthened() {
+            let verdict = line(judge_texts(patterns.as_bytes(), scheme.as_bytes()));
+            if verdict != expected {
+                self.report("the verdict worked out by hand", expected, &verdict, patterns.as_bytes(), scheme.as_bytes());
+            }
+        }
+        // the number that the benchmark names
+        let own = own_basis();
+        let (patterns, scheme) = (write_patterns(&own.patterns), write_scheme(&own.entries));
+        let verdict = line(judge_texts(&patterns, &scheme));
+        if verdict != "accepted 412969" {
+            self.report("the set that is its own basis", "accepted 412969", &verdict, &patterns, &scheme);
+        }
         self.examples();
         for case in fixed() {
             self.judge(&case);
@@ -170,9 +206,17 @@ impl Test {
             let case = maker.next_deletion();
             self.judge(&case);
         }
+        self.thorough = true;
+        for _ in 0..(count / 8).max(LENGTHENED) {
+            let case = maker.next_lengthened();
+            self.judge(&case);
+        }
         self.print();
         self.enough("refusals 11", self.witnesses);
         self.enough("witnesses compared with listing", self.listed_witnesses);
+        self.enough("sets with two m, accepted by listing up to the old one", self.two_m.accepted);
+        self.enough("sets with two m, refused 11 by listing up to the old one", self.two_m.refused);
+        self.enough("witnesses of sets with two m compared with listing", self.two_m.witnesses);
         self.copies();
         self.avoiders(count / 4);
         self.judgements();
@@ -274,6 +318,11 @@ impl Test {
         self.witnesses += 1;
         self.listed_witnesses += slow.is_some() as usize;
         self.long_witnesses += longer.is_some() as usize;
+        let (m, old_m) = listing.both_m();
+        if m != old_m && (slow.is_some() || longer.is_some()) {
+            self.two_m.witnesses += 1;
+            self.two_m.last += (fast[0] as usize + 1 == entry.prefix.count() + m) as usize;
+        }
         self.longest_witness = self.longest_witness.max(fast[0]);
     }
 
@@ -472,18 +521,26 @@ impl Test {
     /// The fast mode against the slow one, where the lengths are small.
     fn list(&mut self, case: &Case, fast: Result<usize, Refusal>) {
         let (Ok(patterns), Ok(scheme)) = (read_patterns(&case.patterns), read_scheme(&case.scheme)) else { return };
-        self.claims += 1;
-        if self.claims > 3_700 && self.claims & 7 != 0 {
-            return;
-        }
-        let m = twin::judging::longest(patterns.items());
-        let depth = scheme.entries.iter().map(|e| e.prefix.count()).max().unwrap_or(0);
-        if m + depth > 8 || scheme.entries.len() > 40 {
-            return;
-        }
         let mut listing = Listing::of(&patterns);
+        let (m, old_m) = (new_longest(&patterns), old_longest(&patterns));
+        if listing.both_m() != (m, old_m) {
+            let (slow, fast) = (format!("{:?}", listing.both_m()), format!("{:?}", (m, old_m)));
+            self.report("the slow m and old m, and the fast ones", &slow, &fast, &case.patterns, &case.scheme);
+        }
+        let two = m != old_m;
+        self.two_m.judged += two as usize;
+        self.claims += 1;
+        if self.claims > 3_700 && self.claims & 7 != 0 && !self.thorough {
+            return;
+        }
+        let depth = scheme.entries.iter().map(|e| e.prefix.count()).max().unwrap_or(0);
+        if old_m + depth > 8 || scheme.entries.len() > 40 {
+            return;
+        }
         if let Some(slow) = listing.judge(&scheme) {
             self.listed += 1;
+            self.two_m.accepted += (two && slow.is_ok()) as usize;
+            self.two_m.refused += (two && matches!(slow, Err(Refusal(IRREVERSIBLE, _)))) as usize;
             if slow != fast {
                 self.report("the slow mode and the fast one", &line(slow), &line(fast), &case.patterns, &case.scheme);
             }
@@ -536,6 +593,9 @@ impl Test {
         let (listed, long) = (self.listed_witnesses, self.long_witnesses);
         println!("{} refusals 11, of up to {} entries", self.witnesses, self.longest_witness);
         println!("witnesses compared with listing: {listed}, at greater lengths: {long}");
+        let TwoM { judged, accepted, refused, witnesses, last } = self.two_m;
+        println!("inputs with an m that is not the old one: {judged}; compared with listing up to the old one:");
+        println!("  {accepted} accepted, {refused} refused 11, {witnesses} witnesses, {last} of them at total m - 1");
         let (longest, kind) = self.slowest;
         let (longest, all) = (longest.as_secs_f64() * 1e3, self.calls.as_secs_f64());
         println!("longest call of the engine: {longest:.1} ms ({kind}); all: {all:.1} s");
