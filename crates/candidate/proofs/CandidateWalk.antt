@@ -29,11 +29,11 @@ use Rattle.candidate.specs.Lookup.{needAt, Says, Flags}
 use Rattle.forms.specs.SetMemory.{patternAt}
 use Rattle.candidate.specs.Ready.{Ready, Needs, Given, Looked, FlaggedFor, FreeAnswer, FoundAt, TotalAnswer, EntryAnswer}
 use Rattle.candidate.specs.declared.search.Lost.{Lost}
-use Rattle.candidate.specs.BasisMemory.{pattern-member}
+use Rattle.basis.specs.BasisMemory.{pattern-member}
 use Rattle.spacing.specs.Following.{firstVector, later, Follows}
 use Rattle.spacing.specs.SpacingOrder.{vectors-first, first-length, first-total}
 use Rattle.candidate.proofs.HitLaws.{hit-short}
-use Rattle.candidate.proofs.BasisWalk.{take-again, from, from-start, from-counted, from-cons}
+use Rattle.basis.proofs.BasisWalk.{take-again, from, from-start, from-counted, from-cons}
 
 -- what is looked up for the pattern at place i
 pub ready : (set : List (List ℕ)) (lengths : List ℕ) (count : ℕ) (p R g levels gone : List ℕ) (needs : List ℕ) (t i : ℕ) →

@@ -1,7 +1,6 @@
 -- The laws that the proofs of the crate candidate cite.
 pub mod PlacingState
 pub mod HitLaws
-pub mod BasisWalk
 pub mod LookupLaws
 pub mod CandidateMade
 pub mod NeedLaws

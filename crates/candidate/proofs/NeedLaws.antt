@@ -14,7 +14,7 @@ use Rattle.cell.specs.Candidate.{headLength}
 use Rattle.candidate.specs.Lookup.{VALUES, NEEDS}
 use Rattle.forms.specs.SetMemory.{patternAt}
 use Rattle.candidate.specs.Ready.{Needs, AllNeeds}
-use Rattle.candidate.proofs.BasisWalk.{take-again}
+use Rattle.basis.proofs.BasisWalk.{take-again}
 
 -- y is the level that x needs as a head entry of the pattern, where its last t entries are the rest
 abbrev pub NeedIs : List ℕ → ℕ → ℕ → ℕ → Type 0

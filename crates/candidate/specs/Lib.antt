@@ -1,6 +1,4 @@
--- The definitions of the crate candidate, and a law of memory.
+-- The definitions of the crate candidate.
 pub mod Lookup
 pub mod Ready
 pub mod Tabled
-pub mod BasisSet
-pub mod BasisMemory

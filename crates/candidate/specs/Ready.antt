@@ -89,8 +89,8 @@ TotalAnswer set lengths count p gone B k t r =
     (R : List ℕ) → FlaggedFor set lengths count p R gone → k ≡ length p →
     FoundAt k (first (λ g. free B g && violated (patternsOf set lengths count) p R g) (vectors (suc k) t)) r
 
--- The answer on an entry, under m: it is the definition's, it says where the first violation is, and
--- where m is at least the length of the longest pattern, it is no exactly if the deletion claim
+-- The answer on an entry, under m: it is the definition's, and it says where the first violation
+-- is. Where m is at least the length of the longest pattern, it is no exactly if the deletion claim
 -- holds at every length.
 pub record EntryAnswer (m : ℕ) (P : List (List ℕ)) (p : List ℕ) (B : List (List ℕ)) (R : List ℕ) (r : Lost) : Type 0 where
   pub defined : r .found ≡ irreversible m P p B R

@@ -1,6 +1,5 @@
-// The candidate search: placing a pattern's head in a prefix, the numbers that it looks up, the
-// basis of a set, and the search itself.
-pub mod basis;
+// The candidate search: placing a pattern's head in a prefix, the numbers that it looks up, and the
+// search itself.
 pub mod needed;
 pub mod placing;
 pub mod search;

@@ -1,8 +1,8 @@
 // The levels that the head entries of the patterns of a set need, for every total: worked out once
 // for a set, and looked up in the search.
-use crate::basis::digits;
 use crate::tables::VALUES;
 use crate::tables::at_most;
+use basis::digits;
 use word::limits::DIGITS;
 use word::limits::PATTERNS;
 ghost use mathlib.Core.Path.{_≡_};

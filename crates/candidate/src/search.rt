@@ -1,7 +1,6 @@
 // The candidate search: whether a deletion loses a member of the shorter cell, and at which spacing
 // it first does. For each spacing and pattern there is one word to look at: the prefix at the
 // spacing, followed by the rest that the pattern's last entries make.
-use crate::basis::digits;
 use crate::needed::need_at;
 use crate::placing::Placing;
 use crate::placing::placed;
@@ -10,6 +9,7 @@ use crate::tables::VALUES;
 use crate::tables::candidate_word;
 use crate::tables::deleted_values;
 use crate::tables::levels_of;
+use basis::digits;
 use completion::contained;
 use spacing::first_spacing;
 use spacing::is_free;

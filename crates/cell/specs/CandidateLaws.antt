@@ -157,7 +157,8 @@ pub irreversible-law : (m : ℕ) (P : List (List ℕ)) → longest P ≤ m → (
 unfolding irreversible
 irreversible-law m P reach p R perm inside apart B = (
   λ h. claim-of-clean P p R perm inside B
-      (λ g size f t. clean-of-candidates P p R perm apart g size (any-fails (violated P p R) h (compared-all m (length p) B g size (omega arith) f))),
+      (λ g size f t. clean-of-candidates P p R perm apart g size (any-fails (violated P p R) h
+      (compared-all m (length p) B g size (omega arith) f))),
   λ claim. none-any (violated P p R) (comparedTo m (length p) B)
       (λ g d. let (size, t, f) = compared-are m (length p) B d in
       candidates-of-agrees P p R perm apart g size (agrees-of-claim P p R perm inside B claim g size f)),

@@ -1,7 +1,7 @@
 -- The rule of an entry: the deletion that the candidate search decides, what is shown of it, and
 -- the number of compared cells.
 -- Assumes nothing.
-use Prim.Native.Nat.{ℕ, suc, _+_, _≤_, _<_}
+use Prim.Native.Nat.{ℕ, _+_, _≤_, _<_}
 use native.Mathlib.Omega.{arith}
 use mathlib.Core.Path.{_≡_, refl, sym, ap, ap₂, _∙_}
 use mathlib.Core.Bool.{true, false}
@@ -27,7 +27,7 @@ use Rattle.candidate.specs.declared.search.Lost.{Lost}
 use Rattle.lost_word.specs.declared.least.LostWord.{LostWord}
 use Rattle.candidate.proofs.CandidateWalk.{located-total}
 use Rattle.lost_word.proofs.LeastWalk.{candidate-none, candidate-some, candidate-found, shows-found}
-use Rattle.candidate.specs.BasisMemory.{pattern-member}
+use Rattle.basis.specs.BasisMemory.{pattern-member}
 use Rattle.forms.specs.SchemeList.{deletes}
 use Rattle.scheme.specs.WellFormed.{outside}
 use Rattle.forms.specs.SchemeMemory.{doesOf, entryIn}

@@ -79,10 +79,7 @@ pub fn is_irreversible(
             length: 0,
         },
         Rule::Delete(r) => {
-            let cut = Cut {
-                position: r,
-                m: m,
-            };
+            let cut = Cut { position: r, m: m };
             loses(set, lengths, count, needs, e, cut)
         }
     }

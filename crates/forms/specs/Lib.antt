@@ -7,6 +7,7 @@ pub mod GapRows
 pub mod SetMemory
 pub mod StoredLaws
 pub mod MemoryLaws
+pub mod HeldLaws
 pub mod GapRowLaws
 pub mod ToldLaws
 pub mod CodeLaws

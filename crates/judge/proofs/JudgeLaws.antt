@@ -15,7 +15,7 @@ use Rattle.word.specs.Containment.{patternsOf}
 use Rattle.cell.specs.Cell.{mOf}
 use Rattle.cell.specs.Basis.{basis}
 use Rattle.cell.specs.BasisLaws.{basis-in}
-use Rattle.candidate.specs.BasisSet.{IsBasis}
+use Rattle.basis.specs.BasisSet.{IsBasis}
 use Rattle.forms.specs.SchemeList.{EntryList}
 use Rattle.scheme.specs.WellFormed.{firstAt, patternTests, schemeTests}
 use Rattle.forms.specs.SchemeMemory.{patternsIn, schemeIn, faultOf, orElse, faulty}
@@ -36,7 +36,7 @@ use Rattle.judge.specs.SetMemory.{lossShown, Loses}
 use Rattle.judge.specs.declared.deletions.Loss.{Loss}
 use Rattle.judge.proofs.LossLaws.{live-word, loss-word}
 use Rattle.scheme.specs.Proper.{Proper}
-use Rattle.scheme.specs.SetLaws.{set-held}
+use Rattle.basis.specs.BasisSetLaws.{basis-held}
 use Rattle.scheme.specs.NumberLaws.{patterns-nine, scheme-nine}
 use Rattle.judge.specs.JudgementLaws.{verdict-parts, live-same, differs-same, refused-answer}
 use Rattle.judge.specs.WitnessPageLaws.{numberIn, number-found, earlier-nine, page-kept}
@@ -95,11 +95,11 @@ module _ (P : List (List ℕ)) (E : List EntryList) where
 
 -- The basis of a set, as the code makes it.
 module _ (set : List (List ℕ)) (lengths : List ℕ) (count : ℕ) (q : ProperSet set lengths count) (b : Patterns)
-    (is-basis : IsBasis set lengths count b)
+    (is-basis : IsBasis (patternsOf set lengths count) b)
     (rows : List (List ℕ)) (sizes : List ℕ) (hr : length rows ≡ PATTERNS) (hs : length sizes ≡ PATTERNS)
     (has : HasDigits (b .items) rows) (sized : HasLengths (b .items) sizes) where
   basis-holds : patternsOf rows sizes (b .count) ≡ basis (patternsOf set lengths count)
-  basis-holds = set-held b (is-basis .few) (is-basis .short) rows sizes hr hs has sized ∙ is-basis .holds
+  basis-holds = basis-held (patternsOf set lengths count) b is-basis rows sizes hr hs has sized
 
   -- m is the length of the longest pattern of the basis
   pub basis-m : (m : ℕ) → m ≡ longest (patternsOf rows sizes (b .count)) → m ≡ mOf (patternsOf set lengths count)
@@ -152,7 +152,8 @@ module _ (set : List (List ℕ)) (lengths : List ℕ) (count : ℕ) (q : ProperS
         (faultOf (firstFault (claimTests (patternsOf set lengths count) (schemeIn s)))) ≡ none
     live-shown h =
         ap (wordShown (patternsOf set lengths count) (schemeIn s)) (sym (claims-live h) ∙ live-is) ∙
-        live-word (mOf (patternsOf set lengths count)) (patternsOf set lengths count) (q .perms) (schemeIn s) (p .each) (liveEntry (patternsOf set lengths count)) 0 (schemeIn s)
+        live-word (mOf (patternsOf set lengths count)) (patternsOf set lengths count) (q .perms) (schemeIn s) (p .each)
+        (liveEntry (patternsOf set lengths count)) 0 (schemeIn s)
 
     -- .. and with test 11 what the search on the basis shows
     pub lost-shown : (m : ℕ) → m ≡ mOf (patternsOf set lengths count) → (loss : Loss) →
@@ -165,7 +166,8 @@ module _ (set : List (List ℕ)) (lengths : List ℕ) (count : ℕ) (q : ProperS
             (faultOf (firstFault (claimTests (patternsOf set lengths count) (schemeIn s)))) ≡
             lossShown m (patternsOf rows sizes (b .count)) (schemeIn s) (loss .fault)
         same =
-            ap (wordShown (patternsOf set lengths count) (schemeIn s)) (sym (claims-lost m is-m (loss .fault) (l .found) h) ∙ l .found ∙ lost-is m is-m) ∙
+            ap (wordShown (patternsOf set lengths count) (schemeIn s))
+            (sym (claims-lost m is-m (loss .fault) (l .found) h) ∙ l .found ∙ lost-is m is-m) ∙
             loss-word (mOf (patternsOf set lengths count)) (patternsOf set lengths count) (q .perms) (schemeIn s) (p .each)
             (differingEntry (mOf (patternsOf set lengths count)) (patternsOf set lengths count)) 0 (schemeIn s) ∙
             ap₂ (λ (Q : List (List ℕ)) (f : Fault). lossShown (mOf (patternsOf set lengths count)) Q (schemeIn s) f) (sym basis-holds)

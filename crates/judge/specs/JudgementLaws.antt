@@ -1,15 +1,14 @@
 -- Laws of judging: the tests on the basis are those on the set, and the parts of the verdict.
-use Prim.Native.Nat.{ℕ, suc}
+use Prim.Native.Nat.{ℕ}
 use native.Mathlib.Omega.{arith}
 use mathlib.Core.Path.{_≡_, refl, sym, ap, ap₂, _∙_, fun-ext}
-use mathlib.Core.Bool.{Bool, true, false, not, cond}
-use mathlib.Core.List.{List, [], _∷_, _++_, List·Memᴰ, List·Memᴰ·head, List·Memᴰ·tail}
+use mathlib.Core.Bool.{Bool, true, false, not}
+use mathlib.Core.List.{List, [], _∷_, _++_, List·Memᴰ}
 use lib.ListN.{length}
 use lib.Dec.{eqb}
 use Rattle.word.specs.Lists.{any}
 use Rattle.word.specs.Word.{isPerm}
-use Rattle.word.specs.Finding.{Finding, fault, firstFault}
-use Rattle.word.specs.declared.refusal.Refusal.{Refusal}
+use Rattle.word.specs.Finding.{firstFault}
 use Rattle.word.specs.declared.refusal.Refusal.the-variants.{LiveGap, Irreversible}
 use Rattle.cell.specs.Basis.{basis}
 use Rattle.cell.specs.Cell.{deleted, merged, comparedTo}

@@ -8,8 +8,7 @@ use Rattle.word.specs.Ceilings.{DIGITS, PREFIX}
 use Rattle.word.specs.Finding.{firstFault}
 use Rattle.word.specs.declared.refusal.Refusal.the-variants.{Irreversible}
 use Rattle.forms.specs.SchemeList.{EntryList}
-use Rattle.forms.specs.SchemeMemory.{schemeIn, faultOf}
-use Rattle.forms.specs.declared.memory.Scheme.{Scheme}
+use Rattle.forms.specs.SchemeMemory.{faultOf}
 use Rattle.forms.specs.declared.memory.Fault.{Fault}
 use Rattle.forms.specs.declared.memory.Fault.the-variants.{Clean, At}
 use Rattle.scheme.specs.WellFormed.{firstAt}

@@ -3,15 +3,14 @@
 use Prim.Native.Nat.{ℕ, suc, _+_, _-_, _≤_, _<_}
 use native.Mathlib.Omega.{arith}
 use mathlib.Core.Path.{_≡_, refl, sym, ap, ap₂, _∙_}
-use mathlib.Core.Bool.{Bool, true, false, not, cond}
+use mathlib.Core.Bool.{Bool, true, false, cond}
 use mathlib.Core.List.{List, [], _∷_, _++_, List·Memᴰ, List·Memᴰ·head, List·Memᴰ·tail}
 use mathlib.Core.Logic.{_⊎_, inl, inr}
 use mathlib.Core.Option.{Option, none, some}
 use lib.ListN.{length, take, drop, length-append}
 use lib.Seq.{take-append-seam}
-use lib.Dec.{ltb}
 use borrow.Author.Tests.{lt-ltb, le-ltb, ne-eqb}
-use Rattle.word.specs.Ceilings.{DIGITS, PATTERNS, ENTRIES, PREFIX, PAGE, HALF}
+use Rattle.word.specs.Ceilings.{DIGITS, PREFIX, PAGE, HALF}
 use Rattle.word.specs.Lists.{any}
 use Rattle.word.specs.Word.{isPerm}
 use Rattle.word.specs.ListLaws.{true-not-false, below-or-not}
@@ -20,8 +19,7 @@ use Rattle.word.specs.Finding.{Finding, clean, fault, test, firstFault}
 use Rattle.word.specs.Earliest.{earliest, positionsOf}
 use Rattle.word.specs.EarliestLaws.{positions-short}
 use Rattle.word.specs.declared.refusal.Refusal.{Refusal}
-use Rattle.word.specs.declared.refusal.Refusal.the-variants.{Oversize, NoPermutation, Repeated, Rootless, Width}
-use Rattle.word.specs.declared.refusal.Refusal.the-variants.{NoPosition, Childless, NoTarget, LiveGap, Irreversible, ShortPage}
+use Rattle.word.specs.declared.refusal.Refusal.the-variants.{LiveGap, Irreversible, ShortPage}
 use Rattle.cell.specs.Cell.{mOf, compared}
 use Rattle.cell.specs.BasisLaws.{longest-at-most, m-at-most}
 use Rattle.forms.specs.SchemeList.{Does, expands, deletes, EntryList}
@@ -29,7 +27,7 @@ use Rattle.forms.specs.SchemeMemory.{faultOf, orElse}
 use Rattle.forms.specs.ToldLaws.{told-found}
 use Rattle.forms.specs.declared.memory.Fault.{Fault}
 use Rattle.forms.specs.declared.memory.Fault.the-variants.{Clean, At}
-use Rattle.scheme.specs.WellFormed.{firstAt, firstTwin, listed, twinEntry, outside, prefixes, patternTests, schemeTests}
+use Rattle.scheme.specs.WellFormed.{firstAt, outside, patternTests, schemeTests}
 use Rattle.scheme.specs.Proper.{ProperEntry}
 use Rattle.scheme.specs.ProperLaws.{proper, proper-pattern, position-inside}
 use Rattle.scheme.specs.FindingLaws.{clean-append}

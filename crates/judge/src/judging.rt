@@ -2,8 +2,8 @@
 // then 10 and 11; with a lent page, and without one.
 use crate::deletions::irreversible_fault;
 use crate::live_gaps::live_fault;
-use candidate::basis::basis_of;
-use candidate::basis::longest_length;
+use basis::basis_of;
+use basis::longest_length;
 use claims::entries::compared_with;
 use forms::memory::Fault;
 use forms::memory::Patterns;

@@ -15,15 +15,15 @@ use Rattle.forms.specs.SetMemory.{HasDigits, HasLengths}
 use Rattle.forms.specs.declared.memory.Patterns.{Patterns}
 use Rattle.scheme.specs.WellFormed.{patternTests}
 use Rattle.scheme.specs.ProperLaws.{proper-pattern}
-use Rattle.scheme.specs.SetLaws.{set-held}
-use Rattle.lexicographic.specs.BasisSet.{HoldsBasis}
+use Rattle.basis.specs.BasisSet.{IsBasis}
+use Rattle.basis.specs.BasisSetLaws.{basis-held}
 use Rattle.lexicographic.specs.AnswerLaws.{basis-first, basis-next}
 
-module _ (P : List (List ℕ)) (formed : firstFault (patternTests P) ≡ clean) (s : Patterns) (b : HoldsBasis P s) (rows : List (List ℕ))
+module _ (P : List (List ℕ)) (formed : firstFault (patternTests P) ≡ clean) (s : Patterns) (b : IsBasis P s) (rows : List (List ℕ))
     (lengths : List ℕ) (hr : length rows ≡ PATTERNS) (hl : length lengths ≡ PATTERNS) (has : HasDigits (s .items) rows)
     (sizes : HasLengths (s .items) lengths) where
   held : patternsOf rows lengths (s .count) ≡ basis P
-  held = set-held s (b .few) (b .short) rows lengths hr hl has sizes ∙ b .holds
+  held = basis-held P s b rows lengths hr hl has sizes
 
   each-perm : (β : List ℕ) → List·Memᴰ β P → isPerm β ≡ true
   each-perm β m = proper-pattern P formed β m .perm

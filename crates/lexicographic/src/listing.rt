@@ -2,7 +2,7 @@
 use crate::answer::Listed;
 use crate::answer::refused_or_nothing;
 use arrangement::searched::Searched;
-use candidate::basis::basis_of;
+use basis::basis_of;
 use forms::memory::Fault;
 use forms::memory::Patterns;
 use forms::order::is_fault;
@@ -28,7 +28,7 @@ ghost use Rattle.scheme.specs.WellFormed.{patternTests};
 ghost use Rattle.forms.specs.SchemeMemory.{patternsIn, faultOf};
 ghost use Rattle.lexicographic.specs.Answers.{firstTests, nextTests, Puts, ListsFirst, ListsNext};
 ghost use Rattle.successor.specs.Values.{givenIn};
-ghost use Rattle.lexicographic.specs.BasisSet.{HoldsBasis};
+ghost use Rattle.basis.specs.BasisSet.{IsBasis};
 
 // The first avoider of length n, in lexicographic order: it is written at the front of the page,
 // one byte an entry. Nothing is asked of the caller.
@@ -109,7 +109,7 @@ fn has_pattern(patterns: Patterns, permutation: &[u8]) -> bool
 // The patterns that contain no other: the others change no avoider, so the searches run on these.
 fn basis_in(patterns: Patterns) -> Patterns
     requires { ⌜ firstFault (patternTests (patternsIn patterns)) ≡ clean ⌝ }
-    ensures { λ r. ⌜ HoldsBasis (patternsIn patterns) r ⌝ }
+    ensures { λ r. ⌜ IsBasis (patternsIn patterns) r ⌝ }
 {
     let rows = rows_of(patterns);
     let lengths = lengths_of(patterns);

@@ -29,7 +29,7 @@ use Rattle.lost_word.specs.Shown.{ShowsWord}
 use Rattle.lost_word.specs.Shown.{shown, lesserShown, lostBy, WordAnswer}
 use Rattle.candidate.specs.declared.search.Lost.{Lost}
 use Rattle.lost_word.specs.declared.least.LostWord.{LostWord}
-use Rattle.candidate.proofs.BasisWalk.{from, from-start, from-counted, from-cons}
+use Rattle.basis.proofs.BasisWalk.{from, from-start, from-counted, from-cons}
 use Rattle.candidate.proofs.LookupLaws.{flag-none}
 use Rattle.candidate.proofs.CandidateWalk.{Violates, word-made}
 

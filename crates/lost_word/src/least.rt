@@ -1,6 +1,6 @@
 // The least word that a deletion loses at one spacing. All patterns are looked at: the word of the
 // first that violates need not be the least.
-use candidate::basis::digits;
+use basis::digits;
 use candidate::needed::need_at;
 use candidate::search::Deletion;
 use candidate::search::Lost;

@@ -1,5 +1,5 @@
--- The tests 2 to 9 find numbers up to 9, so that a finding with a greater number says that they find
--- nothing.
+-- The tests 2 to 9 find numbers up to 9, so that a finding with a greater number says that they
+-- find nothing.
 use Prim.Native.Nat.{ℕ, suc, _≤_, _<_}
 use native.Mathlib.Omega.{arith}
 use mathlib.Core.Path.{_≡_, refl}

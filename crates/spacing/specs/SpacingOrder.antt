@@ -1,7 +1,7 @@
 -- Laws of the spacings of one total: all of them from the first on, what comes after the last and
 -- after any other, and how many there are.
 use Prim.Native.Nat.{ℕ, zero, suc, _+_, _-_, _*_, _^_, _≤_, _<_}
-use mathlib.Core.Path.{_≡_, refl, sym, ap, ap₂, _∙_}
+use mathlib.Core.Path.{_≡_, refl, ap, ap₂, _∙_}
 use mathlib.Core.Bool.{Bool, true, false, cond}
 use mathlib.Core.List.{List, [], _∷_, _++_, map}
 use native.Mathlib.Nat.{mul-le-mul, pow-le-pow-right, pow-succ', suc-mul, zero-mul}
@@ -9,7 +9,7 @@ use native.Mathlib.Omega.{arith}
 use lib.ListN.{length, replicate, length-append, length-replicate, length-map}
 use Rattle.word.specs.Ceilings.{DIGITS, COMPONENTS}
 use Rattle.word.specs.Lists.{keep, each, row}
-use Rattle.cell.specs.Cell.{total, free, mOf, vectors, compared}
+use Rattle.cell.specs.Cell.{total, vectors}
 use Rattle.spacing.specs.Following.{firstVector, above, later}
 
 -- `vectors` by the first component

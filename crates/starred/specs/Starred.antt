@@ -1,5 +1,5 @@
--- The starred examples of document 01, and examples of orders 1 and 3 of document 02: one table, and
--- one theorem for all of it.
+-- The starred examples of document 01, and examples of orders 1 and 3 of document 02: one table,
+-- and one theorem for all of it.
 use Prim.Native.Nat.{ℕ, suc}
 use Prim.Native.String.{String}
 use mathlib.Core.Path.{_≡_, refl}

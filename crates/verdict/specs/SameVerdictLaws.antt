@@ -1,9 +1,9 @@
 -- "the verdict on every scheme must be shown to be the same as under the old m" (02, order 3): the
--- finding and the witness under `longest P`, the m of document 01 before that order, are those under
--- `mOf P`, and the number of compared cells is at most the old one.
-use Prim.Native.Nat.{ℕ, zero, suc, _+_, _≤_, _<_}
+-- finding and the witness under `longest P`, the m of document 01 before that order, are those
+-- under `mOf P`, and the number of compared cells is at most the old one.
+use Prim.Native.Nat.{ℕ, _+_, _≤_, _<_}
 use native.Mathlib.Omega.{arith}
-use mathlib.Core.Path.{_≡_, refl, sym, ap, ap₂, _∙_}
+use mathlib.Core.Path.{_≡_, refl, sym, ap, _∙_}
 use mathlib.Core.Logic.{_⊎_, inl, inr}
 use mathlib.Core.Bool.{Bool, true, false, cond}
 use mathlib.Core.List.{List, [], _∷_, _++_, List·Memᴰ}
@@ -11,13 +11,12 @@ use mathlib.Core.Option.{Option, none, some}
 use lib.ListN.{length, length-append}
 use lib.Dec.{eqb}
 use borrow.Author.Tests.{eqb-true}
-use Rattle.word.specs.Lists.{any, all, first}
+use Rattle.word.specs.Lists.{all, first}
 use Rattle.word.specs.Word.{longest, within, isPerm}
 use Rattle.word.specs.ListLaws.{below-or-not}
 use Rattle.word.specs.FirstLaws.{first-append, first-none, none-first}
 use Rattle.word.specs.Finding.{Finding, clean, fault, firstFault}
 use Rattle.word.specs.Refusal.{numberOf}
-use Rattle.word.specs.declared.refusal.Refusal.{Refusal}
 use Rattle.word.specs.declared.refusal.Refusal.the-variants.{LiveGap, Irreversible}
 use Rattle.cell.specs.Basis.{basis}
 use Rattle.cell.specs.Cell.{total, mOf, comparedTo}
@@ -77,8 +76,8 @@ module _ (m n : ℕ) (P : List (List ℕ)) (reach : longest (basis P) ≤ m) (fu
       (λ p. behind (schemeTests E) (claimTestsUnder m P E) (claimTestsUnder n P E)
       (λ s. ap firstFault (claims-alike E (record { patterns = p; scheme = s }))))
 
--- The spacing that is shown: those compared under a smaller m are the first of those under a larger,
--- and where no sizes differ there, none differ at all.
+-- The spacing that is shown: those compared under a smaller m are the first of those under a
+-- larger, and where no sizes differ there, none differ at all.
 module _ (P : List (List ℕ)) (each-perm : (β : List ℕ) → List·Memᴰ β P → isPerm β ≡ true) (p R : List ℕ) (perm : isPerm p ≡ true)
     (inside : all (within (length p)) R ≡ true) (B : List (List ℕ)) where
   spacing-more : (m n : ℕ) → longest (basis P) ≤ m → m ≤ n → shownSpacingUnder m P p B R ≡ shownSpacingUnder n P p B R

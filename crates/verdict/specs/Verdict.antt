@@ -88,7 +88,8 @@ judgeTests P E = judgeTestsUnder (mOf P) P E
 abbrev pub verdictOf : List (List ℕ) → List EntryList → Verdict
 verdictOf P E = verdictUnder (mOf P) P E
 
--- what a verdict says but for the number of compared cells: acceptance, or the refusal and its index
+-- what a verdict says but for the number of compared cells: acceptance, or the refusal and its
+-- index
 abbrev pub findingOf : Verdict → Fault
 findingOf (Accepted n) = Clean
 findingOf (Refused r i) = At r i

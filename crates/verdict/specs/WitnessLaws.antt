@@ -1,7 +1,6 @@
 -- Laws of the witness: sizes differ exactly if a word is lost, the candidate search shows the word
 -- of the definition, and what is shown is lost and the least.
 use Prim.Native.Nat.{ℕ, zero, suc, _+_, _-_, _≤_, _<_}
-use native.Mathlib.Nat.{zero-add, suc-add, add-zero}
 use native.Mathlib.Omega.{arith}
 use mathlib.Core.Path.{_≡_, refl, sym, ap, ap₂, _∙_}
 use mathlib.Core.Logic.{_↔_, _⊎_, inl, inr}
@@ -11,14 +10,14 @@ use mathlib.Core.List.{List·Memᴰ·head, List·Memᴰ·tail, Memᴰ·cast, Mem
 use mathlib.Core.Option.{Option, none, some}
 use lib.ListN.{length, take, drop, replicate, length-take, length-append, length-replicate}
 use lib.Dec.{ltb, eqb}
-use Rattle.word.specs.Lists.{any, all, keep, first, each, row}
+use Rattle.word.specs.Lists.{any, all, keep, first}
 use Rattle.word.specs.Word.{avoids, reduce, within, distinct, isPerm, perms, before}
 use Rattle.word.specs.ListLaws.{true-not-false, below-or-not, and-left, and-right, and-in, any-out, any-in, first-some}
-use Rattle.word.specs.ListLaws.{keep-out, keep-in, each-append}
+use Rattle.word.specs.ListLaws.{keep-out, keep-in}
 use Rattle.word.specs.PermLaws.{perms-are, perms-all, perm-distinct, length-reduce}
 use Rattle.word.specs.CopyLaws.{found, first-found, before-larger, first-least}
 use Rattle.word.specs.AscendLaws.{ascends, before-first, perms-ascend}
-use Rattle.word.specs.FirstLaws.{first-agree, first-append, first-none, none-first, first-is, first-ordered}
+use Rattle.word.specs.FirstLaws.{first-agree, none-first, first-is, first-ordered}
 use Rattle.word.specs.FirstLaws.{ascends-behind, ascends-in-order}
 use Rattle.word.specs.Earliest.{Earliest, positionsOf}
 use Rattle.word.specs.EarliestLaws.{fails-stands, earliest-is}
@@ -26,25 +25,24 @@ use Rattle.word.specs.Ceilings.{PAGE, HALF}
 use Rattle.cell.specs.Basis.{same, basis}
 use Rattle.cell.specs.Cell.{total, spacing, cell, without, deleted, merged, free, comparedTo}
 use Rattle.cell.specs.Built.{built}
-use Rattle.cell.specs.Candidate.{violates, violated, violatedFirst, irreversible, restOf, lostWords, leastOf, leastAt, leastCandidate}
+use Rattle.cell.specs.Candidate.{violates, violated, violatedFirst, restOf, lostWords, leastOf, leastAt, leastCandidate}
 use Rattle.cell.specs.SpacingWalk.{compared-are, compared-all}
 use Rattle.cell.specs.BuiltWords.{built-length, built-perm, built-prefix, built-reduces, built-spacing, rest-perm, rest-length, built-onto}
 use Rattle.cell.specs.BuiltCells.{same-out, same-in, cell-are}
-use Rattle.cell.specs.EachLaws.{keep-append}
 use Rattle.cell.specs.FiniteTest.{Agrees}
 use Rattle.cell.specs.DeletionLaws.{built-deleted-avoids}
-use Rattle.cell.specs.Theorems.{shorter-in, removed, agrees-of-sizes, sizes-of-agrees, finite-law}
-use Rattle.cell.specs.CandidateLaws.{violates-out, candidates-of-agrees, irreversible-law}
+use Rattle.cell.specs.Theorems.{shorter-in, removed, agrees-of-sizes, sizes-of-agrees}
+use Rattle.cell.specs.CandidateLaws.{violates-out, candidates-of-agrees}
 use Rattle.cell.specs.LeastLaws.{CleanBelow, agrees-first, lost-candidate, least-is}
 use Rattle.cell.specs.ListedLaws.{totalled, compared-ascend, spacing-total}
-use Rattle.cell.specs.BasisLaws.{basis-in, basis-avoids, basis-agrees, basis-deletion, longest-basis}
+use Rattle.cell.specs.BasisLaws.{basis-in, basis-avoids, basis-agrees}
 use Rattle.word.specs.declared.refusal.Refusal.the-variants.{LiveGap, Irreversible}
 use Rattle.forms.specs.SchemeList.{EntryList}
 use Rattle.forms.specs.declared.memory.Fault.the-variants.{At}
-use Rattle.scheme.specs.FindingLaws.{same-failure, none-in}
+use Rattle.scheme.specs.FindingLaws.{same-failure}
 use Rattle.scheme.specs.WellFormed.{listed}
 use Rattle.verdict.specs.Verdict.{sizesDiffer}
-use Rattle.verdict.specs.VerdictLaws.{sizes-same, same-sizes, sizes-agree}
+use Rattle.verdict.specs.VerdictLaws.{sizes-same, same-sizes}
 use Rattle.verdict.specs.Witness.{lost, shownSpacingUnder, shownAt, shownWordUnder, half, witnessBytes}
 use Rattle.verdict.specs.Witness.{indexedEntry, entryWord, wordShown, IsLost, earlier, WitnessesUnder}
 
@@ -189,7 +187,8 @@ module _ (P : List (List ℕ)) (p R : List ℕ) (perm : isPerm p ≡ true) (insi
             let (σ, q, r) = rest-of-lost w i in
             absurd (true-not-false (sym (sizes-agree-here .0 e σ (r .perm) (r .size) (r .avoiding)) ∙ r .fails))
 
--- The candidate search on the basis shows the spacing and the word of the definition, under every m.
+-- The candidate search on the basis shows the spacing and the word of the definition, under every
+-- m.
 module _ (m : ℕ) (P : List (List ℕ)) (each-perm : (β : List ℕ) → List·Memᴰ β P → isPerm β ≡ true) (p R : List ℕ) (perm : isPerm p ≡ true)
     (inside : all (within (length p)) R ≡ true) (B : List (List ℕ)) where
   Q : List (List ℕ)
@@ -316,7 +315,8 @@ module _ (m : ℕ) (P : List (List ℕ)) (each-perm : (β : List ℕ) → List·
 some-not-none : {A : Type 0} (x : A) → none ≡ some x → ⊥
 some-not-none x e = let z : _≡_ {A = ℕ} 0 1 = cc in absurd (omega arith)
 
-module _ (m : ℕ) (P : List (List ℕ)) (p R : List ℕ) (perm : isPerm p ≡ true) (inside : all (within (length p)) R ≡ true) (B : List (List ℕ)) where
+module _ (m : ℕ) (P : List (List ℕ)) (p R : List ℕ) (perm : isPerm p ≡ true) (inside : all (within (length p)) R ≡ true)
+    (B : List (List ℕ)) where
   -- what is shown is lost at a compared spacing, and no word that is lost at one comes before it
   record Shown (w : List ℕ) : Type 0 where
     at : List ℕ
@@ -390,7 +390,8 @@ module _ (m : ℕ) (P : List (List ℕ)) (p R : List ℕ) (perm : isPerm p ≡ t
           (w, ap (shownAt P p R) e ∙ q)
 
   -- A page that begins with the bytes of what is shown is a witness.
-  pub witnesses : (w page : List ℕ) → shownWordUnder m P p B R ≡ some w → take PAGE page ≡ witnessBytes P (some w) → WitnessesUnder m P p B R page
+  pub witnesses : (w page : List ℕ) → shownWordUnder m P p B R ≡ some w → take PAGE page ≡ witnessBytes P (some w) →
+      WitnessesUnder m P p B R page
   witnesses w page e q =
       let s = shown-is w e in
       let (i, copy, c) = fails-stands P w (s .is-lost .contains-one) in

@@ -14,7 +14,7 @@ use lib.Seq.{length-take-le}
 use Rattle.word.specs.Ceilings.{DIGITS, PATTERNS, PREFIX}
 use Rattle.candidate.proofs.CandidateWalk.{Passed, passed-start, passed-end, passed-later, violation}
 use Rattle.candidate.proofs.CandidateWalk.{violates-short, violates-not, violates-by, word-made}
-use Rattle.candidate.proofs.BasisWalk.{take-again}
+use Rattle.basis.proofs.BasisWalk.{take-again}
 use Rattle.forms.specs.SetMemory.{patternAt}
 use Rattle.candidate.proofs.search.spacing_violated.Statement.{statement}
 use Rattle.candidate.proofs.search.spacing_violated.Tie as tie

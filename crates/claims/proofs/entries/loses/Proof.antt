@@ -54,7 +54,8 @@ returns c =
     let q = start .pre in
     let i = at-irreversible .irreversible in
     answers-none (a .e) (q .4) (six-digits start) (a .cut .position) (q .5) (a .cut .m)
-    (patternsOf (a .set) (a .lengths) (a .count)) (i .result) (all-parts start) (i .ensures) (q .2) (q .1 .perms) (c .no-word .result) (not-true _ (c .before .if1 .taken)) (c .no-word .ensures .0)
+    (patternsOf (a .set) (a .lengths) (a .count)) (i .result) (all-parts start) (i .ensures) (q .2) (q .1 .perms)
+    (c .no-word .result) (not-true _ (c .before .if1 .taken)) (c .no-word .ensures .0)
 
 least-lost-requires : tie.Need-least-lost-requires
 least-lost-requires c κs =
@@ -82,7 +83,8 @@ returns-2 c =
     let q = start .pre in
     let i = at-irreversible .irreversible in
     answers-some (a .e) (q .4) (six-digits start) (a .cut .position) (q .5) (a .cut .m)
-    (patternsOf (a .set) (a .lengths) (a .count)) (i .result) (all-parts start) (i .ensures) (q .2) (q .1 .perms) (c .least-lost .result) (not-false _ (c .before .if1 .left)) (c .least-lost .ensures)
+    (patternsOf (a .set) (a .lengths) (a .count)) (i .result) (all-parts start) (i .ensures) (q .2) (q .1 .perms)
+    (c .least-lost .result) (not-false _ (c .before .if1 .left)) (c .least-lost .ensures)
 
 pub loses-spec : {M : Type 1} → statement M
 loses-spec =

@@ -215,7 +215,8 @@ lost o =
     let f = o .irreversible-fault in
     let m = o .before .longest-length in
     let clean = o .before .before in
-    lost-first (clean .before .before) (m .result) (m .ensures .0) (f .result .fault) (f .ensures .found) (sym (clean .before .is-fault .ensures) ∙ clean .if1 .left)
+    lost-first (clean .before .before) (m .result) (m .ensures .0) (f .result .fault) (f .ensures .found)
+    (sym (clean .before .is-fault .ensures) ∙ clean .if1 .left)
 
 shown-lost : (a : tie.After-irreversible-fault Inv-loop μ-loop) →
     ShowsWord (shownOf (a .before .before .before .before .before)
@@ -232,8 +233,8 @@ shown-lost a =
     rw (← holds o) (lost-shown (o .before .before .before .before .rows-of .result) (o .before .before .before .lengths-of .result)
     (first o .args .patterns .count) (proper o) (b .result) (b .ensures) (r .result) (k .result) (basis-rows o)
     (basis-lengths o) (r .ensures) (k .ensures) (scheme o) (proper-entries o) (c .live-fault .result)
-    (c .live-fault .ensures) (m .result) (long-basis o (m .result) (m .ensures .0)) (a .irreversible-fault .result) (a .irreversible-fault .ensures)
-    (sym (clean .before .is-fault .ensures) ∙ clean .if1 .left))
+    (c .live-fault .ensures) (m .result) (long-basis o (m .result) (m .ensures .0)) (a .irreversible-fault .result)
+    (a .irreversible-fault .ensures) (sym (clean .before .is-fault .ensures) ∙ clean .if1 .left))
 
 returns-2 : tie.Need-returns-2 Inv-loop μ-loop
 returns-2 c =
@@ -256,8 +257,7 @@ long o = o .before .before .before .before .before
 
 loop-holds : tie.Need-loop-holds Inv-loop μ-loop
 loop-holds c =
-    let o = c .before .before .before .before .before .before .before .before in
-    (
+    let o = c .before .before .before .before .before .before .before .before in (
       proper-count (scheme o) (proper-entries o),
       omega arith,
       omega arith,

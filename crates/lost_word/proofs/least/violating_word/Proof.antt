@@ -15,7 +15,7 @@ use Rattle.word.specs.Ceilings.{DIGITS, PREFIX}
 use Rattle.word.specs.Word.{avoids}
 use Rattle.word.specs.Containment.{patternsOf}
 use Rattle.forms.specs.SetMemory.{patternAt}
-use Rattle.candidate.proofs.BasisWalk.{take-again}
+use Rattle.basis.proofs.BasisWalk.{take-again}
 use Rattle.candidate.proofs.CandidateWalk.{Violates, violates-short, violates-not, violates-by, word-made}
 use Rattle.lost_word.proofs.LeastWalk.{word-none, word-some, whole-made}
 use Rattle.lost_word.proofs.least.violating_word.Statement.{statement}

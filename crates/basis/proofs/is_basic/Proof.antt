@@ -1,4 +1,4 @@
--- `candidate::basis::is_basic` meets its contract: no other pattern of the set is contained if none
+-- `basis::is_basic` meets its contract: no other pattern of the set is contained if none
 -- from the index on is.
 -- Assumes nothing.
 use Prim.Native.Nat.{_-_}
@@ -8,9 +8,9 @@ use native.Mathlib.Omega.{arith}
 use lib.ListN.{length, take}
 use Rattle.word.specs.Containment.{patternsOf}
 use Rattle.cell.specs.Basis.{basic}
-use Rattle.candidate.proofs.BasisWalk.{from, from-counted, from-end, basic-start, basic-none, basic-here, basic-later}
-use Rattle.candidate.proofs.basis.is_basic.Statement.{statement}
-use Rattle.candidate.proofs.basis.is_basic.Tie as tie
+use Rattle.basis.proofs.BasisWalk.{from, from-counted, from-end, basic-start, basic-none, basic-here, basic-later}
+use Rattle.basis.proofs.is_basic.Statement.{statement}
+use Rattle.basis.proofs.is_basic.Tie as tie
 
 abbrev Inv-loop : tie.InvT-loop
 Inv-loop count q b set lengths j₀ j = basic (patternsOf set lengths count) (take b q) ≡ basic (from set lengths count j) (take b q)

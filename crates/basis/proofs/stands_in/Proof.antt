@@ -1,4 +1,4 @@
--- `candidate::basis::stands_in` meets its contract: the search for a copy says whether there is
+-- `basis::stands_in` meets its contract: the search for a copy says whether there is
 -- one.
 -- Assumes nothing.
 use mathlib.Core.Path.{_≡_, sym, ap, _∙_}
@@ -8,8 +8,8 @@ use Rattle.word.specs.Word.{contains}
 use Rattle.word.proofs.PatternSet.{found-contains}
 use lib.Seq.{take-all}
 use borrow.Author.Needs.{needs}
-use Rattle.candidate.proofs.basis.stands_in.Statement.{statement}
-use Rattle.candidate.proofs.basis.stands_in.Tie as tie
+use Rattle.basis.proofs.stands_in.Statement.{statement}
+use Rattle.basis.proofs.stands_in.Tie as tie
 
 slice-aggregate-first-copy : tie.Need-slice-aggregate-first-copy
 slice-aggregate-first-copy c =

@@ -1,13 +1,13 @@
--- `candidate::basis::basis_of` meets its contract: what is gathered and what is basic from the
+-- `basis::basis_of` meets its contract: what is gathered and what is basic from the
 -- index on make up the basis.
 -- Assumes nothing.
 use Prim.Native.Nat.{_-_}
 use mathlib.Core.Path.{refl}
 use borrow.Author.Needs.{needs}
 use native.Mathlib.Omega.{arith}
-use Rattle.candidate.proofs.BasisWalk.{Gathered, gathered-start, gathered-end, gathered-take, gathered-skip}
-use Rattle.candidate.proofs.basis.basis_of.Statement.{statement}
-use Rattle.candidate.proofs.basis.basis_of.Tie as tie
+use Rattle.basis.proofs.BasisWalk.{Gathered, gathered-start, gathered-end, gathered-take, gathered-skip}
+use Rattle.basis.proofs.basis_of.Statement.{statement}
+use Rattle.basis.proofs.basis_of.Tie as tie
 
 abbrev Inv-loop : tie.InvT-loop
 Inv-loop count set lengths items₀ n₀ i₀ items n i = Gathered set lengths count items n i

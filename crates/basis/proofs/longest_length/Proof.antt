@@ -1,4 +1,4 @@
--- `candidate::basis::longest_length` meets its contract: the longest is the longest of those seen
+-- `basis::longest_length` meets its contract: the longest is the longest of those seen
 -- and of those from the index on.
 -- Assumes nothing.
 use Prim.Native.Nat.{_-_, _+_, _≤_, max}
@@ -9,9 +9,9 @@ use native.Mathlib.Omega.{arith}
 use lib.ListN.{length, getD, take}
 use Rattle.word.specs.Word.{longest}
 use Rattle.word.specs.Containment.{patternsOf}
-use Rattle.candidate.proofs.BasisWalk.{from, from-start, from-counted, from-end, from-cons, longest-here, longest-done}
-use Rattle.candidate.proofs.basis.longest_length.Statement.{statement}
-use Rattle.candidate.proofs.basis.longest_length.Tie as tie
+use Rattle.basis.proofs.BasisWalk.{from, from-start, from-counted, from-end, from-cons, longest-here, longest-done}
+use Rattle.basis.proofs.longest_length.Statement.{statement}
+use Rattle.basis.proofs.longest_length.Tie as tie
 
 abbrev Inv-loop : tie.InvT-loop
 Inv-loop count set lengths m₀ i₀ m i = (longest (patternsOf set lengths count) ≡ max m (longest (from set lengths count i))) × (m ≤ 8)

@@ -1,11 +1,11 @@
--- `candidate::basis::digits` meets its contract.
+-- `basis::digits` meets its contract.
 -- Assumes nothing.
 use mathlib.Core.Path.{_≡_}
 use borrow.Author.Needs.{needs}
 use native.Mathlib.Omega.{arith}
 use lib.ListN.{length, length-take}
-use Rattle.candidate.proofs.basis.digits.Statement.{statement}
-use Rattle.candidate.proofs.basis.digits.Tie as tie
+use Rattle.basis.proofs.digits.Statement.{statement}
+use Rattle.basis.proofs.digits.Tie as tie
 
 returns : tie.Need-returns
 returns c =

@@ -20,7 +20,7 @@ use Rattle.cell.specs.Basis.{same, basic, basis}
 use Rattle.forms.specs.SchemeMemory.{padded, noPattern, patternIn}
 use Rattle.forms.specs.MemoryLaws.{padded-within}
 use Rattle.forms.specs.declared.memory.Pattern.{Pattern}
-use Rattle.candidate.specs.BasisSet.{IsBasis}
+use Rattle.basis.specs.BasisSet.{IsBasis}
 
 -- a part that is cut again at its own length
 pub take-again : (n : ℕ) (l : List ℕ) → take (length (take n l)) l ≡ take n l
@@ -120,7 +120,7 @@ module _ (set : List (List ℕ)) (lengths : List ℕ) (count : ℕ) where
   }
 
   module _ (items : List Pattern) (n i : ℕ) (g : Gathered set lengths count items n i) where
-    pub gathered-end : count ≤ i → (few : count ≤ 24) → IsBasis set lengths count (record { items = items; count = n })
+    pub gathered-end : count ≤ i → (few : count ≤ 24) → IsBasis (patternsOf set lengths count) (record { items = items; count = n })
     gathered-end h few = record {
       holds =
           sym (g .parts ∙

@@ -1,4 +1,4 @@
--- `candidate::basis::same_digits` meets its contract: the digits that there are, are handed on.
+-- `basis::same_digits` meets its contract: the digits that there are, are handed on.
 -- Assumes nothing.
 use mathlib.Core.Path.{_≡_, sym, ap, ap₂, _∙_}
 use borrow.Author.Needs.{needs}
@@ -9,9 +9,9 @@ use Prim.Native.Nat.{ℕ}
 use mathlib.Core.List.{List}
 use Rattle.word.specs.Ceilings.{DIGITS}
 use Rattle.cell.specs.Basis.{same}
-use Rattle.candidate.proofs.BasisWalk.{take-again}
-use Rattle.candidate.proofs.basis.same_digits.Statement.{statement}
-use Rattle.candidate.proofs.basis.same_digits.Tie as tie
+use Rattle.basis.proofs.BasisWalk.{take-again}
+use Rattle.basis.proofs.same_digits.Statement.{statement}
+use Rattle.basis.proofs.same_digits.Tie as tie
 
 -- the part of a row that has as many digits as there are of its first n
 part-is : (p : List ℕ) (n m : ℕ) → m ≡ length (take n p) → take m p ≡ take n p

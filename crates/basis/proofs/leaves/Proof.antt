@@ -1,12 +1,12 @@
--- `candidate::basis::leaves` meets its contract.
+-- `basis::leaves` meets its contract.
 -- Assumes nothing.
 use mathlib.Core.Path.{_≡_, refl, sym, _∙_}
 use mathlib.Core.Bool.{true, false}
 use lib.ListN.{take}
 use Rattle.cell.specs.Basis.{same}
 use borrow.Author.Needs.{needs}
-use Rattle.candidate.proofs.basis.leaves.Statement.{statement}
-use Rattle.candidate.proofs.basis.leaves.Tie as tie
+use Rattle.basis.proofs.leaves.Statement.{statement}
+use Rattle.basis.proofs.leaves.Tie as tie
 
 returns : tie.Need-returns
 returns c =

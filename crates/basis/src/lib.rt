@@ -1,5 +1,5 @@
 // The basis of a pattern set in memory: the patterns that contain no other pattern of the set; and
-// the length of the longest pattern.
+// the length of the longest pattern of a set.
 use forms::lists::same_bytes;
 use forms::memory::Pattern;
 use forms::memory::Patterns;
@@ -14,7 +14,7 @@ ghost use Rattle.word.specs.Word.{contains, longest};
 ghost use Rattle.word.specs.Containment.{patternsOf};
 ghost use Rattle.cell.specs.Basis.{same, basic};
 ghost use Rattle.word.specs.Ceilings.{DIGITS, PATTERNS};
-ghost use Rattle.candidate.specs.BasisSet.{IsBasis};
+ghost use Rattle.basis.specs.BasisSet.{IsBasis};
 
 // Whether the first `a` digits of p are the first `b` digits of q.
 fn same_digits(p: [u8; DIGITS], a: usize, q: [u8; DIGITS], b: usize) -> bool
@@ -73,7 +73,7 @@ pub fn is_basic(
 // The basis of the first `count` patterns of the set: those that contain no other, in their order.
 pub fn basis_of(set: [[u8; DIGITS]; PATTERNS], lengths: [u8; PATTERNS], count: usize) -> Patterns
     requires { ⌜ count ≤ PATTERNS ⌝ }
-    ensures { λ r. ⌜ IsBasis set lengths count r ⌝ }
+    ensures { λ r. ⌜ IsBasis (patternsOf set lengths count) r ⌝ }
 {
     let mut items = [Pattern {
         digits: [0u8; DIGITS],

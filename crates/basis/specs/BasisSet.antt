@@ -1,4 +1,4 @@
--- The basis of the patterns as a set in memory. Definitions only.
+-- The basis of a set, as a set in memory. Definitions only.
 use Prim.Native.Nat.{ℕ, _≤_, _<_}
 use mathlib.Core.Path.{_≡_}
 use mathlib.Core.List.{List}
@@ -8,8 +8,8 @@ use Rattle.cell.specs.Basis.{basis}
 use Rattle.forms.specs.SchemeMemory.{noPattern, patternsIn}
 use Rattle.forms.specs.declared.memory.Patterns.{Patterns}
 
--- a set in memory that holds the basis of P, within the ceilings
-pub record HoldsBasis (P : List (List ℕ)) (r : Patterns) : Type 0 where
+-- it holds the basis of the patterns P, and is within the ceilings
+pub record IsBasis (P : List (List ℕ)) (r : Patterns) : Type 0 where
   pub holds : patternsIn r ≡ basis P
   pub few : r .count ≤ PATTERNS
   pub short : (i : ℕ) → i < r .count → (getD (r .items) i noPattern) .length ≤ DIGITS
