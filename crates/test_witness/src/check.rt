@@ -1,4 +1,5 @@
 // The check of a witness: what is wrong with it, if anything is.
+use crate::basis::longest;
 use crate::copies::avoids_all;
 use crate::copies::earliest_copy;
 use crate::least::is_least;
@@ -36,6 +37,7 @@ pub enum Finding {
 // What is found of a page that came with refusal 11 at the entry with this index.
 pub fn found(set: &[u8], scheme: &[u8], index: usize, page: &[u8]) -> Finding {
     let refused = entry(scheme, index);
+    let m = longest(set);
     let w = row_at(page, 0);
     if !is_permutation(w) {
         return Finding::Form;
@@ -43,7 +45,7 @@ pub fn found(set: &[u8], scheme: &[u8], index: usize, page: &[u8]) -> Finding {
     if !begins(refused, w) {
         return Finding::Prefix;
     }
-    if !is_compared(set, refused, w) {
+    if !is_compared(refused, m, w) {
         return Finding::Spacing;
     }
     if !avoids_all(set, shorter(refused, w)) {
@@ -52,7 +54,7 @@ pub fn found(set: &[u8], scheme: &[u8], index: usize, page: &[u8]) -> Finding {
     if !is_earliest_copy(set, w, row_at(page, ROW)) {
         return Finding::Copy;
     }
-    if !is_least_if_listed(set, refused, w) {
+    if !is_least_if_listed(set, refused, m, w) {
         return Finding::Least;
     }
     Finding::Right
@@ -86,9 +88,9 @@ fn is_earliest_copy(set: &[u8], w: [u8; ROW], positions: [u8; ROW]) -> bool {
 }
 
 // Whether the permutation is the least, if it is so short that all are listed.
-fn is_least_if_listed(set: &[u8], refused: &[u8], w: [u8; ROW]) -> bool {
+fn is_least_if_listed(set: &[u8], refused: &[u8], m: usize, w: [u8; ROW]) -> bool {
     if is_listed(w) {
-        is_least(set, refused, w)
+        is_least(set, refused, m, w)
     } else {
         true
     }

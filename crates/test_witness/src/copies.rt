@@ -37,7 +37,7 @@ pub fn earliest_copy(set: &[u8], w: [u8; ROW]) -> [u8; ROW] {
 }
 
 // Whether some set of positions is a copy. An empty row is no pattern.
-fn has_copy(p: [u8; ROW], w: [u8; ROW]) -> bool {
+pub fn has_copy(p: [u8; ROW], w: [u8; ROW]) -> bool {
     if size(p) == 0 {
         return false;
     }

@@ -17,26 +17,26 @@ pub fn is_listed(w: [u8; ROW]) -> bool {
     size(w) <= LONGEST
 }
 
-// Whether no permutation that the entry loses comes before this one. Shorter ones than the prefix
-// do not begin with it.
-pub fn is_least(set: &[u8], entry: &[u8], w: [u8; ROW]) -> bool {
+// Whether no permutation that the entry loses, for the m of the set, comes before this one. Shorter
+// ones than the prefix do not begin with it.
+pub fn is_least(set: &[u8], entry: &[u8], m: usize, w: [u8; ROW]) -> bool {
     let last = size(w);
     let mut n: usize = 0;
     while n < last {
-        if some_before(set, entry, w, n) {
+        if some_before(set, entry, m, w, n) {
             return false;
         }
         n += 1;
     }
-    !some_before(set, entry, w, last)
+    !some_before(set, entry, m, w, last)
 }
 
 // Whether some permutation of length n that the entry loses comes before this one.
-fn some_before(set: &[u8], entry: &[u8], w: [u8; ROW], n: usize) -> bool {
+fn some_before(set: &[u8], entry: &[u8], m: usize, w: [u8; ROW], n: usize) -> bool {
     let end = count(n);
     let mut i: usize = 0;
     while i < end {
-        if is_before(set, entry, w, listed(n, i)) {
+        if is_before(set, entry, m, w, listed(n, i)) {
             return true;
         }
         i += 1;
@@ -45,11 +45,11 @@ fn some_before(set: &[u8], entry: &[u8], w: [u8; ROW], n: usize) -> bool {
 }
 
 // Whether the permutation v comes before w and is lost.
-fn is_before(set: &[u8], entry: &[u8], w: [u8; ROW], v: [u8; ROW]) -> bool {
+fn is_before(set: &[u8], entry: &[u8], m: usize, w: [u8; ROW], v: [u8; ROW]) -> bool {
     if !in_order(size(prefix(entry)), v, w) {
         return false;
     }
-    is_lost(set, entry, v)
+    is_lost(set, entry, m, v)
 }
 
 // Whether v comes before w: by total, which is by length, then by spacing, then by entries.

@@ -1,6 +1,6 @@
 // Whether a permutation is lost by the deletion of an entry at a compared spacing, from the words
-// of document 01 and order 1: it begins with the prefix, its spacing is compared, it contains a
-// pattern, and without the deleted position it contains none.
+// of document 01 and of orders 1 and 3: it begins with the prefix, its spacing is compared, it
+// contains a pattern, and without the deleted position it contains none.
 use crate::copies::avoids_all;
 use crate::rows::ROW;
 use crate::rows::ascending;
@@ -13,19 +13,18 @@ use crate::rows::same;
 use crate::rows::size;
 use crate::rows::with;
 use crate::rows::without;
-use crate::texts::PATTERNS;
 use crate::texts::VECTORS;
 use crate::texts::deleted;
-use crate::texts::pattern;
 use crate::texts::prefix;
 use crate::texts::vector;
 
-// Whether the deletion of the entry loses the permutation at a compared spacing.
-pub fn is_lost(set: &[u8], entry: &[u8], w: [u8; ROW]) -> bool {
+// Whether the deletion of the entry loses the permutation at a compared spacing, for the m of the
+// set.
+pub fn is_lost(set: &[u8], entry: &[u8], m: usize, w: [u8; ROW]) -> bool {
     if !begins(entry, w) {
         return false;
     }
-    if !is_compared(set, entry, w) {
+    if !is_compared(entry, m, w) {
         return false;
     }
     if avoids_all(set, w) {
@@ -42,10 +41,10 @@ pub fn begins(entry: &[u8], w: [u8; ROW]) -> bool {
 
 // Whether the spacing of a permutation that begins with the prefix is at least no listed vector and
 // has a total of at most m - 1. The total is below m then, which no total is for m = 0.
-pub fn is_compared(set: &[u8], entry: &[u8], w: [u8; ROW]) -> bool {
+pub fn is_compared(entry: &[u8], m: usize, w: [u8; ROW]) -> bool {
     let k = size(prefix(entry));
     let total = std::num::wrapping_sub_usize(size(w), k);
-    if longest(set) <= total {
+    if m <= total {
         return false;
     }
     !is_covered(entry, spacing(k, w))
@@ -88,7 +87,7 @@ fn if_later(place: usize, x: u8) -> u8 {
 }
 
 // Whether a spacing is at least some gap vector of the entry.
-fn is_covered(entry: &[u8], g: [u8; ROW]) -> bool {
+pub fn is_covered(entry: &[u8], g: [u8; ROW]) -> bool {
     let mut i: usize = 0;
     while i < VECTORS {
         if is_above(g, vector(entry, i)) {
@@ -105,21 +104,4 @@ fn is_above(g: [u8; ROW], b: [u8; ROW]) -> bool {
         return false;
     }
     is_at_least(g, b)
-}
-
-// The length of the longest pattern.
-fn longest(set: &[u8]) -> usize {
-    let mut m: usize = 0;
-    let mut i: usize = 0;
-    while i < PATTERNS {
-        let more = larger(m, size(pattern(set, i)));
-        m = more;
-        i += 1;
-    }
-    m
-}
-
-// The larger of two numbers.
-fn larger(a: usize, b: usize) -> usize {
-    if a < b { b } else { a }
 }

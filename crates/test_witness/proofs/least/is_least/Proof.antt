@@ -7,6 +7,6 @@ use Rattle.test_witness.proofs.least.is_least.Tie as tie
 
 pub is-least-spec : {M : Type 1} → statement M
 is-least-spec = tie.close (tie.spec
-    (λ set entry w last n₀ n. Unit) (λ set entry w last n₀ n. last - n) (λ c κs. search needs)
+    (λ set entry m w last n₀ n. Unit) (λ set entry m w last n₀ n. last - n) (λ c κs. search needs)
     (λ c. search needs) (λ c κs. search needs) (λ c. search needs) (λ c. search needs)
     (λ c. search needs) (λ c. search needs) (λ c κs. search needs) (λ c. search needs))

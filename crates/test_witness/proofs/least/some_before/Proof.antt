@@ -7,6 +7,6 @@ use Rattle.test_witness.proofs.least.some_before.Tie as tie
 
 pub some-before-spec : {M : Type 1} → statement M
 some-before-spec = tie.close (tie.spec
-    (λ set entry w n end i₀ i. Unit) (λ set entry w n end i₀ i. end - i) (λ c κs. search needs)
+    (λ set entry m w n end i₀ i. Unit) (λ set entry m w n end i₀ i. end - i) (λ c κs. search needs)
     (λ c. search needs) (λ c κs. search needs) (λ c κs. search needs) (λ c. search needs)
     (λ c. search needs) (λ c. search needs) (λ c. search needs) (λ c. search needs))

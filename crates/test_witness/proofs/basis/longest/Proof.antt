@@ -1,8 +1,8 @@
--- `test_witness::lost::longest` is safe and ends: it has 24 turns. Assumes nothing.
+-- `test_witness::basis::longest` is safe and ends: it has 24 turns. Assumes nothing.
 use borrow.Author.Needs.{needs}
 use Prim.Native.Nat.{_-_}
-use Rattle.test_witness.proofs.lost.longest.Statement.{statement}
-use Rattle.test_witness.proofs.lost.longest.Tie as tie
+use Rattle.test_witness.proofs.basis.longest.Statement.{statement}
+use Rattle.test_witness.proofs.basis.longest.Tie as tie
 
 pub longest-spec : {M : Type 1} → statement M
 longest-spec = tie.close (tie.spec
