@@ -88,7 +88,7 @@ unfoldable pub free : List (List ℕ) → List ℕ → Bool
 unfolding atLeast
 free B g = all (λ b. not (atLeast g b)) B
 
--- "From now on m is the longest of the patterns that contain no other pattern of the set" (order 3):
+-- "From now on m is the longest of the patterns that contain no other pattern of the set" (02):
 -- its length, "0 for no patterns" (01)
 unfoldable pub mOf : List (List ℕ) → ℕ
 unfolding longest basis
