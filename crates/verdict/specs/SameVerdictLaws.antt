@@ -206,5 +206,8 @@ module _ (P : List (List ℕ)) (E : List EntryList) where
   pub fewer-cells : comparedCells P E ≤ comparedCellsUnder (longest P) E
   fewer-cells = cells-most (mOf P) (longest P) (m-at-most P) E
 
+  pub whole-cells : basis P ≡ P → comparedCells P E ≡ comparedCellsUnder (longest P) E
+  whole-cells e = ap (λ (m : ℕ). comparedCellsUnder m E) (m-of-whole P e)
+
   pub whole-verdict : basis P ≡ P → verdictOf P E ≡ verdictUnder (longest P) P E
   whole-verdict e = ap (λ (m : ℕ). verdictUnder m P E) (m-of-whole P e)
