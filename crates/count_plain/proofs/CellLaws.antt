@@ -30,7 +30,7 @@ use Rattle.count_plan.proofs.CardLaws.{position}
 use Rattle.count_step.specs.Step.{LARGEST, capped}
 use Rattle.count_step.specs.StepLaws.{below-cap}
 use Rattle.count_step.proofs.SumLaws.{cap-more, cap-end}
-use Rattle.count_rows.specs.Rows.{Solves, sumFrom}
+use Rattle.count_walk.specs.Values.{Solves, sumFrom}
 use Rattle.count_plain.specs.Pieces.{splitAt, HeldAt}
 use Rattle.count_plain.specs.Reading.{CellAt, Evaluates, Sums}
 

@@ -8,7 +8,7 @@ use Rattle.cell.specs.Cell.{total}
 use Rattle.count_step.specs.Step.{capped}
 use Rattle.count_plan.specs.Layout.{prefixAt, lengthAt}
 use Rattle.count_plan.specs.SheetRows.{fieldOf, Sheet}
-use Rattle.count_rows.specs.Rows.{Solves, sumFrom}
+use Rattle.count_walk.specs.Values.{Solves, sumFrom}
 
 -- the cell of the entry with index e at the spacing in g, whose total is t
 pub record CellAt (sheet : List ℕ) (e : ℕ) (g : List ℕ) (t : ℕ) : Type 0 where

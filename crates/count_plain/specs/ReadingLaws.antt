@@ -18,7 +18,7 @@ use Rattle.scheme.specs.Proper.{Proper}
 use Rattle.count_plan.specs.SheetForm.{SheetTo}
 use Rattle.count_plan.specs.SheetRows.{Names, Sheet}
 use Rattle.count_plan.proofs.SheetRowLaws.{sheet-of}
-use Rattle.count_rows.specs.RunLaws.{sizes-solved}
+use Rattle.count_walk.specs.SolutionLaws.{sizes-solved}
 use Rattle.count_plain.specs.Reading.{CellAt, Evaluates}
 
 -- the cell of ε with spacing (n)

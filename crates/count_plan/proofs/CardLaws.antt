@@ -30,7 +30,7 @@ use Rattle.scheme.specs.TestLaws.{or-left, or-right}
 use Rattle.count_plan.specs.Layout.{entryAt, prefixAt, lengthAt}
 use Rattle.count_plan.specs.LayoutLaws.{prefix-length, entry-proper, entry-short}
 use Rattle.scheme.specs.Proper.{Proper}
-use Rattle.count_plan.specs.Cards.{indexFound, indexIn, ChildLinks, Expands, Deletes, RuleCard}
+use Rattle.count_plan.specs.Cards.{indexFound, indexIn, indexOf, ChildLinks, Expands, Deletes, RuleCard}
 use Rattle.count_plan.specs.SheetRows.{Names}
 use Rattle.count_plan.specs.declared.cards.Card.{Card}
 
@@ -56,7 +56,8 @@ found-names s q l = go (findIn (prefixesIn s) q) refl
     go (some d) e =
         let r = found-row (prefixAt s) q 0 (s .count) d (ap (λ (ps : List (List ℕ)). findIn ps q) (sym (prefixes-at s)) ∙ e) in
         let k : d < s .count = omega (arith, r .0) in
-        subst (λ (x : ℕ). Names s q x) (sym (ap (λ (x : Option ℕ). indexFound (foundOf x)) e)) (record { inside = k; named = r .1 })
+        let i : d ≡ indexOf s q = sym (ap (λ (x : Option ℕ). indexFound (foundOf x)) e) in
+        subst (λ (x : ℕ). Names s q x) i (record { inside = k; named = r .1; is = i })
 
 -- The links of the children
 

@@ -24,7 +24,7 @@ use Rattle.forms.specs.GapRowLaws.{gaps-stand}
 use Rattle.forms.specs.declared.memory.Scheme.{Scheme}
 use Rattle.scheme.specs.Links.{prefixesIn}
 use Rattle.verdict.specs.ValueLaws.{child-listed, target-listed}
-use Rattle.count_plan.specs.Layout.{entryAt, prefixAt, lengthAt}
+use Rattle.count_plan.specs.Layout.{entryAt, prefixAt, lengthAt, placeAt}
 use Rattle.count_plan.specs.LayoutLaws.{prefix-length, entry-member, entry-proper, entry-short, gaps-few, gap-width, count-few}
 use Rattle.count_plan.specs.Plan.{LeadsTo, RulePlan, Planned, Plan, Places}
 use Rattle.scheme.specs.Proper.{Proper}
@@ -155,7 +155,11 @@ root-names s proper = found-names s [] (proper .root)
 -- an index with its place
 pub names-lead : (n : ℕ) (s : Scheme) (places q : List ℕ) (d : ℕ) → Places n s places → Names s q d → LeadsTo n s q (getD places d 0)
 names-lead n s places q d p names =
-    record { index = d; inside = names .inside; named = names .named; placed = p .at d (omega (arith, names .inside)) }
+    record {
+      inside = omega (arith, names .inside, names .is);
+      named = ap (prefixAt s) (sym (names .is)) ∙ names .named;
+      placed = p .at d (omega (arith, names .inside)) ∙ ap (placeAt n s) (names .is);
+    }
 
 module _ (sheet places : List ℕ) (e : ℕ) where
   pub link-at : (a : ℕ) → a < LINKS → getD (linksAt sheet places e) a 0 ≡ linkAt sheet places e a

@@ -13,7 +13,8 @@ use Rattle.forms.specs.SchemeList.{Does, expands, deletes, EntryList}
 use Rattle.forms.specs.SchemeMemory.{doesOf}
 use Rattle.forms.specs.declared.memory.Entry.{Entry}
 use Rattle.forms.specs.Codes.{Codes}
-use Rattle.scheme.specs.Links.{findIn, foundOf}
+use Rattle.forms.specs.declared.memory.Scheme.{Scheme}
+use Rattle.scheme.specs.Links.{findIn, foundOf, prefixesIn}
 use Rattle.scheme.specs.declared.links.Found.{Found}
 use Rattle.scheme.specs.declared.links.Found.the-variants.{At, Nothing}
 use Rattle.count_plan.specs.declared.cards.Card.{Card}
@@ -30,6 +31,10 @@ indexFound Nothing = 0
 -- the index of the prefix q among the prefixes ps
 abbrev pub indexIn : List (List ℕ) → List ℕ → ℕ
 indexIn ps q = indexFound (foundOf (findIn ps q))
+
+-- the index of the entry with the prefix q
+abbrev pub indexOf : Scheme → List ℕ → ℕ
+indexOf s q = indexIn (prefixesIn s) q
 
 -- the indices of the children of p with the last entries 1 to m
 pub record ChildLinks (ps : List (List ℕ)) (p : List ℕ) (m : ℕ) (links : List ℕ) : Type 0 where

@@ -1,5 +1,6 @@
 -- Which cell of the table holds what. Definitions only.
-use Prim.Native.Nat.{ℕ, zero, suc, _+_, _*_, _%_}
+use Prim.Native.Nat.{ℕ, zero, suc, _+_, _*_, _%_, _≤_, _<_}
+use mathlib.Core.Path.{_≡_}
 use mathlib.Core.List.{List, map}
 use lib.ListN.{length, getD}
 use Rattle.cell.specs.Cell.{total}
@@ -31,14 +32,36 @@ placeAt n s (suc i) = placeAt n s i + binomial n (lengthAt s i)
 abbrev pub widthOf : ℕ → Scheme → ℕ
 widthOf n s = placeAt n s (s .count)
 
--- "It needs 2 times the sum of C(n, k) over all entries, k being the entry's length" (01)
-abbrev pub needOf : ℕ → List EntryList → ℕ
-needOf n E = 2 * total (map (λ e. binomial n (length (e .prefix))) E)
+-- How many rows the table keeps at a time: the row that is filled, and the row before it, in which
+-- the targets of deletions stand.
+abbrev pub rowsOf : List EntryList → ℕ
+rowsOf E = 2
 
--- Rows of lengths that are both even or both odd share a block: row j is in block j mod 2.
-abbrev pub blockOf : ℕ → Scheme → ℕ → ℕ
-blockOf n s j = j % 2 * widthOf n s
+-- The numbers of 64 bits that a table needs which keeps so many rows, with so many numbers a cell
+abbrev pub needWith : ℕ → ℕ → ℕ → List EntryList → ℕ
+needWith rows numbers n E = numbers * (rows * total (map (λ e. binomial n (length (e .prefix))) E))
+
+-- "It needs 2 times the sum of C(n, k) over all entries, k being the entry's length" (01); counting
+-- has one number a cell
+abbrev pub needOf : ℕ → List EntryList → ℕ
+needOf n E = needWith (rowsOf E) 1 n E
+
+-- The table has a block of cells for each row that is kept: row j is in block j mod `rows`, which
+-- begins at this cell.
+abbrev pub blockOf : ℕ → ℕ → Scheme → ℕ → ℕ
+blockOf rows n s j = j % rows * widthOf n s
 
 -- In row j, the value at the entry with index d and the spacing g stands in this cell.
-abbrev pub cellAt : ℕ → Scheme → ℕ → ℕ → List ℕ → ℕ
-cellAt n s j d g = blockOf n s j + placeAt n s d + rankOf g
+abbrev pub cellAt : ℕ → ℕ → Scheme → ℕ → ℕ → List ℕ → ℕ
+cellAt rows n s j d g = blockOf rows n s j + placeAt n s d + rankOf g
+
+-- The cell with index i begins at this number of the table.
+abbrev pub numberAt : ℕ → ℕ → ℕ
+numberAt numbers i = numbers * i
+
+-- the entry with index d has a cell at the spacing g in row j, which is not above n
+pub record HasCell (n : ℕ) (s : Scheme) (j d : ℕ) (g : List ℕ) : Type 0 where
+  pub inside : d < s .count
+  pub wide : length g ≡ suc (lengthAt s d)
+  pub whole : lengthAt s d + total g ≡ j
+  pub low : j ≤ n

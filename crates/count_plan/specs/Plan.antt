@@ -11,14 +11,14 @@ use Rattle.cell.specs.Child.{childAt}
 use Rattle.spacing.specs.Sizes.{NEAR}
 use Rattle.forms.specs.SchemeList.{Does, expands, deletes}
 use Rattle.forms.specs.declared.memory.Scheme.{Scheme}
+use Rattle.count_plan.specs.Cards.{indexOf}
 use Rattle.count_plan.specs.Layout.{entryAt, prefixAt, lengthAt, placeAt}
 
--- the cells of the prefix q begin at the place x of a row
+-- the prefix q has an entry, and its cells begin at the place x of a row
 pub record LeadsTo (n : ℕ) (s : Scheme) (q : List ℕ) (x : ℕ) : Type 0 where
-  pub index : ℕ
-  pub inside : index < s .count
-  pub named : prefixAt s index ≡ q
-  pub placed : x ≡ placeAt n s index
+  pub inside : indexOf s q < s .count
+  pub named : prefixAt s (indexOf s q) ≡ q
+  pub placed : x ≡ placeAt n s (indexOf s q)
 
 -- What a row has to know of an entry: its length; where in a row its cells begin; the value that it
 -- deletes, or 0; what it has at total 0 where it expands; where in a row the cells of its children,

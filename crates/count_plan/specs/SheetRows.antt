@@ -13,6 +13,7 @@ use Rattle.forms.specs.GapRows.{gapsOf}
 use Rattle.forms.specs.SchemeList.{Does, expands, deletes}
 use Rattle.forms.specs.declared.memory.Scheme.{Scheme}
 use Rattle.count_plan.specs.Layout.{entryAt, prefixAt, lengthAt}
+use Rattle.count_plan.specs.Cards.{indexOf}
 use Rattle.count_plan.specs.Plan.{Item}
 use Rattle.forms.specs.SchemeMemory.{schemeIn}
 use Rattle.scheme.specs.Proper.{Proper}
@@ -34,6 +35,7 @@ gapsAt sheet e k = gapsOf (partsAt sheet e) (k + 1) (fieldOf sheet e 3)
 pub record Names (s : Scheme) (q : List ℕ) (d : ℕ) : Type 0 where
   pub inside : d < s .count
   pub named : prefixAt s d ≡ q
+  pub is : d ≡ indexOf s q
 
 -- what the sheet says of a rule
 abbrev pub RuleRow : List (List ℕ) → Scheme → List ℕ → Does → List ℕ → ℕ → Type 0

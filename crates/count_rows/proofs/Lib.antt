@@ -1,2 +1,3 @@
 -- The laws that the proofs of the crate count_rows use.
-pub mod EntryFillLaws
+pub mod FrameLaws
+pub mod RowLaws

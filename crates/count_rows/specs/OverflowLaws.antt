@@ -4,13 +4,14 @@
 -- ^ 64: no sum meets its cap.
 use Prim.Native.Nat.{ℕ, zero, suc, _+_, _-_, _≤_, _<_}
 use native.Mathlib.Omega.{arith}
-use mathlib.Core.Path.{_≡_, refl, sym, ap, _∙_}
+use mathlib.Core.Path.{_≡_, refl, sym, ap, _∙_, subst}
 use mathlib.Core.Bool.{true, cond}
-use mathlib.Core.List.{List, _++_, map, map-append, List·Memᴰ}
+use mathlib.Core.List.{List, _∷_, _++_, map, map-append, List·Memᴰ, List·Memᴰ·head, Memᴰ·append-right}
 use lib.ListN.{length}
 use borrow.Author.Tests.{ne-eqb, leb-true}
 use Rattle.word.specs.Ceilings.{LENGTH}
 use Rattle.word.specs.Lists.{row, oneTo}
+use Rattle.word.specs.ListLaws.{map-same, row-out}
 use Rattle.word.specs.Word.{avoids}
 use Rattle.word.specs.Vocabulary.{factorial}
 use Rattle.cell.specs.Cell.{total, free}
@@ -24,14 +25,19 @@ use Rattle.verdict.specs.Truth.{WellFormed, AllTrue}
 use Rattle.verdict.specs.Value.{ruleValue, entryValue}
 use Rattle.verdict.specs.Size.{size, HIGHEST, VALUES}
 use Rattle.verdict.specs.ValueLaws.{at-most, stays-below, factorial-at-most, highest-fits, entry-solves}
-use Rattle.count_step.specs.Step.{LARGEST, capped, childrenOf}
-use Rattle.count_step.specs.StepLaws.{nextCell, child-sum, below-cap}
-use Rattle.count_plan.specs.Layout.{entryAt, prefixAt, lengthAt}
-use Rattle.count_plan.specs.LayoutLaws.{prefix-length, entry-member}
-use Rattle.count_plan.specs.Plan.{Item}
-use Rattle.count_rows.specs.Rows.{readsFrom, sumFrom, State, Setting}
-use Rattle.count_rows.specs.RowLaws.{cells-are}
-use Rattle.count_rows.specs.RunLaws.{sizes-solved}
+use Rattle.scheme.specs.ProperLaws.{proper}
+use Rattle.count_step.specs.Step.{LARGEST, capped, held}
+use Rattle.count_step.specs.StepLaws.{below-cap}
+use Rattle.count_plan.specs.Layout.{entryAt, prefixAt, rowsOf, needOf, HasCell}
+use Rattle.count_plan.specs.LayoutLaws.{prefix-length, entry-member, width-sum}
+use Rattle.count_walk.specs.Content.{single}
+use Rattle.count_walk.specs.Cells.{TableCell, cellsOf}
+use Rattle.count_walk.specs.CellLaws.{rows-out}
+use Rattle.count_walk.specs.Values.{sumFrom}
+use Rattle.count_walk.specs.Walk.{placeOf, countMakes, countWalked}
+use Rattle.count_walk.specs.FeedLaws.{child-fed}
+use Rattle.count_walk.specs.WalkLaws.{fed-value}
+use Rattle.count_walk.specs.SolutionLaws.{single-sound, solution-of, sizes-solved}
 
 -- a sum that is made for the cell at the prefix p and the spacing g
 pub record SumFits (P : List (List ℕ)) (p g : List ℕ) (sum : ℕ) : Type 0 where
@@ -96,27 +102,36 @@ module _ (P : List (List ℕ)) (E : List EntryList) (formed : WellFormed P E) (t
             run-at-most (λ s. size P (childAt (e .prefix) (slot g s)) (split g s)) q n (total g) low high,
           )
 
--- A sum of cells of the table, as the step makes it, where the table holds the sizes
-module _ (s : Scheme) (items : ℕ → Item) (j here before : ℕ) (r : Setting s items j here before) (formed : WellFormed (r .P) (schemeIn s))
-    (truth : AllTrue (r .P) (schemeIn s)) (e : ℕ) (inside : e < s .count) (rule : (entryAt s e) .rule ≡ expands) (T : List ℕ)
-    (state : State (size (r .P)) (r .n) s j (lengthAt s e) e T) (g : List ℕ) (wide : length g ≡ suc (lengthAt s e))
-    (whole : lengthAt s e + total g ≡ j) (f : free ((entryAt s e) .gaps) g ≡ true) where
-  pub step-sums-fit : (q n : ℕ) → 1 ≤ q → q + n ≤ suc (total g) →
-      SumFits (r .P) (prefixAt s e) g
-      (total (map (nextCell T (map (λ x. readsFrom (items e) here before + x) ((items e) .links)) 0 0 0 g) (row q n)))
-  step-sums-fit q n low high =
-      rw (cells-are (size (r .P)) (r .P) s (r .n) (sizes-solved (r .P) s formed truth) (r .proper) e inside
-      (items e) (r .plan e inside) j here before
-      (omega (arith, r .low, r .small)) (r .here-is) (r .before-is) T (state .longer) (state .before) g wide whole rule q n low high)
-      (value-sums-fit (r .P) (schemeIn s) formed truth (entryAt s e) (entry-member s e inside) rule g
-      (wide ∙ ap suc (sym (prefix-length s e))) f
-      (omega (arith, r .low, r .small)) q n low high)
+-- A sum of what the table holds in the cells of children, as the step makes it: k are the cells that
+-- are filled, and c is the cell that comes next
+module _ (P : List (List ℕ)) (s : Scheme) (formed : WellFormed P (schemeIn s)) (truth : AllTrue P (schemeIn s)) (n : ℕ) (small : n ≤ LENGTH)
+    (T : List ℕ) (room : needOf n (schemeIn s) ≤ length T) (k : List TableCell) (c : TableCell) (l : List TableCell)
+    (all : k ++ (c ∷ l) ≡ cellsOf s n) (rule : (entryAt s (c .entry)) .rule ≡ expands)
+    (f : free ((entryAt s (c .entry)) .gaps) (c .spacing) ≡ true) where
+  pub step-sums-fit : (q m : ℕ) → 1 ≤ q → q + m ≤ suc (total (c .spacing)) →
+      SumFits P (prefixAt s (c .entry)) (c .spacing)
+      (total (map (λ i. held (countWalked P n s k T) (placeOf (rowsOf (schemeIn s)) n s
+      (record { prefix = childAt (prefixAt s (c .entry)) (slot (c .spacing) i); spacing = split (c .spacing) i }))) (row q m)))
+  step-sums-fit q m low high =
+      rw sums (value-sums-fit P (schemeIn s) formed truth (entryAt s (c .entry)) (entry-member s (c .entry) (has .inside)) rule (c .spacing)
+      (has .wide ∙ ap suc (sym (prefix-length s (c .entry)))) f (omega (arith, has .whole, has .low)) q m low high)
+    where
+      has : HasCell n s (c .row) (c .entry) (c .spacing)
+      has = rows-out n s 0 (suc n) (omega arith) (subst (List·Memᴰ c) all (Memᴰ·append-right k (List·Memᴰ·head refl))) .2
 
-  -- The whole sum of a step. What a loop of the step has summed and what is still to come make this
-  -- sum together (Part and Sums in count_step/proofs/SumLaws.antt), so no sum in between is larger.
-  pub children-fit : SumFits (r .P) (prefixAt s e) g
-      (childrenOf T (map (λ x. readsFrom (items e) here before + x) ((items e) .links)) g)
-  unfolding childrenOf
-  children-fit =
-      rw (child-sum T (map (λ x. readsFrom (items e) here before + x) ((items e) .links)) 0 0 0 g)
-      (step-sums-fit 1 (total g) (omega arith) (omega arith))
+      term : (i : ℕ) → List·Memᴰ i (row q m) →
+          held (countWalked P n s k T) (placeOf (rowsOf (schemeIn s)) n s
+          (record { prefix = childAt (prefixAt s (c .entry)) (slot (c .spacing) i); spacing = split (c .spacing) i })) ≡
+          size P (childAt (prefixAt s (c .entry)) (slot (c .spacing) i)) (split (c .spacing) i)
+      term i h =
+          let (a, b) = row-out q m h in
+          fed-value single single-sound (countMakes P) (rowsOf (schemeIn s)) n s (size P)
+          (solution-of (size P) P s (sizes-solved P s formed truth)) (proper (schemeIn s) (formed .scheme)) small (omega arith) (omega arith)
+          k c l all T (omega (arith, room, width-sum n s))
+          (record { prefix = childAt (prefixAt s (c .entry)) (slot (c .spacing) i); spacing = split (c .spacing) i })
+          (child-fed (entryAt s (c .entry)) (c .spacing) rule f i (omega arith) (omega arith))
+
+      sums : total (map (λ i. held (countWalked P n s k T) (placeOf (rowsOf (schemeIn s)) n s
+          (record { prefix = childAt (prefixAt s (c .entry)) (slot (c .spacing) i); spacing = split (c .spacing) i }))) (row q m)) ≡
+          sumFrom (size P) (prefixAt s (c .entry)) (c .spacing) q m
+      sums = ap total (map-same _ (λ i. size P (childAt (prefixAt s (c .entry)) (slot (c .spacing) i)) (split (c .spacing) i)) (row q m) term)

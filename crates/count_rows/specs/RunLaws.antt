@@ -1,145 +1,98 @@
--- A run over all rows: one row more, the sizes of cells as the values, and the table afterwards.
+-- A pass over all rows: the values at ε are the counts of an accepted scheme, and the table
+-- afterwards.
 use Prim.Native.Nat.{ℕ, zero, suc, _+_, _*_, _-_, _≤_, _<_}
-use native.Mathlib.Nat.{zero-mul, one-mul}
 use native.Mathlib.Numerals.{add-one}
 use native.Mathlib.Omega.{arith}
-use mathlib.Core.Path.{_≡_, refl, sym, ap, _∙_}
+use mathlib.Core.Path.{_≡_, refl, sym, ap, ap₂, _∙_}
 use mathlib.Core.Logic.{_⊎_, inl, inr}
-use mathlib.Core.List.{List, [], _∷_, _++_}
+use mathlib.Core.List.{List, [], _∷_, _++_, List·Memᴰ}
 use lib.ListN.{length, getD, set, drop, replicate, length-set, length-drop, length-replicate}
 use lib.Seq.{getD-set-same, getD-set-other, getD-drop, drop-cons, set-at, ext-getD}
 use Rattle.word.specs.Ceilings.{LENGTH, COUNTS}
 use Rattle.word.specs.ListLaws.{below-or-not}
 use Rattle.cell.specs.Cell.{total}
-use Rattle.spacing.specs.Rank.{rankFrom, rankAfter, rankOf}
 use Rattle.forms.specs.SchemeMemory.{schemeIn}
 use Rattle.forms.specs.declared.memory.Scheme.{Scheme}
+use Rattle.scheme.specs.ProperLaws.{proper}
 use Rattle.verdict.specs.Truth.{WellFormed, AllTrue}
 use Rattle.verdict.specs.Size.{size}
-use Rattle.verdict.specs.ValueLaws.{size-fits, entry-solves, count-size}
-use Rattle.count_plan.specs.Layout.{prefixAt, lengthAt, widthOf, blockOf, cellAt}
-use Rattle.count_plan.specs.LayoutLaws.{prefix-length, entry-member, count-few, place-small}
-use Rattle.count_plan.specs.Plan.{Item}
-use Rattle.count_rows.specs.Rows.{Solves, RowDone, RowTo, Kept, Setting, RowGoes}
-use Rattle.count_rows.specs.RowLaws.{blocks, block-high}
-use Rattle.count_rows.specs.StateLaws.{row-end, kept-refl, kept-trans}
-use Rattle.count_rows.specs.Run.{Outlook, Counted, RunTo, cleared, Counts}
+use Rattle.verdict.specs.Value.{countOf}
+use Rattle.verdict.specs.ValueLaws.{count-size}
+use Rattle.count_plan.specs.Layout.{lengthAt, prefixAt, widthOf, rowsOf, needOf, cellAt, HasCell}
+use Rattle.count_plan.specs.LayoutLaws.{prefix-length, width-sum}
+use Rattle.count_plan.specs.SheetRows.{Names}
+use Rattle.count_step.specs.Step.{held}
+use Rattle.count_walk.specs.Content.{single}
+use Rattle.count_walk.specs.Cells.{TableCell, cellsOf}
+use Rattle.count_walk.specs.CellLaws.{rows-out}
+use Rattle.count_walk.specs.Walk.{countMakes, countWalked}
+use Rattle.count_walk.specs.WalkLaws.{walked-size, walked-kept, row-value}
+use Rattle.count_walk.specs.SolutionLaws.{single-sound, solution-of, sizes-solved}
+use Rattle.count_rows.specs.Run.{cleared, rootValue, ValuesTo, Counts}
 
--- Blocks
+-- the cell of ε in row j
+pub root-cell : (n : ℕ) (s : Scheme) (root j : ℕ) → Names s [] root → j ≤ n → HasCell n s j root (j ∷ [])
+unfolding total
+root-cell n s root j names low =
+    let zero-length : lengthAt s root ≡ 0 = sym (prefix-length s root) ∙ ap length (names .named) in
+    record { inside = names .inside; wide = ap suc (sym zero-length); whole = omega (arith, zero-length); low = low }
 
-pub block-first : (n : ℕ) (s : Scheme) → blockOf n s 0 ≡ 0
-block-first n s = zero-mul (widthOf n s)
+-- "every row less than that many back is there": what any cell of a kept row holds is the size of
+-- the cell
+module _ (P : List (List ℕ)) (s : Scheme) (formed : WellFormed P (schemeIn s)) (truth : AllTrue P (schemeIn s)) (n : ℕ) (small : n ≤ LENGTH)
+    (T : List ℕ) (room : needOf n (schemeIn s) ≤ length T) where
+  pub value-there : (j i d : ℕ) (g : List ℕ) → j ≤ n → HasCell n s i d g → i ≤ j → j < i + rowsOf (schemeIn s) →
+      held (countWalked P n s (cellsOf s j) T) (cellAt (rowsOf (schemeIn s)) n s i d g) ≡
+      size P (prefixAt s d) g
+  value-there j i d g low c here kept =
+      row-value single single-sound (countMakes P) (rowsOf (schemeIn s)) n s (size P)
+      (solution-of (size P) P s (sizes-solved P s formed truth)) (proper (schemeIn s) (formed .scheme)) small (omega arith)
+      (omega arith) j low T (omega (arith, room, width-sum n s)) i d g c here kept
 
-pub block-second : (n : ℕ) (s : Scheme) → blockOf n s 1 ≡ widthOf n s
-block-second n s = one-mul (widthOf n s)
+  pub root-count : (root j : ℕ) → Names s [] root → j ≤ n → rootValue P n s root T j ≡ countOf P (schemeIn s) j
+  root-count root j names low =
+      value-there j j root (j ∷ []) low (root-cell n s root j names low) (omega arith) (omega arith) ∙
+      ap (λ (p : List ℕ). size P p (j ∷ [])) (names .named) ∙ sym (count-size P (schemeIn s) formed truth j)
 
--- every second row is in the same block
-pub block-twice : (n : ℕ) (s : Scheme) (j : ℕ) → blockOf n s j ≡ blockOf n s (suc (suc j))
-block-twice n s j = go (blocks n s j) (blocks n s (suc j))
-  where
-    go : ((blockOf n s j ≡ 0) × (blockOf n s (suc j) ≡ widthOf n s)) ⊎ ((blockOf n s j ≡ widthOf n s) × (blockOf n s (suc j) ≡ 0)) →
-        ((blockOf n s (suc j) ≡ 0) × (blockOf n s (suc (suc j)) ≡ widthOf n s)) ⊎ ((blockOf n s (suc j) ≡ widthOf n
-        s) × (blockOf n s (suc (suc j)) ≡ 0)) →
-        blockOf n s j ≡ blockOf n s (suc (suc j))
-    go (inl (a, b)) (inl (c, d)) = omega arith
-    go (inl (a, b)) (inr (c, d)) = omega arith
-    go (inr (a, b)) (inl (c, d)) = omega arith
-    go (inr (a, b)) (inr (c, d)) = omega arith
+  pub run-counts : (root : ℕ) (values : List ℕ) → Names s [] root → ValuesTo P n s root T (suc n) values → Counts P (schemeIn s) n values
+  run-counts root values names v =
+      record {
+        size = v .size;
+        upto = λ (j : ℕ) (h : j ≤ n). v .below j (omega arith) ∙ root-count root j names h;
+        above = λ (j : ℕ) (h : n < j). v .rest j (omega arith);
+      }
 
--- a row as part of a run
-unfoldable pub run-setting : (s : Scheme) (items : ℕ → Item) (n width root j here before : ℕ) →
-    Outlook s items n width root → j ≤ n → here ≡ blockOf n s j →
-    before ≡ blockOf n s (j + 1) → Setting s items j here before
-run-setting s items n width root j here before o low h b =
-    record {
-      n = n;
-      P = o .P;
-      proper = o .proper;
-      small = o .small;
-      low = low;
-      plan = o .plan;
-      here-is = h;
-      before-is = λ (i : ℕ) (q : suc i ≡ j). b ∙ rw (add-one j) (ap (λ m. blockOf n s (suc m)) (sym q)) ∙ sym (block-twice n s i);
-      before-near = omega (arith, b, block-high n s (j + 1), place-small n s (s .count) (o .small), count-few s (o .proper));
-    }
+-- The values row by row
 
-module _ (s : Scheme) (items : ℕ → Item) (n width root : ℕ) (T₀ : List ℕ) where
-  pub run-start : RunTo s items n width root 0 T₀ T₀ (replicate COUNTS 0)
-  run-start o v solved room = (
-    λ (i : ℕ) (q : suc i ≡ 0). absurd (omega arith),
-    record {
-      size = length-replicate {A = ℕ} COUNTS 0;
-      below = λ (i : ℕ) (h : i < 0). absurd (omega arith);
-      rest = λ (i : ℕ) (h : 0 ≤ i). zeros COUNTS i;
-    },
-    kept-refl n s T₀,
-  )
+zeros : (m i : ℕ) → _≡_ {A = ℕ} (getD (replicate m 0) i 0) 0
+zeros zero i = refl
+zeros (suc m) zero = refl
+zeros (suc m) (suc i) = zeros m i
+
+module _ (P : List (List ℕ)) (n : ℕ) (s : Scheme) (root : ℕ) (T : List ℕ) where
+  pub values-start : ValuesTo P n s root T 0 (replicate COUNTS 0)
+  values-start =
+      record {
+        size = length-replicate {A = ℕ} COUNTS 0;
+        below = λ (i : ℕ) (h : i < 0). absurd (omega arith);
+        rest = λ (i : ℕ) (h : 0 ≤ i). zeros COUNTS i;
+      }
+
+  pub values-more : (j x : ℕ) (values : List ℕ) → j < COUNTS → x ≡ rootValue P n s root T j → ValuesTo P n s root T j values →
+      ValuesTo P n s root T (j + 1) (set values j x)
+  values-more j x values h e v =
+      record {
+        size = length-set values j x ∙ v .size;
+        below = λ (i : ℕ) (l : i < j + 1). at i l (below-or-not i j);
+        rest = λ (i : ℕ) (l : j + 1 ≤ i). getD-set-other values j i x 0 (λ (q : i ≡ j). omega arith) ∙ v .rest i (omega arith);
+      }
     where
-      zeros : (m i : ℕ) → _≡_ {A = ℕ} (getD (replicate m 0) i 0) 0
-      zeros zero i = refl
-      zeros (suc m) zero = refl
-      zeros (suc m) (suc i) = zeros m i
-
-  -- one row more
-  pub run-more : (j here before : ℕ) (T U counts : List ℕ) (x : ℕ) → j ≤ n → here ≡ blockOf n s j → before ≡ blockOf n s (j + 1) →
-      RunTo s items n width root j T₀ T counts → RowGoes s items j here before T U → x ≡ getD U (here + root) 0 →
-      RunTo s items n width root (j + 1) T₀ U (set counts j x)
-  unfolding total rankOf rankAfter rankFrom run-setting
-  run-more j here before T U counts x low h b run go e o v solved room = step (run o v solved room)
-    where
-      step : ((i : ℕ) → suc i ≡ j → RowDone v n s T i) × Counted v j counts × Kept n s T₀ T →
-          ((i : ℕ) → suc i ≡ j + 1 → RowDone v n s U i) × Counted v (j + 1) (set counts j x) × Kept n s T₀ U
-      step (rows, counted, kept) = (
-        λ (i : ℕ) (q : suc i ≡ j + 1). rw (same i q) (row-end v n s j U (done .0)),
-        record {
-          size = length-set counts j x ∙ counted .size;
-          below = λ (i : ℕ) (l : i < j + 1). at i l (below-or-not i j);
-          rest = λ (i : ℕ) (l : j + 1 ≤ i). getD-set-other counts j i x 0 (λ (q : i ≡ j). omega arith) ∙ counted .rest i (omega arith);
-        },
-        kept-trans n s T₀ T U kept (done .1),
-      )
-        where
-          same : (i : ℕ) → suc i ≡ j + 1 → i ≡ j
-          same i q = omega arith
-
-          done : RowTo v n s j 0 U × Kept n s T U
-          done = go (run-setting s items n width root j here before o low h b) v solved (omega (arith, room, kept .size, o .width-is)) rows
-
-          value : x ≡ v [] (j ∷ [])
-          value =
-              let l = o .root-is in
-              let zero-length : lengthAt s (l .index) ≡ 0 = sym (prefix-length s (l .index)) ∙ ap length (l .named) in
-              let cell : here + root ≡ cellAt n s j (l .index) (j ∷ []) = omega (arith, h, l .placed) in
-              e ∙ ap (λ m. getD U m 0) cell ∙
-              row-end v n s j U (done .0) (l .index) (l .inside) (j ∷ []) (omega arith) (omega arith) ∙
-              ap (λ (p : List ℕ). v p (j ∷ [])) (l .named)
-
-          at : (i : ℕ) → i < j + 1 → (i < j) ⊎ (j ≤ i) → getD (set counts j x) i 0 ≡ v [] (i ∷ [])
-          at i l (inl a) = getD-set-other counts j i x 0 (λ (q : i ≡ j). omega arith) ∙ counted .below i a
-          at i l (inr a) =
-              let q : i ≡ j = omega arith in
-              ap (λ m. getD (set counts j x) m 0) q ∙ getD-set-same counts j x 0 (omega (arith, counted .size, o .small)) ∙ value ∙
-              ap (λ (m : ℕ). v [] (m ∷ [])) (sym q)
-
--- The sizes of cells solve the recursion of an accepted scheme.
-
-pub sizes-solved : (P : List (List ℕ)) (s : Scheme) → WellFormed P (schemeIn s) → AllTrue P (schemeIn s) → Solves (size P) P s
-sizes-solved P s formed truth =
-    record {
-      solves = λ (i : ℕ) (h : i < s .count) (g : List ℕ) (wide : length g ≡ suc (length (prefixAt s i))).
-          entry-solves P (schemeIn s) formed truth _ (entry-member s i h) g wide;
-      fits = λ (p g : List ℕ) (h : total g ≤ LENGTH). omega (arith, size-fits P p g h);
-    }
-
--- the counts of a run
-pub run-counts : (P : List (List ℕ)) (s : Scheme) (n : ℕ) (counts : List ℕ) → WellFormed P (schemeIn s) → AllTrue P (schemeIn s) →
-    Counted (size P) (n + 1) counts → Counts P (schemeIn s) n counts
-run-counts P s n counts formed truth c =
-    record {
-      size = c .size;
-      upto = λ (j : ℕ) (h : j ≤ n). c .below j (omega arith) ∙ sym (count-size P (schemeIn s) formed truth j);
-      above = λ (j : ℕ) (h : n < j). c .rest j (omega arith);
-    }
+      at : (i : ℕ) → i < j + 1 → (i < j) ⊎ (j ≤ i) → getD (set values j x) i 0 ≡ rootValue P n s root T i
+      at i l (inl a) = getD-set-other values j i x 0 (λ (q : i ≡ j). omega arith) ∙ v .below i a
+      at i l (inr a) =
+          let q : i ≡ j = omega arith in
+          ap (λ m. getD (set values j x) m 0) q ∙ getD-set-same values j x 0 (omega (arith, v .size)) ∙ e ∙
+          ap (rootValue P n s root T) (sym q)
 
 -- The table afterwards
 
@@ -154,11 +107,20 @@ cleared-more i T₀ T h e =
     set-at (replicate i 0) (getD T₀ i 0) (drop (suc i) T₀) 0 i (length-replicate {A = ℕ} i 0) ∙ zeros-snoc i (drop (suc i) T₀) ∙
     ap (λ m. replicate m 0 ++ drop m T₀) (sym (add-one i))
 
--- what lies behind the two blocks is untouched
-pub kept-drop : (n : ℕ) (s : Scheme) (T₀ T : List ℕ) → Kept n s T₀ T → cleared (2 * widthOf n s) T ≡ cleared (2 * widthOf n s) T₀
-kept-drop n s T₀ T k =
-    ap (λ (l : List ℕ). replicate (2 * widthOf n s) 0 ++ l)
-    (ext-getD 0 (drop (2 * widthOf n s) T) (drop (2 * widthOf n s) T₀)
-    (omega (arith, length-drop (2 * widthOf n s) T, length-drop (2 * widthOf n s) T₀, k .size))
-    (λ (i : ℕ) (h : i < length (drop (2 * widthOf n s) T)).
-    getD-drop (2 * widthOf n s) T i 0 ∙ k .same (2 * widthOf n s + i) (omega arith) ∙ sym (getD-drop (2 * widthOf n s) T₀ i 0)))
+-- what lies behind the blocks is untouched by the rows
+pub walked-cleared : (P : List (List ℕ)) (n : ℕ) (s : Scheme) (j m : ℕ) (T : List ℕ) → j ≤ n → m ≡ rowsOf (schemeIn s) * widthOf n s →
+    cleared m (countWalked P n s (cellsOf s j) T) ≡ cleared m T
+walked-cleared P n s j m T low e =
+    ap (λ (l : List ℕ). replicate m 0 ++ l)
+    (ext-getD 0 (drop m (countWalked P n s (cellsOf s j) T)) (drop m T)
+    (omega (
+      arith,
+      length-drop m (countWalked P n s (cellsOf s j) T),
+      length-drop m T,
+      walked-size single single-sound (countMakes P) (rowsOf (schemeIn s)) n s (cellsOf s j) T,
+    ))
+    (λ (i : ℕ) (h : i < length (drop m (countWalked P n s (cellsOf s j) T))).
+    getD-drop m (countWalked P n s (cellsOf s j) T) i 0 ∙
+    walked-kept single single-sound (countMakes P) (rowsOf (schemeIn s)) n s (omega arith) (cellsOf s j) T
+    (λ c k. rows-out n s 0 (suc j) (omega arith) k .2) (m + i) (omega (arith, e)) ∙
+    sym (getD-drop m T i 0)))

@@ -1,4 +1,7 @@
-// The cells of one entry in one row.
+// The cells of one entry in one row, all of them or the one that the cursor is at.
+use crate::frame::Frame;
+use crate::frame::block_of;
+use count_cursor::cursor::Cursor;
 use count_plan::places::place_at;
 use count_plan::reading::field;
 use count_plan::reading::gaps_of;
@@ -6,36 +9,26 @@ use count_plan::reading::long;
 use count_plan::sheet::FIELDS;
 use count_step::cells::Task;
 use count_step::filling::fill_cells;
+use count_step::filling::fill_one;
 use spacing::binomials::choose;
 use word::limits::LINKS;
 ghost use mathlib.Core.Path.{_≡_};
-ghost use mathlib.Core.Bool.{cond};
 ghost use mathlib.Core.List.{map};
 ghost use Prim.Native.Nat.{ℕ, _+_, _≤_, _<_};
-ghost use lib.Dec.{eqb};
 ghost use lib.ListN.{length, getD};
 ghost use Rattle.word.specs.Ceilings.{ENTRIES};
 ghost use Rattle.spacing.specs.Sizes.{NEAR};
 ghost use Rattle.spacing.specs.Pascal.{Pascal};
 ghost use Rattle.count_plan.specs.SheetSizes.{SHEET};
 ghost use Rattle.count_plan.specs.SheetRows.{fieldOf, linksAt, itemOf};
-ghost use Rattle.count_rows.specs.Rows.{EntryFilled};
-ghost use Rattle.count_rows.specs.Given.{taskOf, EntryGiven};
+ghost use Rattle.count_rows.specs.Frames.{CellGiven, backOf, taskOf, CellWalked, EntryWalked};
 
-// A row of the table: its length, where it begins, where the row before it begins, and the number
-// of entries.
-pub struct RowAt {
-    pub length: usize,
-    pub here: usize,
-    pub before: usize,
-    pub entries: usize,
-}
-
-// The block that an entry reads.
-fn offset_of(deleted: usize, here: usize, before: usize) -> usize
-    ensures { λ r. ⌜ r ≡ cond (eqb deleted 0) here before ⌝ }
+// How many rows back the cells stand that an entry reads: its children in this row, its target in
+// the row before.
+fn rows_back(deleted: usize) -> usize
+    ensures { λ r. ⌜ r ≡ backOf deleted ⌝ }
 {
-    if deleted == 0 { here } else { before }
+    if deleted == 0 { 0 } else { 1 }
 }
 
 // Where the cells of each entry begin that the links of an entry name, in the row that begins at
@@ -55,19 +48,22 @@ fn links_from(sheet: &[u8], places: &[usize], e: usize, offset: usize) -> [usize
     from
 }
 
-// What the steps of the entry with index e are given in a row.
-fn task_of(sheet: &[u8], places: &[usize], e: usize, w: RowAt) -> Task
-    requires { ⌜ EntryGiven (now sheet) (now places) e w ⌝ }
-    ensures { λ r. ⌜ r ≡ taskOf (itemOf (now (sheet .entry)) (now (places .entry)) e) (fieldOf (now (sheet .entry)) e 3) w ⌝ }
+// What the steps of the cursor's entry are given in its row.
+fn task_of(sheet: &[u8], places: &[usize], f: Frame, c: Cursor) -> Task
+    requires { ⌜ CellGiven (now sheet) (now places) f c ⌝ }
+    ensures { λ r. ⌜ r ≡ taskOf f (itemOf (now (sheet .entry)) (now (places .entry)) (c .entry))
+        (fieldOf (now (sheet .entry)) (c .entry) 3) (c .row) ⌝ }
 {
+    let e = c.entry;
     let k = field(sheet, e, 0);
     let deleted = field(sheet, e, 1);
     let alone = long(field(sheet, e, 2));
     let count = field(sheet, e, 3);
-    let links = links_from(sheet, places, e, offset_of(deleted, w.here, w.before));
+    let offset = block_of(f, c.row, rows_back(deleted));
+    let links = links_from(sheet, places, e, offset);
     Task {
         length: k,
-        total: w.length - k,
+        total: c.row - k,
         deleted: deleted,
         alone: alone,
         links: links,
@@ -75,22 +71,42 @@ fn task_of(sheet: &[u8], places: &[usize], e: usize, w: RowAt) -> Task
     }
 }
 
-// Fills the cells of the entry with index e in a row.
+// Fills the cells of the cursor's entry in its row, which is what the cursor does cell by cell.
 pub fn fill_entry(
     table: &mut [u64],
     sheet: &[u8],
     places: &[usize],
-    e: usize,
-    w: RowAt,
+    f: Frame,
+    c: Cursor,
     b: &[usize],
 )
-    requires { ⌜ EntryGiven (now sheet) (now places) e w × Pascal (now b) ⌝ }
-    ensures { λ r. ⌜ EntryFilled (itemOf (now (sheet .entry)) (now (places .entry)) e) (w .length) (w .here)
-        (w .before) (now (table .entry)) (now (table .exit)) ⌝ }
+    requires { ⌜ CellGiven (now sheet) (now places) f c × Pascal (now b) ⌝ }
+    ensures { λ r. ⌜ EntryWalked (now (sheet .entry)) (now (places .entry)) f c (now (table .entry)) (now (table .exit)) ⌝ }
 {
-    let task = task_of(sheet, places, e, w);
-    let at = w.here + place_at(places, e);
-    let size = choose(b, w.length, task.length);
+    let task = task_of(sheet, places, f, c);
+    let e = c.entry;
+    let at = block_of(f, c.row, 0) + place_at(places, e);
+    let size = choose(b, c.row, task.length);
     let gaps = gaps_of(sheet, e);
     fill_cells(table, at, size, task, gaps, b);
+}
+
+// Fills the cell that the cursor is at.
+pub fn fill_cell(
+    table: &mut [u64],
+    sheet: &[u8],
+    places: &[usize],
+    f: Frame,
+    c: Cursor,
+    b: &[usize],
+)
+    requires { ⌜ CellGiven (now sheet) (now places) f c × Pascal (now b) ⌝ }
+    ensures { λ r. ⌜ CellWalked (now (sheet .entry)) (now (places .entry)) f c (now (table .entry)) (now (table .exit)) ⌝ }
+{
+    let task = task_of(sheet, places, f, c);
+    let e = c.entry;
+    let at = block_of(f, c.row, 0) + place_at(places, e) + c.rank;
+    let gaps = gaps_of(sheet, e);
+    let g = c.spacing;
+    fill_one(table, at, task, gaps, g, b);
 }

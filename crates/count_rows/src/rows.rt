@@ -1,53 +1,52 @@
-// One row of the table. The value at the entry with index d and the spacing g stands, in the row of
-// length j, in the cell with index (j mod 2) * width + place + rank: `width` is the sum of C(n, k)
-// over all entries, `place` that over the entries before d, and `rank` the rank of g. Longer
-// entries come first, so that children are there before their parents; targets stand in the row
-// before.
-use crate::entry::RowAt;
+// The rows of the table. The value at the entry with index d and the spacing g stands, in the row of
+// length j, in the cell with index (j mod rows) * width + place + rank: `rows` is how many rows are
+// kept, `width` the sum of C(n, k) over all entries, `place` that over the entries before d, and
+// `rank` the rank of g. Longer entries come first, so that children are there before their parents;
+// targets stand in a row before.
 use crate::entry::fill_entry;
-use count_plan::reading::field;
-use word::limits::PREFIX;
+use crate::frame::Frame;
+use count_cursor::cursor::next_entry;
+use count_cursor::cursor::row_start;
 ghost use Prim.Native.Nat.{_≤_};
-ghost use Rattle.word.specs.Ceilings.{LENGTH};
 ghost use Rattle.spacing.specs.Pascal.{Pascal};
-ghost use Rattle.count_rows.specs.Rows.{Top};
-ghost use Rattle.count_rows.specs.Given.{RowGiven, LengthGoesTo, RowFilledTo};
+ghost use Rattle.count_rows.specs.Frames.{Framed, RowWalked, RowsWalked};
 
-// One more than the length of the longest prefixes.
-const PAST: usize = PREFIX + 1;
-
-// Fills the cells of all entries of length k in a row.
-fn fill_length(table: &mut [u64], sheet: &[u8], places: &[usize], k: usize, w: RowAt, b: &[usize])
-    requires { ⌜ RowGiven (now sheet) (now places) w × (k ≤ w .length) × Pascal (now b) ⌝ }
-    ensures { λ r. ⌜ LengthGoesTo (now (sheet .entry)) (now (places .entry)) w k (w .entries) (now (table .entry)) (now (table .exit)) ⌝ }
+// Fills the row of length j: the cursor goes through it, entry by entry.
+pub fn fill_row(
+    table: &mut [u64],
+    sheet: &[u8],
+    places: &[usize],
+    f: Frame,
+    j: usize,
+    b: &[usize],
+)
+    requires { ⌜ Framed (now sheet) (now places) f × (j ≤ f .last) × Pascal (now b) ⌝ }
+    ensures { λ r. ⌜ RowWalked (now (sheet .entry)) (now (places .entry)) f j (now (table .entry)) (now (table .exit)) ⌝ }
 {
-    let mut e: usize = 0;
-    while e < w.entries {
-        if field(sheet, e, 0) == k {
-            fill_entry(table, sheet, places, e, w, b);
-            e += 1;
-        } else {
-            e += 1;
-        }
+    let entries = f.entries;
+    let mut c = row_start(sheet, entries, j);
+    while c.row == j {
+        fill_entry(table, sheet, places, f, c, b);
+        let next = next_entry(sheet, entries, c);
+        c = next;
     }
 }
 
-// Fills the cells of one length, entry by entry.
-pub fn fill_row(table: &mut [u64], sheet: &[u8], places: &[usize], w: RowAt, b: &[usize])
-    requires { ⌜ RowGiven (now sheet) (now places) w × Pascal (now b) ⌝ }
-    ensures { λ r. ⌜ RowFilledTo (now (sheet .entry)) (now (places .entry)) w 0 (now (table .entry)) (now (table .exit)) ⌝ }
+// Fills the rows up to length j, in the layout of the frame.
+pub fn fill_rows(
+    table: &mut [u64],
+    sheet: &[u8],
+    places: &[usize],
+    f: Frame,
+    j: usize,
+    b: &[usize],
+)
+    requires { ⌜ Framed (now sheet) (now places) f × (j ≤ f .last) × Pascal (now b) ⌝ }
+    ensures { λ r. ⌜ RowsWalked (now (sheet .entry)) (now (places .entry)) f j (now (table .entry)) (now (table .exit)) ⌝ }
 {
-    let mut k = longest(w.length);
-    while 0 < k {
-        k -= 1;
-        fill_length(table, sheet, places, k, w, b);
+    let mut i: usize = 0;
+    while i <= j {
+        fill_row(table, sheet, places, f, i, b);
+        i += 1;
     }
-}
-
-// One more than the length of the longest entries that have cells in the row of length j.
-fn longest(j: usize) -> usize
-    requires { ⌜ j ≤ LENGTH ⌝ }
-    ensures { λ r. ⌜ Top j r ⌝ }
-{
-    if j < PREFIX { j + 1 } else { PAST }
 }

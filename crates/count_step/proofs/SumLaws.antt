@@ -15,7 +15,7 @@ use Rattle.spacing.specs.Sizes.{CHOICES, RANKS}
 use Rattle.spacing.specs.Rank.{rankFrom, rankAfter}
 use Rattle.spacing.specs.RankLaws.{after-head, merge-none}
 use Rattle.spacing.specs.PascalLaws.{binomial-small}
-use Rattle.count_step.specs.Step.{partSum, childSum, childrenOf}
+use Rattle.count_step.specs.Sums.{partSum, childSum, childrenOf}
 
 -- Sums with a cap M, term by term
 

@@ -1,32 +1,11 @@
--- What one step of the count reads from the table and stores. Definitions only.
+-- The values of cells added up, what one step of the count stores, and what steps at one spacing
+-- after the other leave. Definitions only.
 use Prim.Native.Nat.{ℕ, zero, suc, _+_, min}
-use mathlib.Core.Bool.{cond}
 use mathlib.Core.List.{List, [], _∷_}
-use lib.ListN.{getD}
-use lib.Dec.{eqb}
-use Rattle.cell.specs.Cell.{total, free, mergeValues}
-use Rattle.cell.specs.Binomial.{binomial}
-use Rattle.spacing.specs.Rank.{rankFrom, rankOf}
-
--- the sum of the cells at `at` + C(z, col) for n values z in a row
-unfoldable pub partSum : List ℕ → ℕ → ℕ → ℕ → ℕ → ℕ
-unfolding binomial
-partSum T at col z zero = 0
-partSum T at col z (suc n) = getD T (at + binomial z col) 0 + partSum T at col (suc z) n
-
--- The sum over every next entry, component by component: the child whose last entry is i + 1 has
--- its cells from `links` i on. The values of the components before are counted in s, and end below
--- a.
-unfoldable pub childSum : List ℕ → List ℕ → ℕ → ℕ → ℕ → List ℕ → ℕ
-unfolding partSum binomial rankFrom
-childSum T links i s a [] = 0
-childSum T links i s a (x ∷ g) =
-    partSum T (getD links i 0 + (s + rankFrom (suc i) (a + x) g)) (suc i) a x + childSum T links (suc i)
-    (s + binomial (a + x) (suc i)) (suc (a + x)) g
-
-unfoldable pub childrenOf : List ℕ → List ℕ → List ℕ → ℕ
-unfolding childSum
-childrenOf T links g = childSum T links 0 0 0 g
+use lib.ListN.{getD, set}
+use Rattle.cell.specs.Cell.{total}
+use Rattle.spacing.specs.Rank.{rankOf, nextOf}
+use Rattle.count_step.specs.Feed.{Feed, covered, alone, target, children, mapFeed, readsOf}
 
 -- the largest number of 64 bits, 2 ^ 64 - 1
 abbrev pub LARGEST : ℕ
@@ -37,12 +16,32 @@ LARGEST = 18446744073709551615
 abbrev pub capped : ℕ → ℕ
 capped n = min n LARGEST
 
+-- What the cell with index i of the table holds, one number a cell.
+abbrev pub held : List ℕ → ℕ → ℕ
+held T i = getD T i 0
+
+-- The value of a cell, from the values of the cells that feed it; `one` is its value where no entry
+-- follows the prefix.
+abbrev pub addedUp : ℕ → Feed ℕ → ℕ
+addedUp one covered = 0
+addedUp one alone = one
+addedUp one (target x) = x
+addedUp one (children l) = capped (total l)
+
 -- What a step stores at the spacing g of an entry with the gap vectors B. w is the value that the
--- entry deletes, or 0 where it expands; `alone` is the value at total 0 of an expanding entry.
-unfoldable pub stepOf : List ℕ → List (List ℕ) → ℕ → ℕ → List ℕ → List ℕ → ℕ
-unfolding free total mergeValues childrenOf rankOf
-stepOf T B w alone links g =
-    cond (free B g)
-    (cond (eqb w 0) (cond (eqb (total g) 0) alone (capped (childrenOf T links g)))
-    (getD T (getD links 0 0 + rankOf (mergeValues (w ∷ []) g)) 0))
-    0
+-- entry deletes, or 0 where it expands; `one` is the value at total 0 of an expanding entry.
+abbrev pub stepOf : List ℕ → List (List ℕ) → ℕ → ℕ → List ℕ → List ℕ → ℕ
+stepOf T B w one links g = addedUp one (mapFeed (held T) (readsOf B w links g))
+
+-- the spacings from g on, m of them, each the next by rank after the one before it
+unfoldable pub spacingsFrom : ℕ → List ℕ → List (List ℕ)
+unfolding nextOf
+spacingsFrom zero g = []
+spacingsFrom (suc m) g = g ∷ spacingsFrom m (nextOf g)
+
+-- the table after a step at each of these spacings in turn, whose cells stand from `at` on in the
+-- order of their ranks
+unfoldable pub storedAt : (List ℕ → List ℕ → ℕ) → ℕ → List (List ℕ) → List ℕ → List ℕ
+unfolding rankOf
+storedAt step at [] T = T
+storedAt step at (g ∷ gs) T = storedAt step at gs (set T (at + rankOf g) (step T g))

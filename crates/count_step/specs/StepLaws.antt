@@ -2,7 +2,7 @@
 use Prim.Native.Nat.{ℕ, zero, suc, _+_, _-_, _≤_, _<_}
 use native.Mathlib.Omega.{arith}
 use mathlib.Core.Path.{_≡_, refl, sym, ap, ap₂, _∙_}
-use mathlib.Core.List.{List, [], _∷_, map, map-append, List·Memᴰ}
+use mathlib.Core.List.{List, [], _∷_, map, map-append, map-map, List·Memᴰ}
 use lib.ListN.{getD}
 use Rattle.word.specs.Lists.{row, oneTo}
 use Rattle.word.specs.ListLaws.{map-same, row-out}
@@ -13,7 +13,9 @@ use Rattle.cell.specs.Binomial.{binomial}
 use Rattle.spacing.specs.Rank.{rankFrom, rankAfter, rankOf}
 use Rattle.spacing.specs.TotalLaws.{total-append, row-cut, total-shift}
 use Rattle.spacing.specs.RankLaws.{after-head}
-use Rattle.count_step.specs.Step.{LARGEST, capped, partSum, childSum, childrenOf}
+use Rattle.count_step.specs.Feed.{childPlaces}
+use Rattle.count_step.specs.Step.{LARGEST, capped, held}
+use Rattle.count_step.specs.Sums.{partSum, childSum, childrenOf}
 use borrow.Author.Tests.{le-leb, lt-leb}
 
 -- a sum that is no larger than the cap is itself
@@ -81,26 +83,23 @@ module _ (T links : List ℕ) where
           nextCell (suc i) (s + binomial (a + x) (suc i)) (suc (a + x)) g q ≡ nextCell i s a (x ∷ g) (x + q)
       later q m = let (low, high) = row-out 1 (total g) m in later-cell i s a x g q low (omega arith)
 
--- the cells of n next entries from the q-th on, if the table has the terms in the cells of the
--- children
-pub cells-sum : (T links : List ℕ) (u : ℕ → List ℕ → ℕ) (g : List ℕ) →
-    ((q : ℕ) → 1 ≤ q → q ≤ total g → getD T (getD links (slot g q - 1) 0 + rankOf (split g q)) 0 ≡ u (slot g q) (split g q)) →
-    (q n : ℕ) → 1 ≤ q → q + n ≤ suc (total g) →
-    total (map (nextCell T links 0 0 0 g) (row q n)) ≡ total (map (λ s. u (slot g s) (split g s)) (row q n))
+-- what the table holds in the cells of n children from the q-th on, as the loops add it up
+pub cells-sum : (T links g : List ℕ) (q n : ℕ) →
+    total (map (nextCell T links 0 0 0 g) (row q n)) ≡
+    total (map (λ s. held T (getD links (slot g s - 1) 0 + rankOf (split g s))) (row q n))
 unfolding rankOf
-cells-sum T links u g h q n low high = ap total (map-same (nextCell T links 0 0 0 g) (λ s. u (slot g s) (split g s)) (row q n) term)
+cells-sum T links g q n =
+    ap total (map-same (nextCell T links 0 0 0 g) (λ s. held T (getD links (slot g s - 1) 0 + rankOf (split g s))) (row q n) term)
   where
-    term : (s : ℕ) → List·Memᴰ s (row q n) → nextCell T links 0 0 0 g s ≡ u (slot g s) (split g s)
+    term : (s : ℕ) → List·Memᴰ s (row q n) → nextCell T links 0 0 0 g s ≡ held T (getD links (slot g s - 1) 0 + rankOf (split g s))
     term s m =
-        let (a, b) = row-out q n m in
         let e : 0 + (slot g s - 1) ≡ slot g s - 1 = omega arith in
         let f : 0 + rankAfter 0 0 (split g s) ≡ rankAfter 0 0 (split g s) = omega arith in
-        rw (e, f) (h s (omega arith) (omega arith))
+        rw (e, f) refl
 
--- The sum of a step is a sum over every next entry, if the table has the terms in the cells of the
--- children.
-pub children-sum : (T links : List ℕ) (u : ℕ → List ℕ → ℕ) (g : List ℕ) →
-    ((q : ℕ) → 1 ≤ q → q ≤ total g → getD T (getD links (slot g q - 1) 0 + rankOf (split g q)) 0 ≡ u (slot g q) (split g q)) →
-    childrenOf T links g ≡ total (map (λ q. u (slot g q) (split g q)) (oneTo (total g)))
+-- The sum that the loops of a step make is that of what the cells of the children hold.
+pub children-sum : (T links g : List ℕ) → childrenOf T links g ≡ total (map (held T) (childPlaces links g))
 unfolding childrenOf
-children-sum T links u g h = child-sum T links 0 0 0 g ∙ cells-sum T links u g h 1 (total g) (omega arith) (omega arith)
+children-sum T links g =
+    child-sum T links 0 0 0 g ∙ cells-sum T links g 1 (total g) ∙
+    ap total (sym (map-map (held T) (λ q. getD links (slot g q - 1) 0 + rankOf (split g q)) (oneTo (total g))))

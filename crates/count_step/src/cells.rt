@@ -12,7 +12,8 @@ ghost use lib.ListN.{getD, set, take};
 ghost use Rattle.word.specs.Ceilings.{PREFIX, LENGTH, COUNTS, COLUMNS};
 ghost use Rattle.cell.specs.Cell.{total};
 ghost use Rattle.spacing.specs.Pascal.{Pascal};
-ghost use Rattle.count_step.specs.Step.{partSum, childrenOf, capped};
+ghost use Rattle.count_step.specs.Step.{capped};
+ghost use Rattle.count_step.specs.Sums.{partSum, childrenOf};
 ghost use Rattle.count_step.specs.Task.{Near, TaskFits, TaskGaps, spacingIn, taskStep, REACH};
 
 // What the cells of one entry at one length share: the entry's length and the total of its

@@ -13,7 +13,9 @@ ghost use Rattle.cell.specs.Cell.{total};
 ghost use Rattle.cell.specs.Binomial.{binomial};
 ghost use Rattle.spacing.specs.Sizes.{FAR};
 ghost use Rattle.spacing.specs.Pascal.{Pascal};
-ghost use Rattle.count_step.specs.Task.{TaskFits, TaskGaps, spacingIn, taskStep, Filled};
+ghost use Rattle.spacing.specs.Following.{firstVector};
+ghost use Rattle.count_step.specs.Step.{spacingsFrom, storedAt};
+ghost use Rattle.count_step.specs.Task.{TaskFits, TaskGaps, spacingIn, taskStep};
 
 // One step: fills one cell and changes no other.
 pub fn fill_one(
@@ -32,13 +34,13 @@ pub fn fill_one(
     store(table, at, x);
 }
 
-// The cells of one entry at one length, `size` of them from `at` on: the one with index p has the
-// value at the spacing of rank p.
+// The cells of one entry at one length, `size` of them from `at` on: a step at each spacing, in the
+// order of their ranks.
 pub fn fill_cells(table: &mut [u64], at: usize, size: usize, task: Task, gaps: &[u8], b: &[usize])
     requires { ⌜ TaskFits task × TaskGaps task (now gaps) ×
         (size ≡ binomial (task .length + task .total) (task .length)) × (at ≤ FAR) × Pascal (now b) ⌝ }
-    ensures { λ r. ⌜ Filled (taskStep task (now (gaps .entry))) (task .length) (task .total) at size size
-        (now (table .entry)) (now (table .exit)) ⌝ }
+    ensures { λ r. ⌜ now (table .exit) ≡ storedAt (taskStep task (now (gaps .entry))) at
+        (spacingsFrom size (firstVector (task .length) (task .total))) (now (table .entry)) ⌝ }
 {
     let k = task.length;
     let mut g = first_spacing(k, narrow(task.total));

@@ -1,1 +1,2 @@
 -- The laws that the proofs of the crate counting use.
+pub mod TableLaws

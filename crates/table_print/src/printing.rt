@@ -1,7 +1,6 @@
 // The b-file, or the line of a refusal: the three lines are judged in order.
 use counting::answer::fault_of;
-use counting::by_table::all_counts;
-use counting::by_table::table_fault;
+use counting::by_table::count_all;
 use forms::memory::Fault;
 use forms::memory::Patterns;
 use forms::memory::Scheme;
@@ -86,11 +85,12 @@ fn put_table(page: &mut [u8], patterns: Patterns, scheme: Scheme, n: usize) -> u
     ensures { λ r. ⌜ Writes (lengthText (patternsIn patterns) (schemeIn scheme) n) 0 (now (page .entry))
         (now (page .exit)) r × (r ≤ PAGE) ⌝ }
 {
-    let fault = table_fault(scheme, n, CELLS);
+    let mut table = [0u64; CELLS];
+    let all = count_all(patterns, scheme, n, &mut table);
+    let fault = all.fault;
     if is_fault(fault) {
         return put_fault(page, fault);
     }
-    let mut table = [0u64; CELLS];
-    let counts = all_counts(patterns, scheme, n, &mut table);
+    let counts = all.counts;
     put_counts(page, counts, n)
 }

@@ -10,7 +10,7 @@ use Rattle.word.specs.Ceilings.{LINKS}
 use Rattle.forms.specs.MemoryLaws.{rows-more}
 use Rattle.count_plan.specs.SheetRows.{linkAt}
 use Rattle.count_plan.proofs.SheetRowLaws.{link-at}
-use Rattle.count_rows.proofs.EntryFillLaws.{links-counted}
+use Rattle.count_rows.proofs.FrameLaws.{links-counted}
 use Rattle.count_rows.proofs.entry.links_from.Statement.{statement}
 use Rattle.count_rows.proofs.entry.links_from.Tie as tie
 

@@ -1,123 +1,92 @@
--- `counting::by_table::count` meets its contract: judging, then n, then the table, then the counts.
+-- `counting::by_table::count` meets its contract: judging, then n, then the table, then the count.
 -- Assumes nothing.
 use denote.Ref.{now}
-use mathlib.Core.Path.{sym, _∙_}
-use native.Mathlib.Omega.{arith}
-use lib.ListN.{getD}
+use mathlib.Core.Path.{sym, ap, _∙_}
+use lib.ListN.{length}
 use Rattle.forms.specs.SchemeMemory.{patternsIn, schemeIn}
 use Rattle.wellformed.proofs.OrderLaws.{not-faulty}
 use Rattle.scheme.specs.ProperLaws.{proper}
+use Rattle.verdict.specs.Value.{countOf}
+use Rattle.count_plan.specs.Layout.{needOf}
+use Rattle.count_rows.specs.Run.{cleared}
 use Rattle.counting.specs.CountLaws.{verdict-fault, clean-accepts, refused-judging, refused-n-or-table, served, done}
+use Rattle.counting.proofs.TableLaws.{given-of, last-is}
 use borrow.Author.Needs.{needs}
 use Rattle.counting.proofs.by_table.count.Statement.{statement}
 use Rattle.counting.proofs.by_table.count.Tie as tie
 
 returns : tie.Need-returns
 returns c =
-    let at-judge = c .before .before .before .before in
-    let start = at-judge .before .before in
+    let start = c .before .before .before .before .before .before in
     let a = start .args in
     let P = patternsIn (a .patterns) in
     let E = schemeIn (a .scheme) in
-    let j = at-judge .judge-without-page in
+    let j = c .before .before .before .before .judge-without-page in
     let f = c .before .before .before .fault-of in
     let is = f .ensures ∙ verdict-fault P E (j .result) (j .ensures .verdict) in
     refused-judging P E (a .n) (now (a .table)) (f .result) is
     (sym (c .before .before .is-fault .ensures) ∙ c .before .if1 .taken) (c .count-or .result) (c .count-or .ensures)
 
-table-fault-requires : tie.Need-table-fault-requires
-table-fault-requires c κs =
-    let start = c .before .before .before .before .before in
-    let j = c .before .before .before .judge-without-page in
-    let f = c .before .before .fault-of in
-    let none = not-faulty (f .result) (sym (c .before .is-fault .ensures) ∙ c .if1 .left) in
-    proper (schemeIn (start .args .scheme))
-    (j .ensures .exactly .0 (clean-accepts (j .result) (sym (f .ensures) ∙ none)) .0 .scheme)
+measured-requires : tie.Need-measured-requires
+measured-requires c κs =
+    let start = c .before .before .before .before .before .before .before in
+    let j = c .before .before .before .before .before .judge-without-page in
+    let f = c .before .before .before .before .fault-of in
+    let none = not-faulty (f .result) (sym (c .before .before .before .is-fault .ensures) ∙ c .before .before .if1 .left) in (
+      proper (schemeIn (start .args .scheme))
+          (j .ensures .exactly .0 (clean-accepts (j .result) (sym (f .ensures) ∙ none)) .0 .scheme),
+      c .before .binomials .ensures,
+    )
 
 returns-2 : tie.Need-returns-2
 returns-2 c =
-    let at-if1 = c .before .before .before .before in
-    let start = at-if1 .before .before .before .before .before in
+    let start = c .before .before .before .before .before .before .before .before .before .before .before in
     let a = start .args in
     let P = patternsIn (a .patterns) in
     let E = schemeIn (a .scheme) in
-    let j = at-if1 .before .before .before .judge-without-page in
-    let f = at-if1 .before .before .fault-of in
+    let j = c .before .before .before .before .before .before .before .before .before .judge-without-page in
+    let f = c .before .before .before .before .before .before .before .before .fault-of in
     let is = f .ensures ∙ verdict-fault P E (j .result) (j .ensures .verdict) in
-    let g = c .before .before .before .table-fault in
+    let w = c .before .before .before .measured in
     refused-n-or-table P E (a .n) (now (a .table)) (f .result) is
-    (sym (at-if1 .before .is-fault .ensures) ∙ at-if1 .if1 .left) (g .result) (g .ensures)
+    (sym (c .before .before .before .before .before .before .before .is-fault .ensures) ∙ c .before .before .before .before .before .before .if1 .left) (w .result .fault) (w .ensures .found)
     (sym (c .before .before .is-fault2 .ensures) ∙ c .before .if2 .taken) (c .count-or2 .result) (c .count-or2 .ensures)
 
-all-counts-requires : tie.Need-all-counts-requires
-all-counts-requires c κs =
-    let at-if1 = c .before .before .before .before in
-    let start = at-if1 .before .before .before .before .before in
+last-count-requires : tie.Need-last-count-requires
+last-count-requires c κs =
+    let start = c .before .before .before .before .before .before .before .before .before .before .before .before in
     let a = start .args in
     let P = patternsIn (a .patterns) in
     let E = schemeIn (a .scheme) in
-    let j = at-if1 .before .before .before .judge-without-page in
-    let f = at-if1 .before .before .fault-of in
+    let j = c .before .before .before .before .before .before .before .before .before .before .judge-without-page in
+    let f = c .before .before .before .before .before .before .before .before .before .fault-of in
     let is = f .ensures ∙ verdict-fault P E (j .result) (j .ensures .verdict) in
-    let g = c .before .before .before .table-fault in
-    let clean = sym (at-if1 .before .is-fault .ensures) ∙ at-if1 .if1 .left in
-    let good = served P E (a .n) (now (a .table)) (f .result) is clean (g .result) (g .ensures)
-    (sym (c .before .before .is-fault2 .ensures) ∙ c .before .if2 .left) in
-    let so = j .ensures .exactly .0 (clean-accepts (j .result) (sym (f .ensures) ∙ not-faulty (f .result) clean)) in
-    (good .0, so .0, so .1, good .1)
-
-mul-count-or : tie.Need-mul-count-or
-mul-count-or c =
-    let at-if2 = c .before .before .before .before in
-    let at-is-fault = at-if2 .before .before .before .before in
-    let start = at-is-fault .before .before .before .before in
-    let a = start .args in
-    let P = patternsIn (a .patterns) in
-    let E = schemeIn (a .scheme) in
-    let j = at-is-fault .before .before .judge-without-page in
-    let f = at-is-fault .before .fault-of in
-    let g = at-if2 .before .before .table-fault in
-    let is = f .ensures ∙ verdict-fault P E (j .result) (j .ensures .verdict) in
-    let good = served P E (a .n) (now (a .table)) (f .result) is
-    (sym (at-is-fault .is-fault .ensures) ∙ at-if2 .before .before .before .if1 .left) (g .result) (g .ensures)
-    (sym (at-if2 .before .is-fault2 .ensures) ∙ at-if2 .if2 .left) in
-    let low = good .0 in search needs
-
-array-read-count-or : tie.Need-array-read-count-or
-array-read-count-or c =
-    let at-if2 = c .before .before .before .before in
-    let at-is-fault = at-if2 .before .before .before .before in
-    let start = at-is-fault .before .before .before .before in
-    let a = start .args in
-    let P = patternsIn (a .patterns) in
-    let E = schemeIn (a .scheme) in
-    let j = at-is-fault .before .before .judge-without-page in
-    let f = at-is-fault .before .fault-of in
-    let g = at-if2 .before .before .table-fault in
-    let is = f .ensures ∙ verdict-fault P E (j .result) (j .ensures .verdict) in
-    let good = served P E (a .n) (now (a .table)) (f .result) is
-    (sym (at-is-fault .is-fault .ensures) ∙ at-if2 .before .before .before .if1 .left) (g .result) (g .ensures)
-    (sym (at-if2 .before .is-fault2 .ensures) ∙ at-if2 .if2 .left) in
-    omega (arith, good .0)
+    let w = c .before .before .before .before .measured in
+    let judged = sym (c .before .before .before .before .before .before .before .before .is-fault .ensures) ∙ c .before .before .before .before .before .before .before .if1 .left in
+    let clean = sym (c .before .before .before .is-fault2 .ensures) ∙ c .before .before .if2 .left in
+    let good = served P E (a .n) (now (a .table)) (f .result) is judged (w .result .fault) (w .ensures .found) clean in
+    let so = j .ensures .exactly .0 (clean-accepts (j .result) (sym (f .ensures) ∙ not-faulty (f .result) judged)) in (
+      given-of (a .patterns) (a .scheme) (a .n) (length (now (a .table))) (w .result) (now (a .table)) (w .ensures) clean (so .0) (so .1)
+          (good .0) (good .1),
+      c .before .before .before .before .before .before .binomials .ensures,
+    )
 
 returns-3 : tie.Need-returns-3
 returns-3 c =
-    let at-if2 = c .before .before .before .before .before in
-    let at-is-fault = at-if2 .before .before .before .before in
-    let start = at-is-fault .before .before .before .before in
+    let start = c .before .before .before .before .before .before .before .before .before .before .before .before .before .before .before .before in
     let a = start .args in
     let P = patternsIn (a .patterns) in
     let E = schemeIn (a .scheme) in
-    let j = at-is-fault .before .before .judge-without-page in
-    let f = at-is-fault .before .fault-of in
-    let g = at-if2 .before .before .table-fault in
+    let j = c .before .before .before .before .before .before .before .before .before .before .before .before .before .before .judge-without-page in
+    let f = c .before .before .before .before .before .before .before .before .before .before .before .before .before .fault-of in
     let is = f .ensures ∙ verdict-fault P E (j .result) (j .ensures .verdict) in
-    let all = c .before .before .before .all-counts in
-    let clean = sym (at-is-fault .is-fault .ensures) ∙ at-if2 .before .before .before .if1 .left in
-    let serves = sym (at-if2 .before .is-fault2 .ensures) ∙ at-if2 .if2 .left in
-    done P E (a .n) (now (a .table)) (f .result) is clean (g .result) (g .ensures) serves
-    _ (getD (all .result) (a .n) 0) (c .count-or3 .result)
-    (all .ensures .1) (all .ensures .0 .upto (a .n) (omega arith)) (c .count-or3 .ensures)
+    let w = c .before .before .before .before .before .before .before .before .measured in
+    let judged = sym (c .before .before .before .before .before .before .before .before .before .before .before .before .is-fault .ensures) ∙ c .before .before .before .before .before .before .before .before .before .before .before .if1 .left in
+    let clean = sym (c .before .before .before .before .before .before .before .is-fault2 .ensures) ∙ c .before .before .before .before .before .before .if2 .left in
+    let x = c .before .before .before .last-count in
+    let n = last-is (a .scheme) (a .n) (length (now (a .table))) (w .result) (w .ensures) clean in
+    done P E (a .n) (now (a .table)) (f .result) is judged (w .result .fault) (w .ensures .found) clean _ (x .result) (c .count-or3 .result)
+    (x .ensures .1 ∙ ap (λ k. cleared (needOf k E) (now (a .table))) n) (x .ensures .0 ∙ ap (countOf P E) n) (c .count-or3 .ensures)
 
 pub count-spec : {M : Type 1} → statement M
 count-spec =
@@ -128,13 +97,14 @@ count-spec =
     (λ c κs. search needs)
     (λ c κs. search needs)
     returns
-    table-fault-requires
+    (λ c κs. search needs)
+    (λ c. search needs)
+    measured-requires
     (λ c κs. search needs)
     (λ c κs. search needs)
     returns-2
-    all-counts-requires
-    mul-count-or
-    array-read-count-or
+    (λ c. search needs)
+    last-count-requires
     (λ c κs. search needs)
     (λ c. search needs)
     returns-3)

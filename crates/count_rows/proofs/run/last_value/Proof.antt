@@ -1,0 +1,68 @@
+-- `count_rows::run::last_value` meets its contract.
+-- Assumes nothing.
+use denote.Ref.{now}
+use native.Mathlib.Omega.{arith}
+use Prim.Native.Nat.{_*_}
+use mathlib.Core.Path.{_≡_, ap, ap₂, _∙_}
+use lib.ListN.{length}
+use Rattle.count_rows.specs.Frames.{ReadGiven}
+use Rattle.count_rows.specs.Run.{cleared}
+use Rattle.count_rows.specs.RunLaws.{walked-cleared}
+use Rattle.count_rows.proofs.FrameLaws.{framed-fits}
+use Rattle.count_rows.proofs.RowLaws.{root-has, root-read}
+use borrow.Author.Needs.{needs}
+use Rattle.count_rows.proofs.run.last_value.Statement.{statement}
+use Rattle.count_rows.proofs.run.last_value.Tie as tie
+
+value-in-requires : tie.Need-value-in-requires
+value-in-requires c κs =
+    let start = c .before .before .before .before .before .before .before .before .before .before in
+    let a = start .args in
+    let o = start .pre .0 in
+    let r = c .before .root-cell in (
+      record {
+        framed = o .framed;
+        cell = root-has (o .framed .of .P) (a .f .last) (o .framed .of .s) (a .root) (a .f .last) (o .root-is) (r .result)
+            (r .ensures .0) (r .ensures .1) (r .ensures .2) (omega arith);
+      },
+      start .pre .2,
+    )
+
+need-requires : tie.Need-need-requires
+need-requires c κs =
+    let start = c .before .before .before .before .before .before .before .before .before .before .before .before in
+    let a = start .args in
+    framed-fits (now (a .sheet)) (now (a .places)) (a .f) (start .pre .0 .framed)
+
+returns : tie.Need-returns
+returns c =
+    let start = c .before .before .before .before .before .before .before .before .before .before .before .before .before .before .before .before in
+    let a = start .args in
+    let o = start .pre .0 .framed in
+    let r = c .before .before .before .before .before .before .before .root-cell in
+    let filled = c .before .before .before .before .before .before .before .before .before .before .fill-rows in (
+      λ q.
+          root-read (q .framed .of .P) (a .f .last) (q .framed .of .s) (a .root) (a .f .last) (q .root-is) (r .result) (r .ensures .0)
+          (r .ensures .1) (r .ensures .2) (now (a .table)) (filled .last .0) (c .before .before .before .before .before .value-in .result) (filled .ensures (q .framed))
+          (c .before .before .before .before .before .value-in .ensures (record {
+            framed = q .framed;
+            cell = root-has (q .framed .of .P) (a .f .last) (q .framed .of .s) (a .root) (a .f .last) (q .root-is) (r .result)
+                (r .ensures .0) (r .ensures .1) (r .ensures .2) (omega arith);
+          })),
+      c .before .before .clear .ensures ∙ ap (λ m. cleared m (filled .last .0)) (c .before .before .before .need .ensures) ∙
+          ap (cleared (a .f .rows * a .f .width)) (filled .ensures o) ∙
+          walked-cleared (o .of .P) (a .f .last) (o .of .s) (a .f .last) (a .f .rows * a .f .width) (now (a .table)) (omega arith)
+          (ap₂ _*_ (o .rows-are) (o .width-is)),
+    )
+
+pub last-value-spec : {M : Type 1} → statement M
+last-value-spec =
+    tie.close
+    (tie.spec
+    (λ c κs. search needs)
+    (λ c κs. search needs)
+    value-in-requires
+    need-requires
+    (λ c κs. search needs)
+    (λ c. search needs)
+    returns)

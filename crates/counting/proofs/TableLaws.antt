@@ -1,0 +1,92 @@
+-- A table that is measured: its layout, what a count in it is given, and what it gives.
+-- Assumes nothing.
+use Prim.Native.Nat.{ℕ, suc, _*_, _≤_}
+use native.Mathlib.Omega.{arith}
+use mathlib.Core.Path.{_≡_, refl, sym, ap, ap₂, _∙_, subst}
+use mathlib.Core.Bool.{false}
+use mathlib.Core.List.{List, []}
+use lib.ListN.{length, getD}
+use Rattle.word.specs.Ceilings.{LENGTH}
+use Rattle.forms.specs.SchemeMemory.{patternsIn, schemeIn, faulty}
+use Rattle.forms.specs.declared.memory.Patterns.{Patterns}
+use Rattle.forms.specs.declared.memory.Scheme.{Scheme}
+use Rattle.scheme.specs.ProperLaws.{proper}
+use Rattle.verdict.specs.Truth.{WellFormed, AllTrue}
+use Rattle.verdict.specs.Value.{countOf}
+use Rattle.count_plan.specs.Layout.{widthOf, needOf}
+use Rattle.count_plan.specs.LayoutLaws.{width-sum}
+use Rattle.count_plan.specs.Plan.{Places}
+use Rattle.count_plan.specs.SheetForm.{SheetTo}
+use Rattle.count_plan.specs.SheetRows.{Names}
+use Rattle.count_plan.proofs.SheetRowLaws.{sheet-of}
+use Rattle.count_rows.specs.Frames.{frameOf, FrameFits, RootGiven}
+use Rattle.count_rows.specs.Run.{rootValue, ValuesTo, Counts}
+use Rattle.count_rows.specs.RunLaws.{root-count, run-counts}
+use Rattle.count_rows.specs.declared.frame.Frame.{Frame}
+use Rattle.counting.specs.Measuring.{Measured, TableGiven}
+use Rattle.counting.specs.declared.measure.Measure.{Measure}
+
+-- The layout of n
+
+module _ (n : ℕ) (s : Scheme) (places : List ℕ) (p : Places n s places) (f : Frame) (is : f ≡ frameOf places n (s .count)) where
+  pub width-is : f .width ≡ widthOf n s
+  width-is = ap (λ (x : Frame). x .width) is ∙ p .at (s .count) (omega arith)
+
+  pub rows-are : f .rows ≡ 2
+  rows-are = ap (λ (x : Frame). x .rows) is
+
+  pub frame-fits : FrameFits f
+  frame-fits = record { kept = rows-are; near = omega (arith, ap (λ (x : Frame). x .width) is, p .near (s .count)) }
+
+  pub frame-need : f .rows * f .width ≡ needOf n (schemeIn s)
+  frame-need = ap₂ _*_ rows-are width-is ∙ (omega (arith, width-sum n s))
+
+-- A count in that layout
+
+pub given-of : (patterns : Patterns) (s : Scheme) (n cells : ℕ) (m : Measure) (T : List ℕ) → Measured s n cells m → faulty (m .fault) ≡ false →
+    WellFormed (patternsIn patterns) (schemeIn s) → AllTrue (patternsIn patterns) (schemeIn s) → n ≤ LENGTH → needOf n (schemeIn s) ≤ length T →
+    TableGiven patterns s m T
+given-of patterns s n cells m T w clean formed truth small room =
+    let last : n ≡ m .frame .last = sym (ap (λ (x : Frame). x .last) (w .framed clean)) in
+    record {
+      formed = formed;
+      truth = truth;
+      small = omega arith;
+      placed = subst (λ k. Places k s (m .places)) last (w .placed clean);
+      framed = w .framed clean ∙ ap (λ k. frameOf (m .places) k (s .count)) last;
+      room = subst (λ k. needOf k (schemeIn s) ≤ length T) last room;
+    }
+
+pub last-is : (s : Scheme) (n cells : ℕ) (m : Measure) → Measured s n cells m → faulty (m .fault) ≡ false → m .frame .last ≡ n
+last-is s n cells m w clean = ap (λ (x : Frame). x .last) (w .framed clean)
+
+module _ (patterns : Patterns) (s : Scheme) (m : Measure) (T : List ℕ) (g : TableGiven patterns s m T) (P : List (List ℕ))
+    (holds : P ≡ patternsIn patterns) (sheet : List ℕ) (t : SheetTo P s (s .count) sheet) (root : ℕ) (names : Names s [] root) where
+  abbrev pub root-given : RootGiven sheet (m .places) (m .frame) root
+  root-given =
+      record {
+        framed = record {
+          of = sheet-of P s sheet (proper (schemeIn s) (g .formed .scheme)) t;
+          counted = ap (λ (x : Frame). x .entries) (g .framed);
+          small = g .small;
+          placed = g .placed;
+          width-is = width-is (m .frame .last) s (m .places) (g .placed) (m .frame) (g .framed);
+          rows-are = rows-are (m .frame .last) s (m .places) (g .placed) (m .frame) (g .framed);
+        };
+        root-is = names;
+      }
+
+  pub room-is : m .frame .rows * m .frame .width ≡ needOf (m .frame .last) (schemeIn s)
+  room-is = frame-need (m .frame .last) s (m .places) (g .placed) (m .frame) (g .framed)
+
+  pub last-value : (x : ℕ) → x ≡ rootValue P (m .frame .last) s root T (m .frame .last) →
+      x ≡ countOf (patternsIn patterns) (schemeIn s) (m .frame .last)
+  last-value x e =
+      e ∙ root-count P s (rw holds (g .formed)) (rw holds (g .truth)) (m .frame .last) (g .small) T (g .room) root (m .frame .last) names
+      (omega arith) ∙ ap (λ (Q : List (List ℕ)). countOf Q (schemeIn s) (m .frame .last)) holds
+
+  pub all-values : (values : List ℕ) → ValuesTo P (m .frame .last) s root T (suc (m .frame .last)) values →
+      Counts (patternsIn patterns) (schemeIn s) (m .frame .last) values
+  all-values values v =
+      subst (λ (Q : List (List ℕ)). Counts Q (schemeIn s) (m .frame .last) values) holds
+      (run-counts P s (rw holds (g .formed)) (rw holds (g .truth)) (m .frame .last) (g .small) T (g .room) root values names v)

@@ -1,0 +1,66 @@
+-- `counting::by_table::count_all` meets its contract: n, then the table, then the counts.
+-- Assumes nothing.
+use denote.Ref.{now}
+use mathlib.Core.Path.{_≡_, sym, ap, _∙_, subst}
+use mathlib.Core.Bool.{false}
+use Rattle.word.specs.ListLaws.{true-not-false}
+use Rattle.forms.specs.SchemeMemory.{patternsIn, schemeIn, faulty}
+use Rattle.wellformed.proofs.OrderLaws.{not-faulty}
+use Rattle.scheme.specs.ProperLaws.{proper}
+use Rattle.count_rows.specs.Run.{Counts}
+use Rattle.counting.specs.CountLaws.{table-good}
+use Rattle.counting.proofs.TableLaws.{given-of, last-is}
+use lib.ListN.{length}
+use borrow.Author.Needs.{needs}
+use Rattle.counting.proofs.by_table.count_all.Statement.{statement}
+use Rattle.counting.proofs.by_table.count_all.Tie as tie
+
+measured-requires : tie.Need-measured-requires
+measured-requires c κs =
+    let start = c .before .before .before in
+    (proper (schemeIn (start .args .scheme)) (start .pre .0 .scheme), c .before .binomials .ensures)
+
+returns : tie.Need-returns
+returns c =
+    let w = c .before .before .measured .ensures in
+    let h = sym (c .before .is-fault .ensures) ∙ c .if1 .taken in
+    record { found = w .found; counts = λ f. absurd (true-not-false (sym h ∙ f)) }
+
+all-counts-requires : tie.Need-all-counts-requires
+all-counts-requires c κs =
+    let start = c .before .before .before .before .before .before .before .before in
+    let a = start .args in
+    let w = c .before .before .before .before .measured in
+    let clean = sym (c .before .before .before .is-fault .ensures) ∙ c .before .before .if1 .left in
+    let good = table-good (schemeIn (a .scheme)) (a .n) (length (now (a .table)))
+    (sym (w .ensures .found) ∙ not-faulty (w .result .fault) clean) in (
+      given-of (a .patterns) (a .scheme) (a .n) (length (now (a .table))) (w .result) (now (a .table)) (w .ensures) clean (start .pre .0)
+          (start .pre .1) (good .0) (good .1),
+      c .before .before .before .before .before .before .binomials .ensures,
+    )
+
+returns-2 : tie.Need-returns-2
+returns-2 c =
+    let start = c .before .before .before .before .before .before .before .before .before .before .before in
+    let a = start .args in
+    let w = c .before .before .before .before .before .before .before .measured in
+    record {
+      found = w .ensures .found;
+      counts = λ f.
+          subst (λ n. Counts (patternsIn (a .patterns)) (schemeIn (a .scheme)) n (c .before .before .all-counts .result))
+          (last-is (a .scheme) (a .n) (length (now (a .table))) (w .result) (w .ensures) f) (c .before .before .all-counts .ensures .0);
+    }
+
+pub count-all-spec : {M : Type 1} → statement M
+count-all-spec =
+    tie.close
+    (tie.spec
+    (λ c κs. search needs)
+    (λ c. search needs)
+    measured-requires
+    (λ c κs. search needs)
+    returns
+    (λ c. search needs)
+    all-counts-requires
+    (λ c. search needs)
+    returns-2)

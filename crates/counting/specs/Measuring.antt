@@ -1,0 +1,42 @@
+-- What is worked out of n and of the table, and what a count in that table is given. Definitions
+-- only.
+use Prim.Native.Nat.{ℕ, _≤_}
+use mathlib.Core.Path.{_≡_}
+use mathlib.Core.Bool.{false}
+use mathlib.Core.List.{List}
+use lib.ListN.{length}
+use Rattle.word.specs.Ceilings.{LENGTH}
+use Rattle.word.specs.Finding.{firstFault}
+use Rattle.forms.specs.SchemeList.{EntryList}
+use Rattle.forms.specs.SchemeMemory.{patternsIn, schemeIn, faultOf, faulty}
+use Rattle.forms.specs.declared.memory.Patterns.{Patterns}
+use Rattle.forms.specs.declared.memory.Scheme.{Scheme}
+use Rattle.verdict.specs.Truth.{WellFormed, AllTrue}
+use Rattle.count_plan.specs.Layout.{needOf}
+use Rattle.count_plan.specs.Plan.{Places}
+use Rattle.count_rows.specs.Frames.{frameOf}
+use Rattle.count_rows.specs.Run.{Counts}
+use Rattle.counting.specs.Counting.{tableTests}
+use Rattle.counting.specs.declared.measure.Measure.{Measure}
+use Rattle.counting.specs.declared.by_table.Tabled.{Tabled}
+
+-- the fault is what the tests of n and of the table find; where they find none, the places and the
+-- layout are those of n
+pub record Measured (s : Scheme) (n cells : ℕ) (m : Measure) : Type 0 where
+  pub found : m .fault ≡ faultOf (firstFault (tableTests (schemeIn s) n cells))
+  pub placed : faulty (m .fault) ≡ false → Places n s (m .places)
+  pub framed : faulty (m .fault) ≡ false → m .frame ≡ frameOf (m .places) n (s .count)
+
+-- an accepted scheme, and a table of this layout that is long enough
+pub record TableGiven (patterns : Patterns) (s : Scheme) (m : Measure) (T : List ℕ) : Type 0 where
+  pub formed : WellFormed (patternsIn patterns) (schemeIn s)
+  pub truth : AllTrue (patternsIn patterns) (schemeIn s)
+  pub small : m .frame .last ≤ LENGTH
+  pub placed : Places (m .frame .last) s (m .places)
+  pub framed : m .frame ≡ frameOf (m .places) (m .frame .last) (s .count)
+  pub room : needOf (m .frame .last) (schemeIn s) ≤ length T
+
+-- what n and the table are refused for, or all counts
+pub record AllCounted (P : List (List ℕ)) (E : List EntryList) (n cells : ℕ) (r : Tabled) : Type 0 where
+  pub found : r .fault ≡ faultOf (firstFault (tableTests E n cells))
+  pub counts : faulty (r .fault) ≡ false → Counts P E n (r .counts)
