@@ -1,14 +1,14 @@
 -- The values behind the first entries of a permutation are not used by them.
-use Prim.Native.Nat.{ℕ, suc, _+_, _-_, _≤_, _<_}
-use mathlib.Core.Path.{_≡_, refl, sym, ap, _∙_}
+use Prim.Native.Nat.{ℕ, suc, _-_, _≤_, _<_}
+use mathlib.Core.Path.{_≡_, sym, ap, _∙_}
 use mathlib.Core.Bool.{true, false}
-use mathlib.Core.List.{_∷_, _++_, List}
-use native.Mathlib.Omega.{arith}
+use mathlib.Core.List.{List}
 use lib.ListN.{length, getD, take, drop}
-use lib.Seq.{take-add, drop-cons, length-take-le}
+use lib.Seq.{length-take-le}
 use Rattle.word.specs.Word.{isPerm, has}
 use Rattle.completion.specs.Completion.{begun}
 use Rattle.completion.specs.CompletionLaws.{begun-last}
+use Rattle.completion.proofs.Values.{front-cut}
 
 -- the value behind the first `len` entries of a permutation is new
 pub next-value : (n len : ℕ) (w : List ℕ) → len < n → n ≤ length w → isPerm (take n w) ≡ true →
@@ -16,9 +16,4 @@ pub next-value : (n len : ℕ) (w : List ℕ) → len < n → n ≤ length w →
 unfolding isPerm begun
 next-value n len w h k p =
     begun-last n (take len w) (getD w len 0) (take (n - suc len) (drop (suc len) w))
-    (ap (begun n) (sym cut) ∙ ap (λ (m : ℕ). begun m (take n w)) (sym (length-take-le n w k)) ∙ p)
-  where
-    cut : take n w ≡ take len w ++ (getD w len 0 ∷ take (n - suc len) (drop (suc len) w))
-    cut =
-        let e : n ≡ len + suc (n - suc len) = omega arith in
-        ap (λ (m : ℕ). take m w) e ∙ take-add len (suc (n - suc len)) w ∙ rw (drop-cons w len 0 (omega arith)) refl
+    (ap (begun n) (sym (front-cut w len n h k)) ∙ ap (λ (m : ℕ). begun m (take n w)) (sym (length-take-le n w k)) ∙ p)

@@ -18,11 +18,12 @@ use Rattle.word.specs.AscendLaws.{ascends, avoiders-are, avoiders-ascend}
 use Rattle.word.specs.PermLaws.{length-perms}
 use Rattle.word.specs.Finding.{Finding, clean, fault, firstFault}
 use Rattle.forms.specs.declared.memory.Fault.the-variants.{Clean}
+use Rattle.scheme.specs.FindingLaws.{clean-finding}
 use Rattle.verdict.specs.Size.{VALUES}
 use Rattle.verdict.specs.ValueLaws.{factorial-fits}
 use Rattle.table_lines.specs.CallerLaws.{take-least}
 use Rattle.lexicographic.specs.Answers.{firstTests, nextTests, Lists, ListsFirst, ListsNext}
-use Rattle.lexicographic.specs.TestLaws.{found-nothing, next-clean, first-passed}
+use Rattle.lexicographic.specs.TestLaws.{next-clean, first-passed}
 use Rattle.lexicographic.specs.declared.answer.Listed.{Listed}
 use Rattle.avoider_lines.specs.Followed.{isGiven, unlessFault, listedIf, listed}
 
@@ -165,7 +166,7 @@ module _ (P : List (List ℕ)) (n : ℕ) where
     next-passed =
         let first = first-passed P n WORD passed in
         let short : length w ≤ WORD = omega (arith, is .1, first .small) in
-        found-nothing (firstFault (nextTests P w WORD)) Clean (next-clean P (first .formed) w WORD short (is .0) (is .2) short) refl
+        clean-finding (firstFault (nextTests P w WORD)) Clean (next-clean P (first .formed) w WORD short (is .0) (is .2) short) refl
 
     -- one line more, and the next at hand
     follow-more : Follow P n (unlessFault (firstFault (nextTests P w WORD)) (nextAvoider P w)) (k + 1)

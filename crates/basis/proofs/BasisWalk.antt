@@ -1,21 +1,22 @@
--- The patterns of a set in memory from a place on, and the basis as it is gathered.
+-- Whether a word contains no other pattern of a set in memory, and the basis as it is gathered.
 -- Assumes nothing.
 use Prim.Native.Nat.{ℕ, zero, suc, _+_, _-_, _≤_, _<_, max}
 use mathlib.Core.Path.{_≡_, refl, sym, ap, ap₂, _∙_}
 use mathlib.Core.Logic.{_⊎_, inl, inr}
 use mathlib.Core.Bool.{Bool, true, false, not, _&&_, _||_, cond}
 use mathlib.Core.List.{List, [], _∷_, _++_, map, append-assoc, append-nil}
-use native.Mathlib.Nat.{sub-zero, zero-add}
+use native.Mathlib.Nat.{zero-add}
 use native.Mathlib.Numerals.{add-one}
 use native.Mathlib.Omega.{arith}
-use lib.ListN.{length, getD, take, drop, length-set, length-take, drop-of-length-le}
+use lib.ListN.{length, getD, take, length-set, length-take}
 use lib.ListN.{set as set-at}
-use lib.Seq.{drop-cons, getD-set-same, getD-set-other}
+use lib.Seq.{getD-set-same, getD-set-other}
 use borrow.Author.Tests.{not-true, not-false}
 use Rattle.word.specs.Lists.{keep, row}
 use Rattle.word.specs.Word.{contains, longest}
 use Rattle.word.specs.Containment.{patternsOf}
 use Rattle.word.specs.ListLaws.{same-or-not}
+use Rattle.word.proofs.PatternSet.{from, from-start, from-counted, from-cons}
 use Rattle.cell.specs.Basis.{same, basic, basis}
 use Rattle.forms.specs.SchemeMemory.{padded, noPattern, patternIn}
 use Rattle.forms.specs.MemoryLaws.{padded-within}
@@ -27,39 +28,6 @@ pub take-again : (n : ℕ) (l : List ℕ) → take (length (take n l)) l ≡ tak
 take-again zero l = refl
 take-again (suc n) [] = refl
 take-again (suc n) (x ∷ l) = ap {B = List ℕ} (λ r. x ∷ r) (take-again n l)
-
--- the patterns of a set in memory from place j on
-unfoldable pub from : List (List ℕ) → List ℕ → ℕ → ℕ → List (List ℕ)
-from rows lengths n j = patternsOf (drop j rows) (drop j lengths) (n - j)
-
-pub from-start : (rows : List (List ℕ)) (lengths : List ℕ) (n : ℕ) → patternsOf rows lengths n ≡ from rows lengths n 0
-unfolding from
-from-start rows lengths n = rw (sub-zero n) refl
-
-pub from-counted : (rows : List (List ℕ)) (lengths : List ℕ) (n j : ℕ) → n ≤ j → from rows lengths n j ≡ []
-unfolding from
-from-counted rows lengths n j h = go (n - j) (omega arith)
-  where
-    go : (m : ℕ) → m ≡ 0 → patternsOf (drop j rows) (drop j lengths) m ≡ []
-    go m e = rw e refl
-
-pub from-end : (rows : List (List ℕ)) (lengths : List ℕ) (n j : ℕ) → length rows ≤ j → from rows lengths n j ≡ []
-unfolding from
-from-end rows lengths n j h = rw (drop-of-length-le rows h) (go (n - j))
-  where
-    go : (m : ℕ) → patternsOf [] (drop j lengths) m ≡ []
-    go zero = refl
-    go (suc m) = refl
-
-pub from-cons : (rows : List (List ℕ)) (lengths : List ℕ) (n j : ℕ) → j < length rows → j < length lengths → j < n →
-    from rows lengths n j ≡ take (getD lengths j 0) (getD rows j []) ∷ from rows lengths n (j + 1)
-unfolding from
-from-cons rows lengths n j h l k = rw (add-one j, drop-cons rows j [] h, drop-cons lengths j 0 l) (go (n - j) (n - suc j) (omega arith))
-  where
-    go : (m r : ℕ) → m ≡ suc r →
-        patternsOf (getD rows j [] ∷ drop (suc j) rows) (getD lengths j 0 ∷ drop (suc j) lengths) m ≡
-        take (getD lengths j 0) (getD rows j []) ∷ patternsOf (drop (suc j) rows) (drop (suc j) lengths) r
-    go m r e = rw e refl
 
 -- whether a word contains no other pattern from place j on
 pub basic-start : (rows : List (List ℕ)) (lengths : List ℕ) (n : ℕ) (β : List ℕ) →

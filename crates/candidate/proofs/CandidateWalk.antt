@@ -21,6 +21,7 @@ use Rattle.word.specs.Containment.{patternsOf}
 use Rattle.word.specs.ListLaws.{true-not-false, first-some}
 use Rattle.word.specs.CopyLaws.{found, first-found}
 use Rattle.word.specs.ContainsLaws.{avoids-none}
+use Rattle.word.proofs.PatternSet.{from, from-start, from-counted, from-cons}
 use Rattle.cell.specs.Cell.{total, without, free, vectors, comparedTo}
 use Rattle.cell.specs.SpacingWalk.{compared-are}
 use Rattle.cell.specs.Built.{level, built}
@@ -33,7 +34,7 @@ use Rattle.basis.specs.BasisMemory.{pattern-member}
 use Rattle.spacing.specs.Following.{firstVector, later, Follows}
 use Rattle.spacing.specs.SpacingOrder.{vectors-first, first-length, first-total}
 use Rattle.candidate.proofs.HitLaws.{hit-short}
-use Rattle.basis.proofs.BasisWalk.{take-again, from, from-start, from-counted, from-cons}
+use Rattle.basis.proofs.BasisWalk.{take-again}
 
 -- what is looked up for the pattern at place i
 pub ready : (set : List (List ℕ)) (lengths : List ℕ) (count : ℕ) (p R g levels gone : List ℕ) (needs : List ℕ) (t i : ℕ) →

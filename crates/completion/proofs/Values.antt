@@ -79,7 +79,7 @@ module _ (P : List (List ℕ)) (u : List ℕ) (v : ℕ) (n : ℕ) (h : v ≤ n) 
   goes-there e a = rw (values-cons v n h, e, a) refl
 
 -- the front of a word, cut at one of its entries
-front-cut : (w : List ℕ) (i len : ℕ) → i < len → len ≤ length w →
+pub front-cut : (w : List ℕ) (i len : ℕ) → i < len → len ≤ length w →
     take len w ≡ take i w ++ (getD w i 0 ∷ take (len - suc i) (drop (suc i) w))
 front-cut w i len h k =
     let e : len ≡ i + suc (len - suc i) = omega arith in

@@ -105,4 +105,4 @@ pub shortest-more : (up : Bool) (rows : List (List ℕ)) (lengths : List ℕ) (n
     shorter best (shortest up (from rows lengths n i)) ≡ shorter (shorter best next) (shortest up (from rows lengths n (i + 1)))
 unfolding shortest
 shortest-more up rows lengths n i best next hr hl hn e =
-    rw (from-cons rows lengths n [] i hr hl hn, ← e) (shorter-assoc best next (shortest up (from rows lengths n (i + 1))))
+    rw (from-cons rows lengths n i hr hl hn, ← e) (shorter-assoc best next (shortest up (from rows lengths n (i + 1))))

@@ -20,7 +20,7 @@ use Rattle.cell.specs.Basis.{basis}
 use Rattle.cell.specs.BasisLaws.{basis-avoids}
 use Rattle.forms.specs.SchemeMemory.{faultOf, faulty}
 use Rattle.forms.specs.declared.memory.Fault.{Fault}
-use Rattle.forms.specs.declared.memory.Fault.the-variants.{At}
+use Rattle.forms.specs.declared.memory.Fault.the-variants.{Clean, At}
 use Rattle.text_page.specs.Page.{overlay}
 use Rattle.text_page.specs.PageLaws.{overlay-whole}
 use Rattle.lexicographic.specs.Answers.{firstTests, nextTests, answered, listedOr, Puts, Lists, ListsFirst, ListsNext}
@@ -33,9 +33,8 @@ caseOf Given = 0
 caseOf Nothing = 1
 caseOf (Refused r i) = 2
 
-not-given : (f : Finding) (o : Option (List ℕ)) (r : Refusal) (i : ℕ) → f ≡ fault r i → (c : Listed) → c ≡ answered f o → c ≡ Given → ⊥
-not-given f o r i e c q g =
-    let z : _≡_ {A = ℕ} 2 0 = ap (λ (x : Finding). caseOf (answered x o)) (sym e) ∙ ap caseOf (sym q ∙ g) in absurd (omega (arith, z))
+not-given : (r : Refusal) (i : ℕ) (c : Listed) → c ≡ Refused r i → c ≡ Given → ⊥
+not-given r i c q g = let z : _≡_ {A = ℕ} 2 0 = ap caseOf (sym q ∙ g) in absurd (omega (arith, z))
 
 pub listed-fault : (f : Fault) (r : Refusal) (i : ℕ) → f ≡ At r i → Refused r i ≡ listedOr f
 listed-fault f r i e = rw e refl
@@ -48,8 +47,8 @@ lists-refused (fault v i) o n page r e h = record {
   answer = e;
   numbers = rw e refl;
   written = refl;
-  front = λ g. absurd (not-given (fault v i) o v i refl r e g);
-  rest = λ g. absurd (not-given (fault v i) o v i refl r e g);
+  front = λ g. absurd (not-given v i r e g);
+  rest = λ g. absurd (not-given v i r e g);
 }
 
 -- an avoider put on the page, or nothing
@@ -82,10 +81,10 @@ lists-put f (some w) n page after r e p size room =
     }
 
 -- where the answer is that there is none
-none-there : (f : Finding) (o : Option (List ℕ)) → Nothing ≡ answered f o → o ≡ none
-none-there clean none e = refl
-none-there clean (some w) e = let z : _≡_ {A = ℕ} 1 0 = ap caseOf e in absurd (omega (arith, z))
-none-there (fault r i) o e = let z : _≡_ {A = ℕ} 1 2 = ap caseOf e in absurd (omega (arith, z))
+none-there : (f : Fault) (o : Option (List ℕ)) → Nothing ≡ answered f o → o ≡ none
+none-there Clean none e = refl
+none-there Clean (some w) e = let z : _≡_ {A = ℕ} 1 0 = ap caseOf e in absurd (omega (arith, z))
+none-there (At r i) o e = let z : _≡_ {A = ℕ} 1 2 = ap caseOf e in absurd (omega (arith, z))
 
 pub lists-first : (P : List (List ℕ)) (n : ℕ) (page after : List ℕ) (r : Listed) →
     Lists (firstFault (firstTests P n (length page))) (firstAvoider P n) n page after r → ListsFirst P n page after r
@@ -93,7 +92,7 @@ lists-first P n page after r l = record {
   lists = l;
   least = λ g. first-given P n (take n after) (l .front g);
   empty = λ e x p k a. first-none-avoids P n x
-      (none-there (firstFault (firstTests P n (length page))) (firstAvoider P n) (sym e ∙ l .answer)) p k a;
+      (none-there (faultOf (firstFault (firstTests P n (length page)))) (firstAvoider P n) (sym e ∙ l .answer)) p k a;
 }
 
 pub lists-next : (P : List (List ℕ)) (w page after : List ℕ) (r : Listed) →
@@ -101,7 +100,8 @@ pub lists-next : (P : List (List ℕ)) (w page after : List ℕ) (r : Listed) �
 lists-next P w page after r l = record {
   lists = l;
   next = λ g. next-given P w (take (length w) after) (l .front g);
-  last = λ e x p k a. next-none P w x (none-there (firstFault (nextTests P w (length page))) (nextAvoider P w) (sym e ∙ l .answer)) p k a;
+  last = λ e x p k a. next-none P w x
+      (none-there (faultOf (firstFault (nextTests P w (length page)))) (nextAvoider P w) (sym e ∙ l .answer)) p k a;
 }
 
 -- patterns that contain another change no avoider

@@ -13,6 +13,7 @@ use Rattle.word.specs.Listing.{firstAvoider, nextAvoider, LeastAvoider}
 use Rattle.word.specs.Finding.{Finding, clean, fault, test, firstFault}
 use Rattle.word.specs.Told.{Told, toldBy}
 use Rattle.word.specs.declared.refusal.Refusal.the-variants.{Oversize, NoPermutation, ShortPage, NoAvoider}
+use Rattle.forms.specs.SchemeMemory.{faultOf}
 use Rattle.forms.specs.declared.memory.Fault.{Fault}
 use Rattle.forms.specs.declared.memory.Fault.the-variants.{Clean, At}
 use Rattle.scheme.specs.WellFormed.{patternTests}
@@ -39,10 +40,10 @@ abbrev pub nextTests : List (List ℕ) → List ℕ → ℕ → List Finding
 nextTests P w room = patternTests P ++ wordTests P w room
 
 -- the answer, where the tests find this and that avoider, or none, is to be given
-abbrev pub answered : Finding → Option (List ℕ) → Listed
-answered clean (some w) = Given
-answered clean none = Nothing
-answered (fault r i) o = Refused r i
+abbrev pub answered : Fault → Option (List ℕ) → Listed
+answered Clean (some w) = Given
+answered Clean none = Nothing
+answered (At r i) o = Refused r i
 
 -- a refusal, or that there is nothing
 abbrev pub listedOr : Fault → Listed
@@ -51,10 +52,10 @@ listedOr (At r i) = Refused r i
 
 -- "It goes to the front of a lent page, one byte an entry"; "When it was the last, or there is
 -- none, nothing is written", nor where the call is refused
-abbrev pub pageAfter : Finding → Option (List ℕ) → List ℕ → List ℕ
-pageAfter clean (some w) page = overlay 0 w page
-pageAfter clean none page = page
-pageAfter (fault r i) o page = page
+abbrev pub pageAfter : Fault → Option (List ℕ) → List ℕ → List ℕ
+pageAfter Clean (some w) page = overlay 0 w page
+pageAfter Clean none page = page
+pageAfter (At r i) o page = page
 
 -- the answer in the numbers of document 01: the value is how many avoiders were given
 abbrev pub given : Option (List ℕ) → ℕ
@@ -68,16 +69,16 @@ toldListed (Refused r i) = toldBy (fault r i) []
 
 -- the answer r, and the page before and after, where nothing is refused
 pub record Puts (o : Option (List ℕ)) (page after : List ℕ) (r : Listed) : Type 0 where
-  pub answer : r ≡ answered clean o
-  pub written : after ≡ pageAfter clean o page
+  pub answer : r ≡ answered Clean o
+  pub written : after ≡ pageAfter Clean o page
 
 -- the answer r, and the page before and after, where the tests find this and that avoider of length
 -- n, or none, is to be given
 pub record Lists (f : Finding) (o : Option (List ℕ)) (n : ℕ) (page after : List ℕ) (r : Listed) : Type 0 where
-  pub answer : r ≡ answered f o
+  pub answer : r ≡ answered (faultOf f) o
   -- the number and the value of document 01
   pub numbers : toldListed r ≡ toldBy f (given o ∷ [])
-  pub written : after ≡ pageAfter f o page
+  pub written : after ≡ pageAfter (faultOf f) o page
   -- where one is given, it stands at the front, and the bytes behind it are untouched
   pub front : r ≡ Given → o ≡ some (take n after)
   pub rest : r ≡ Given → drop n after ≡ drop n page

@@ -32,14 +32,6 @@ found-before l m f e h = go l e
     go (clean ∷ l) q = go l q
     go (fault r i ∷ l) q = q
 
--- they find none
-pub found-nothing : (x : Finding) (f : Fault) → f ≡ faultOf x → faulty f ≡ false → x ≡ clean
-found-nothing clean f e h = refl
-found-nothing (fault r i) f e h = absurd (true-not-false (sym (ap faulty e) ∙ h))
-
-pub found-none : (l : List Finding) (f : Fault) → f ≡ faultOf (firstFault l) → faulty f ≡ false → firstFault l ≡ clean
-found-none l f e h = found-nothing (firstFault l) f e h
-
 -- a test in front that finds nothing
 behind-one : (x : Finding) (l : List Finding) → firstFault (x ∷ l) ≡ clean → firstFault l ≡ clean
 behind-one x l e = clean-right (x ∷ []) l e

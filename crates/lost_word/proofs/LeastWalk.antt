@@ -18,6 +18,7 @@ use Rattle.word.specs.Word.{before, has, entry}
 use Rattle.word.specs.Containment.{patternsOf}
 use Rattle.word.specs.CopyLaws.{found, entries}
 use Rattle.word.specs.ListLaws.{true-not-false, first-some}
+use Rattle.word.proofs.PatternSet.{from, from-start, from-counted, from-cons}
 use Rattle.cell.specs.Cell.{total, without, comparedTo}
 use Rattle.cell.specs.Built.{built}
 use Rattle.cell.specs.Candidate.{violates, violated, restOf, violatedFirst, lostWords, leastOf, leastAt, leastCandidate}
@@ -29,7 +30,6 @@ use Rattle.lost_word.specs.Shown.{ShowsWord}
 use Rattle.lost_word.specs.Shown.{shown, lesserShown, lostBy, WordAnswer}
 use Rattle.candidate.specs.declared.search.Lost.{Lost}
 use Rattle.lost_word.specs.declared.least.LostWord.{LostWord}
-use Rattle.basis.proofs.BasisWalk.{from, from-start, from-counted, from-cons}
 use Rattle.candidate.proofs.LookupLaws.{flag-none}
 use Rattle.candidate.proofs.CandidateWalk.{Violates, word-made}
 

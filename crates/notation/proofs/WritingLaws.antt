@@ -52,11 +52,6 @@ behind-clean [] x e = single x
 behind-clean (clean ∷ l) x e = behind-clean l x e
 behind-clean (fault q j ∷ l) x e = let z : _≡_ {A = ℕ} 0 1 = cc in absurd (omega (arith, z))
 
--- tests that find nothing
-pub clean-finding : (x : Finding) (f : Fault) → f ≡ faultOf x → faulty f ≡ false → x ≡ clean
-clean-finding clean f e h = refl
-clean-finding (fault r i) f e h = absurd (true≢false (sym (ap faulty e) ∙ h))
-
 module _ (tests : List Finding) (xs before : List ℕ) where
   refused-by : (r : Refusal) (i : ℕ) → writing tests xs (length before) ≡ fault r i → Writing tests xs before before (Refused r i)
   refused-by r i e =

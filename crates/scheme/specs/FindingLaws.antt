@@ -9,11 +9,18 @@ use Rattle.word.specs.Lists.{any}
 use Rattle.word.specs.ListLaws.{true-not-false, any-in}
 use Rattle.word.specs.Finding.{Finding, clean, fault, test, firstFault}
 use Rattle.word.specs.declared.refusal.Refusal.{Refusal}
+use Rattle.forms.specs.SchemeMemory.{faultOf, faulty}
+use Rattle.forms.specs.declared.memory.Fault.{Fault}
 use Rattle.scheme.specs.WellFormed.{firstAt}
 
 -- a fault is not clean
 fault-not-clean : {r : Refusal} {i : ℕ} → fault r i ≡ clean → ⊥
 fault-not-clean e = let z : _≡_ {A = ℕ} 0 1 = cc in absurd (omega arith)
+
+-- a finding in memory that tells no fault
+pub clean-finding : (x : Finding) (f : Fault) → f ≡ faultOf x → faulty f ≡ false → x ≡ clean
+clean-finding clean f e h = refl
+clean-finding (fault r i) f e h = absurd (true-not-false (sym (ap faulty e) ∙ h))
 
 -- none of the tests finds a fault
 pub clean-in : {x : Finding} (l : List Finding) → List·Memᴰ x l → firstFault l ≡ clean → x ≡ clean

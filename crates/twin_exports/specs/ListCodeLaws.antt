@@ -4,11 +4,11 @@ use Prim.Native.Nat.{ℕ}
 use mathlib.Core.Path.{_≡_, refl, sym, ap, _∙_}
 use mathlib.Core.Bool.{true, false}
 use mathlib.Core.List.{List}
-use mathlib.Core.Option.{Option, none, some}
+use mathlib.Core.Option.{Option}
 use lib.ListN.{length}
 use Rattle.word.specs.ListLaws.{true-not-false}
 use Rattle.word.specs.Listing.{firstAvoider, nextAvoider}
-use Rattle.word.specs.Finding.{Finding, clean, fault, firstFault}
+use Rattle.word.specs.Finding.{Finding, firstFault}
 use Rattle.forms.specs.SchemeMemory.{patternsIn, faultOf, orElse, faulty}
 use Rattle.forms.specs.declared.memory.Fault.{Fault}
 use Rattle.forms.specs.declared.memory.Fault.the-variants.{Clean, At}
@@ -17,25 +17,14 @@ use Rattle.notation.specs.PatternAnswers.{patternsAnswer}
 use Rattle.notation.specs.declared.patterns.PatternsRead.{PatternsRead}
 use Rattle.lexicographic.specs.Answers.{firstTests, nextTests, answered, listedOr, pageAfter, Lists, ListsFirst, ListsNext}
 use Rattle.lexicographic.specs.declared.answer.Listed.{Listed}
-use Rattle.twin_exports.specs.ListCodes.{listedCode, patternsOfText, foundOn, listedBy, pageBy, FirstOfText, NextOfText}
-
--- the answer and the page by a finding
-listed-by : (f : Finding) (o : Option (List ℕ)) → answered f o ≡ listedBy (faultOf f) o
-listed-by clean none = refl
-listed-by clean (some w) = refl
-listed-by (fault r i) o = refl
-
-page-by : (f : Finding) (o : Option (List ℕ)) (page : List ℕ) → pageAfter f o page ≡ pageBy (faultOf f) o page
-page-by clean none page = refl
-page-by clean (some w) page = refl
-page-by (fault r i) o page = refl
+use Rattle.twin_exports.specs.ListCodes.{listedCode, patternsOfText, foundOn, FirstOfText, NextOfText}
 
 -- a fault leaves the page as it is
-refused-by : (f : Fault) (o : Option (List ℕ)) → faulty f ≡ true → listedOr f ≡ listedBy f o
+refused-by : (f : Fault) (o : Option (List ℕ)) → faulty f ≡ true → listedOr f ≡ answered f o
 refused-by Clean o h = absurd (true-not-false (sym h))
 refused-by (At r i) o h = refl
 
-kept-by : (f : Fault) (o : Option (List ℕ)) (page : List ℕ) → faulty f ≡ true → page ≡ pageBy f o page
+kept-by : (f : Fault) (o : Option (List ℕ)) (page : List ℕ) → faulty f ≡ true → page ≡ pageAfter f o page
 kept-by Clean o page h = absurd (true-not-false (sym h))
 kept-by (At r i) o page h = refl
 
@@ -47,12 +36,12 @@ module _ (s : List ℕ) (p : PatternsRead) (is : p ≡ patternsAnswer s) where
         ap (λ (x : PatternsRead). orElse (x .fault) (faultOf (firstFault (tests (patternsOfText s))))) (sym is) ∙
         or-else-fault (p .fault) (faultOf (firstFault (tests (patternsOfText s)))) h
 
-    pub refused-code : (c : Listed) (r : ℕ) → c ≡ listedOr (p .fault) → r ≡ listedCode c → r ≡ listedCode (listedBy (foundOn s tests) o)
+    pub refused-code : (c : Listed) (r : ℕ) → c ≡ listedOr (p .fault) → r ≡ listedCode c → r ≡ listedCode (answered (foundOn s tests) o)
     refused-code c r e k =
-        k ∙ ap listedCode (e ∙ refused-by (p .fault) o h ∙ ap (λ (f : Fault). listedBy f o) (sym found))
+        k ∙ ap listedCode (e ∙ refused-by (p .fault) o h ∙ ap (λ (f : Fault). answered f o) (sym found))
 
-    pub refused-page : (page : List ℕ) → page ≡ pageBy (foundOn s tests) o page
-    refused-page page = kept-by (p .fault) o page h ∙ ap (λ (f : Fault). pageBy f o page) (sym found)
+    pub refused-page : (page : List ℕ) → page ≡ pageAfter (foundOn s tests) o page
+    refused-page page = kept-by (p .fault) o page h ∙ ap (λ (f : Fault). pageAfter f o page) (sym found)
 
   module _ (h : faulty (p .fault) ≡ false) where
     then-found : (tests : List (List ℕ) → List Finding) → faultOf (firstFault (tests (patternsOfText s))) ≡ foundOn s tests
@@ -62,14 +51,12 @@ module _ (s : List ℕ) (p : PatternsRead) (is : p ≡ patternsAnswer s) where
 
     module _ (tests : List (List ℕ) → List Finding) (o : Option (List ℕ)) (n : ℕ) (page after : List ℕ) (c : Listed)
         (l : Lists (firstFault (tests (patternsOfText s))) o n page after c) where
-      done-code : (r : ℕ) → r ≡ listedCode c → r ≡ listedCode (listedBy (foundOn s tests) o)
+      done-code : (r : ℕ) → r ≡ listedCode c → r ≡ listedCode (answered (foundOn s tests) o)
       done-code r k =
-          k ∙ ap listedCode (l .answer ∙ listed-by (firstFault (tests (patternsOfText s))) o ∙
-          ap (λ (f : Fault). listedBy f o) (then-found tests))
+          k ∙ ap listedCode (l .answer ∙ ap (λ (f : Fault). answered f o) (then-found tests))
 
-      done-page : after ≡ pageBy (foundOn s tests) o page
-      done-page =
-          l .written ∙ page-by (firstFault (tests (patternsOfText s))) o page ∙ ap (λ (f : Fault). pageBy f o page) (then-found tests)
+      done-page : after ≡ pageAfter (foundOn s tests) o page
+      done-page = l .written ∙ ap (λ (f : Fault). pageAfter f o page) (then-found tests)
 
     pub first-done : (n : ℕ) (page after : List ℕ) (c : Listed) (r : ℕ) → ListsFirst (patternsIn (p .patterns)) n page after c →
         r ≡ listedCode c → FirstOfText s n page after r

@@ -3,17 +3,14 @@
 use Prim.Native.Nat.{ℕ, _-_}
 use mathlib.Core.Path.{_≡_}
 use mathlib.Core.List.{List}
-use mathlib.Core.Option.{Option, none, some}
 use lib.ListN.{length}
 use Rattle.word.specs.Refusal.{numberOf}
 use Rattle.word.specs.Listing.{firstAvoider, nextAvoider}
 use Rattle.word.specs.Finding.{Finding, firstFault}
 use Rattle.forms.specs.SchemeMemory.{patternsIn, faultOf, orElse}
 use Rattle.forms.specs.declared.memory.Fault.{Fault}
-use Rattle.forms.specs.declared.memory.Fault.the-variants.{Clean, At}
 use Rattle.notation.specs.PatternAnswers.{patternsAnswer}
-use Rattle.text_page.specs.Page.{overlay}
-use Rattle.lexicographic.specs.Answers.{firstTests, nextTests}
+use Rattle.lexicographic.specs.Answers.{firstTests, nextTests, answered, pageAfter}
 use Rattle.lexicographic.specs.declared.answer.Listed.{Listed}
 use Rattle.lexicographic.specs.declared.answer.Listed.the-variants.{Given, Nothing, Refused}
 use Rattle.twin_exports.specs.TextCounts.{largest}
@@ -32,22 +29,12 @@ patternsOfText s = patternsIn ((patternsAnswer s) .patterns)
 abbrev pub foundOn : List ℕ → (List (List ℕ) → List Finding) → Fault
 foundOn s tests = orElse ((patternsAnswer s) .fault) (faultOf (firstFault (tests (patternsOfText s))))
 
-abbrev pub listedBy : Fault → Option (List ℕ) → Listed
-listedBy Clean (some w) = Given
-listedBy Clean none = Nothing
-listedBy (At r i) o = Refused r i
-
-abbrev pub pageBy : Fault → Option (List ℕ) → List ℕ → List ℕ
-pageBy Clean (some w) page = overlay 0 w page
-pageBy Clean none page = page
-pageBy (At r i) o page = page
-
 -- the number r for the text s and the length n, with a page that holds `before`, and then `after`
 pub record FirstOfText (s : List ℕ) (n : ℕ) (before after : List ℕ) (r : ℕ) : Type 0 where
-  pub answer : r ≡ listedCode (listedBy (foundOn s (λ P. firstTests P n (length before))) (firstAvoider (patternsOfText s) n))
-  pub page : after ≡ pageBy (foundOn s (λ P. firstTests P n (length before))) (firstAvoider (patternsOfText s) n) before
+  pub answer : r ≡ listedCode (answered (foundOn s (λ P. firstTests P n (length before))) (firstAvoider (patternsOfText s) n))
+  pub page : after ≡ pageAfter (foundOn s (λ P. firstTests P n (length before))) (firstAvoider (patternsOfText s) n) before
 
 -- the number r for the text s and the permutation w
 pub record NextOfText (s w before after : List ℕ) (r : ℕ) : Type 0 where
-  pub answer : r ≡ listedCode (listedBy (foundOn s (λ P. nextTests P w (length before))) (nextAvoider (patternsOfText s) w))
-  pub page : after ≡ pageBy (foundOn s (λ P. nextTests P w (length before))) (nextAvoider (patternsOfText s) w) before
+  pub answer : r ≡ listedCode (answered (foundOn s (λ P. nextTests P w (length before))) (nextAvoider (patternsOfText s) w))
+  pub page : after ≡ pageAfter (foundOn s (λ P. nextTests P w (length before))) (nextAvoider (patternsOfText s) w) before

@@ -51,8 +51,7 @@ from-end rows lengths n i h = rw (drop-of-length-le rows h) (go (n - i))
     go zero = refl
     go (suc m) = refl
 
-module _ (rows : List (List ℕ)) (lengths : List ℕ) (n : ℕ) (w : List ℕ) (i : ℕ) (hr : i < length rows)
-    (hl : i < length lengths) (hn : i < n) where
+module _ (rows : List (List ℕ)) (lengths : List ℕ) (n i : ℕ) (hr : i < length rows) (hl : i < length lengths) (hn : i < n) where
   pub from-cons : from rows lengths n i ≡ take (getD lengths i 0) (getD rows i []) ∷ from rows lengths n (i + 1)
   unfolding from
   from-cons = rw (drop-cons rows i [] hr, drop-cons lengths i 0 hl, add-one i) (go (n - i) (n - suc i) (omega arith))
@@ -62,21 +61,23 @@ module _ (rows : List (List ℕ)) (lengths : List ℕ) (n : ℕ) (w : List ℕ) 
           take (getD lengths i 0) (getD rows i []) ∷ patternsOf (drop (suc i) rows) (drop (suc i) lengths) k
       go m k e = rw e refl
 
+module _ (rows : List (List ℕ)) (lengths : List ℕ) (n : ℕ) (w : List ℕ) (i : ℕ) (hr : i < length rows)
+    (hl : i < length lengths) (hn : i < n) where
   -- whether one of them stands in w
   pub some-here : contains (take (getD lengths i 0) (getD rows i [])) w ≡ true → not (avoids (from rows lengths n i) w) ≡ true
   unfolding avoids
-  some-here e = rw (from-cons, e) refl
+  some-here e = rw (from-cons rows lengths n i hr hl hn, e) refl
 
   pub some-later : contains (take (getD lengths i 0) (getD rows i [])) w ≡ false →
       not (avoids (from rows lengths n i) w) ≡ not (avoids (from rows lengths n (i + 1)) w)
   unfolding avoids
-  some-later e = rw (from-cons, e) refl
+  some-later e = rw (from-cons rows lengths n i hr hl hn, e) refl
 
   -- the earliest of them that has a copy, counted from i on
   early-cons : earliestFrom i (from rows lengths n i) w ≡
       copyOr i (firstCopy (take (getD lengths i 0) (getD rows i [])) w) (earliestFrom (i + 1) (from rows lengths n (i + 1)) w)
   unfolding earliestFrom
-  early-cons = rw (from-cons, add-one i) refl
+  early-cons = rw (from-cons rows lengths n i hr hl hn, add-one i) refl
 
   module _ (r : SetCopy) (e : r ≡ shownIn (copyOr i (firstCopy (take (getD lengths i 0) (getD rows i [])) w) nowhere)) where
     pub early-here : r .found ≡ true → r ≡ shownIn (earliestFrom i (from rows lengths n i) w)

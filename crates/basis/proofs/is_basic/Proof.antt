@@ -7,8 +7,9 @@ use borrow.Author.Needs.{needs}
 use native.Mathlib.Omega.{arith}
 use lib.ListN.{length, take}
 use Rattle.word.specs.Containment.{patternsOf}
+use Rattle.word.proofs.PatternSet.{from, from-counted, from-end}
 use Rattle.cell.specs.Basis.{basic}
-use Rattle.basis.proofs.BasisWalk.{from, from-counted, from-end, basic-start, basic-none, basic-here, basic-later}
+use Rattle.basis.proofs.BasisWalk.{basic-start, basic-none, basic-here, basic-later}
 use Rattle.basis.proofs.is_basic.Statement.{statement}
 use Rattle.basis.proofs.is_basic.Tie as tie
 

@@ -6,8 +6,9 @@ use lib.ListN.{length}
 use borrow.Author.Needs.{needs}
 use Rattle.word.specs.Finding.{clean, firstFault}
 use Rattle.forms.specs.SchemeMemory.{patternsIn}
+use Rattle.scheme.specs.FindingLaws.{clean-finding}
 use Rattle.lexicographic.specs.Answers.{firstTests}
-use Rattle.lexicographic.specs.TestLaws.{found-nothing, first-passed, first-refused, first-put}
+use Rattle.lexicographic.specs.TestLaws.{first-passed, first-refused, first-put}
 use Rattle.lexicographic.proofs.listing.first_avoider.Statement.{statement}
 use Rattle.lexicographic.proofs.listing.first_avoider.Tie as tie
 
@@ -20,7 +21,7 @@ nothing-found : (c : tie.Else1) → let a = first c .args in
 nothing-found c =
     let a = first c .args in
     let f = c .before .before .first-fault in
-    found-nothing (firstFault (firstTests (patternsIn (a .patterns)) (a .n) (length (a .page .now)))) (f .result) (f .ensures)
+    clean-finding (firstFault (firstTests (patternsIn (a .patterns)) (a .n) (length (a .page .now)))) (f .result) (f .ensures)
     (sym (c .before .is-fault .ensures) ∙ c .if1 .left)
 
 returns : tie.Need-returns

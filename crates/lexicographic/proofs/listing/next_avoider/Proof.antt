@@ -6,8 +6,9 @@ use lib.ListN.{length}
 use borrow.Author.Needs.{needs}
 use Rattle.word.specs.Finding.{clean, firstFault}
 use Rattle.forms.specs.SchemeMemory.{patternsIn}
+use Rattle.scheme.specs.FindingLaws.{clean-finding}
 use Rattle.lexicographic.specs.Answers.{nextTests}
-use Rattle.lexicographic.specs.TestLaws.{found-nothing, next-passed, next-refused, next-put}
+use Rattle.lexicographic.specs.TestLaws.{next-passed, next-refused, next-put}
 use Rattle.lexicographic.proofs.listing.next_avoider.Statement.{statement}
 use Rattle.lexicographic.proofs.listing.next_avoider.Tie as tie
 
@@ -20,7 +21,7 @@ nothing-found : (c : tie.Else1) → let a = first c .args in
 nothing-found c =
     let a = first c .args in
     let f = c .before .before .next-fault in
-    found-nothing (firstFault (nextTests (patternsIn (a .patterns)) (a .permutation .now) (length (a .page .now)))) (f .result) (f .ensures)
+    clean-finding (firstFault (nextTests (patternsIn (a .patterns)) (a .permutation .now) (length (a .page .now)))) (f .result) (f .ensures)
     (sym (c .before .is-fault .ensures) ∙ c .if1 .left)
 
 returns : tie.Need-returns

@@ -7,8 +7,9 @@ use borrow.Author.Tests.{not-true, not-false}
 use Rattle.word.specs.Finding.{clean, firstFault}
 use Rattle.forms.specs.SchemeMemory.{patternsIn}
 use Rattle.scheme.specs.WellFormed.{patternTests}
+use Rattle.scheme.specs.FindingLaws.{clean-finding}
 use Rattle.lexicographic.specs.Answers.{wordTests}
-use Rattle.lexicographic.specs.TestLaws.{found-before, found-none, next-long, next-no-permutation}
+use Rattle.lexicographic.specs.TestLaws.{found-before, next-long, next-no-permutation}
 use Rattle.lexicographic.specs.TestLaws.{next-no-avoider, next-short, next-clean}
 use Rattle.lexicographic.proofs.listing.next_fault.Statement.{statement}
 use Rattle.lexicographic.proofs.listing.next_fault.Tie as tie
@@ -18,7 +19,8 @@ formed : (c : tie.Else1) → firstFault (patternTests (patternsIn (c .before .be
 formed c =
     let a = c .before .before .before .before .args in
     let f = c .before .before .patterns-fault in
-    found-none (patternTests (patternsIn (a .patterns))) (f .result) (f .ensures) (sym (c .before .is-fault .ensures) ∙ c .if1 .left)
+    clean-finding (firstFault (patternTests (patternsIn (a .patterns)))) (f .result) (f .ensures)
+    (sym (c .before .is-fault .ensures) ∙ c .if1 .left)
 
 returns : tie.Need-returns
 returns c =

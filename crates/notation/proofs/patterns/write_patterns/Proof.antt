@@ -5,9 +5,9 @@ use mathlib.Core.Path.{sym, _∙_}
 use native.Mathlib.Omega.{arith}
 use Rattle.word.specs.Finding.{firstFault}
 use Rattle.scheme.specs.WellFormed.{patternTests}
+use Rattle.scheme.specs.FindingLaws.{clean-finding}
 use Rattle.forms.specs.SchemeMemory.{patternsIn}
 use Rattle.text_writer.proofs.FitLaws.{patterns-fit}
-use Rattle.notation.proofs.WritingLaws.{clean-finding}
 use Rattle.notation.proofs.PatternWritingLaws.{patterns-refused, patterns-page-short, patterns-done}
 use borrow.Author.Needs.{needs}
 use Rattle.notation.proofs.patterns.write_patterns.Statement.{statement}

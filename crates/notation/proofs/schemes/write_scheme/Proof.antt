@@ -5,9 +5,9 @@ use mathlib.Core.Path.{sym, _∙_}
 use native.Mathlib.Omega.{arith}
 use Rattle.word.specs.Finding.{firstFault}
 use Rattle.scheme.specs.WellFormed.{schemeTests}
+use Rattle.scheme.specs.FindingLaws.{clean-finding}
 use Rattle.forms.specs.SchemeMemory.{schemeIn}
 use Rattle.text_writer.proofs.SchemeFitLaws.{scheme-fit}
-use Rattle.notation.proofs.WritingLaws.{clean-finding}
 use Rattle.notation.proofs.SchemeWritingLaws.{scheme-refused, scheme-page-short, scheme-done}
 use borrow.Author.Needs.{needs}
 use Rattle.notation.proofs.schemes.write_scheme.Statement.{statement}
