@@ -2,12 +2,11 @@
 use Prim.Native.Nat.{ℕ, zero, suc, _+_, _-_, _≤_, _<_}
 use native.Mathlib.Numerals.{add-one}
 use native.Mathlib.Omega.{arith}
-use mathlib.Core.Path.{_≡_, refl, sym, ap, ap₂, _∙_, subst}
+use mathlib.Core.Path.{_≡_, refl, sym, ap, ap₂, _∙_}
 use mathlib.Core.Logic.{_⊎_, inl, inr}
-use mathlib.Core.Bool.{Bool, true, false, cond}
-use mathlib.Core.List.{List, [], _∷_, _++_, append-nil, append-assoc}
+use mathlib.Core.Bool.{cond}
+use mathlib.Core.List.{List, [], _∷_, _++_, append-assoc}
 use lib.ListN.{length, take}
-use lib.Dec.{eqb, leb}
 use borrow.Author.Tests.{eq-eqb, ne-eqb, le-leb, lt-leb}
 use Rattle.word.specs.Ceilings.{PREFIX}
 use Rattle.word.specs.Lists.{each, row}
@@ -23,14 +22,14 @@ use Rattle.forms.specs.SchemeMemory.{schemeIn}
 use Rattle.forms.specs.declared.memory.Scheme.{Scheme}
 use Rattle.scheme.specs.Proper.{Proper}
 use Rattle.count_step.specs.Step.{spacingsFrom}
-use Rattle.count_plan.specs.Layout.{lengthAt, prefixAt, HasCell}
-use Rattle.count_plan.specs.LayoutLaws.{prefix-length, entry-short}
+use Rattle.count_plan.specs.Layout.{lengthAt}
+use Rattle.count_plan.specs.LayoutLaws.{prefix-length}
 use Rattle.count_plan.specs.SheetRows.{fieldOf, Names, Sheet}
 use Rattle.count_plan.proofs.SheetRowLaws.{root-names}
 use Rattle.count_plan.specs.Cards.{indexOf}
 use Rattle.count_walk.specs.Cells.{TableCell, cellsAt, entryCells, cellsIf, lengthCells, shorterCells, rowCells, rowsFrom, rowRest}
-use Rattle.count_cursor.specs.Cursor.{Listed, FirstFrom, FirstBelow, Top, Starts, spacingOf, cellOf, AtCell, laterOf, restOf}
-use Rattle.count_cursor.specs.Cursor.{RowStart, Later, NextEntry, MovedOn}
+use Rattle.count_cursor.specs.Cursor.{FirstFrom, FirstBelow, Top, Starts, spacingOf, cellOf, AtCell, laterOf, restOf}
+use Rattle.count_cursor.specs.Cursor.{RowStart, NextEntry, MovedOn}
 use Rattle.count_cursor.specs.declared.cursor.Cursor.{Cursor}
 
 -- Lists of cells
@@ -76,7 +75,8 @@ module _ (s : Scheme) (j : ℕ) where
   length-none : (k : ℕ) → ((d : ℕ) → d < s .count → lengthAt s d ≡ k → ⊥) → lengthCells s j k 0 ≡ []
   length-none k none =
       let e : 0 + s .count ≡ s .count = omega arith in
-      length-skips k (s .count) 0 (omega arith) (λ i a b. none i (omega arith)) ∙ ap (lengthCells s j k) e ∙ length-end k (s .count) (omega arith)
+      length-skips k (s .count) 0 (omega arith) (λ i a b. none i (omega arith)) ∙ ap (lengthCells s j k) e ∙ length-end k (s .count)
+      (omega arith)
 
   -- entries longer than the row have no cells in it
   entry-high : (d : ℕ) → j < lengthAt s d → entryCells s j d ≡ []

@@ -1,6 +1,6 @@
--- Cells are apart: in a table that keeps `rows` rows, two cells of rows that are less than that many
--- apart stand at one place only if they are the same, whatever the number of numbers a cell.
-use Prim.Native.Nat.{ℕ, zero, suc, _+_, _*_, _%_, _/_, _≤_, _<_}
+-- Cells are apart: in a table that keeps `rows` rows, two cells of rows that are less than that
+-- many apart stand at one place only if they are the same, whatever the numbers a cell.
+use Prim.Native.Nat.{ℕ, suc, _+_, _*_, _%_, _/_, _≤_, _<_}
 use native.Mathlib.Nat.{div-add-mod, mul-le-mul-left, mul-le-mul-right, mul-suc, suc-mul, mod-lt}
 use native.Mathlib.Omega.{arith}
 use mathlib.Core.Path.{_≡_, sym, ap, _∙_}
@@ -64,7 +64,8 @@ module _ (n : ℕ) (s : Scheme) where
   in-row j d g c = omega (arith, rank-low j d g c, within-row d (c .inside))
 
   -- two entries have their cells apart
-  entries-same : (i j d e : ℕ) (g h : List ℕ) → HasCell n s i d g → HasCell n s j e h → placeAt n s d + rankOf g ≡ placeAt n s e + rankOf h →
+  entries-same : (i j d e : ℕ) (g h : List ℕ) → HasCell n s i d g → HasCell n s j e h →
+      placeAt n s d + rankOf g ≡ placeAt n s e + rankOf h →
       d ≡ e
   entries-same i j d e g h c f q = go (below-or-not d e) (below-or-not e d)
     where

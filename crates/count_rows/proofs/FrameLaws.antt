@@ -5,12 +5,11 @@ use Prim.Native.Nat.{ℕ, zero, suc, _+_, _*_, _-_, _%_, _≤_, _<_}
 use native.Mathlib.Nat.{mod-lt, mul-le-mul-right, one-mul}
 use native.Mathlib.Omega.{arith}
 use mathlib.Core.Path.{_≡_, refl, sym, ap, ap₂, _∙_, subst}
-use mathlib.Core.Bool.{Bool, true, false, cond}
+use mathlib.Core.Bool.{cond}
 use mathlib.Core.List.{List, [], _∷_, map, List·Memᴰ, List·Memᴰ·eq-of-singleton}
 use mathlib.Core.Logic.{_⊎_, inl, inr}
 use lib.ListN.{length, getD, set, length-map}
 use lib.Seq.{ext-getD}
-use lib.Dec.{eqb}
 use borrow.Author.Tests.{eq-eqb, ne-eqb}
 use Rattle.word.specs.Ceilings.{ENTRIES, GAPS, LINKS}
 use Rattle.word.specs.ListLaws.{same-or-not}
@@ -23,13 +22,12 @@ use Rattle.spacing.specs.Rank.{rankOf}
 use Rattle.spacing.specs.SpacingOrder.{first-length, first-total}
 use Rattle.forms.specs.SchemeList.{Does, expands, deletes}
 use Rattle.forms.specs.SchemeMemory.{schemeIn}
-use Rattle.forms.specs.declared.memory.Scheme.{Scheme}
 use Rattle.count_step.specs.Task.{TaskFits, taskStep}
-use Rattle.count_step.specs.Step.{stepOf, spacingsFrom, storedAt}
+use Rattle.count_step.specs.Step.{spacingsFrom, storedAt}
 use Rattle.count_step.specs.declared.cells.Task.{Task}
-use Rattle.count_plan.specs.Layout.{entryAt, prefixAt, lengthAt, placeAt, widthOf, rowsOf, blockOf, HasCell}
+use Rattle.count_plan.specs.Layout.{entryAt, prefixAt, lengthAt, placeAt, rowsOf, blockOf, HasCell}
 use Rattle.count_plan.specs.LayoutLaws.{prefix-length, count-few, entry-short, place-small}
-use Rattle.count_plan.specs.Plan.{Item, Planned}
+use Rattle.count_plan.specs.Plan.{Planned}
 use Rattle.count_plan.specs.SheetRows.{fieldOf, linkAt, linksAt, itemOf, partsAt, RuleRow}
 use Rattle.count_plan.proofs.SheetRowLaws.{link-at, sheet-plan}
 use Rattle.count_walk.specs.Cells.{cellsAt, entryCells}
@@ -74,7 +72,13 @@ module _ (sheet places : List ℕ) (f : Frame) (o : Framed sheet places f) where
   framed-fits =
       record {
         kept = o .rows-are;
-        near = omega (arith, o .width-is, place-small (f .last) (o .of .s) (o .of .s .count) (o .small), count-few (o .of .s) (o .of .proper));
+        near = omega (
+          arith,
+          o .width-is,
+          place-small (f .last) (o .of .s) (o .of .s .count) (o .small),
+          count-few (o .of .s)
+              (o .of .proper),
+        );
       }
 
   pub block-is : (x : ℕ) → x % f .rows * f .width ≡ blockOf (rowsOf (schemeIn (o .of .s))) (f .last) (o .of .s) x
@@ -129,7 +133,8 @@ module _ (sheet places : List ℕ) (f : Frame) (c : Cursor) (q : CellGiven sheet
         near = shifted-near (offsetOf f (itemOf sheet places (c .entry)) (c .row)) (linksAt sheet places (c .entry))
             (omega (
               arith,
-              block-small (c .row - backOf (fieldOf sheet (c .entry) 1)) (f .rows) (f .width) (framed-fits sheet places f (q .framed) .kept),
+              block-small (c .row - backOf (fieldOf sheet (c .entry) 1)) (f .rows) (f .width) (framed-fits sheet places f
+                  (q .framed) .kept),
               framed-fits sheet places f (q .framed) .near,
             )) links-near;
       }
@@ -152,10 +157,12 @@ module _ (sheet places : List ℕ) (f : Frame) (c : Cursor) (q : CellGiven sheet
   stored : (at : ℕ) → at ≡ blockOf (rowsOf (schemeIn (q .framed .of .s))) (f .last) (q .framed .of .s) (c .row) +
       placeAt (f .last) (q .framed .of .s) (c .entry) → (gs : List (List ℕ)) →
       ((g : List ℕ) → List·Memᴰ g gs → HasCell (f .last) (q .framed .of .s) (c .row) (c .entry) g) → (T : List ℕ) →
-      storedAt (taskStep (taskOf f (itemOf sheet places (c .entry)) (fieldOf sheet (c .entry) 3) (c .row)) (partsAt sheet (c .entry))) at gs T ≡
+      storedAt (taskStep (taskOf f (itemOf sheet places (c .entry)) (fieldOf sheet (c .entry) 3) (c .row)) (partsAt sheet
+      (c .entry))) at gs T ≡
       countWalked (q .framed .of .P) (f .last) (q .framed .of .s) (cellsAt (c .row) (c .entry) gs) T
   stored at is gs has T =
-      stored-walked (rowsOf (schemeIn (q .framed .of .s))) (f .last) (q .framed .of .P) (q .framed .of .s) (q .framed .of .proper) (c .entry)
+      stored-walked (rowsOf (schemeIn (q .framed .of .s))) (f .last) (q .framed .of .P) (q .framed .of .s) (q .framed .of .proper)
+      (c .entry)
       (itemOf sheet places (c .entry)) (planned sheet places f (q .framed) (c .entry) inside) (c .row)
       (offsetOf f (itemOf sheet places (c .entry)) (c .row)) offset-here offset-back at is gs has T
 
@@ -171,12 +178,14 @@ module _ (sheet places : List ℕ) (f : Frame) (c : Cursor) (q : CellGiven sheet
   module _ (task : Task) (parts : List ℕ) (is : task ≡ taskOf f (itemOf sheet places (c .entry)) (fieldOf sheet (c .entry) 3) (c .row))
       (gaps : parts ≡ partsAt sheet (c .entry)) (T : List ℕ) where
     -- all cells of the entry
-    pub entry-walked : (at n : ℕ) → at ≡ (c .row - 0) % f .rows * f .width + getD places (c .entry) 0 → n ≡ binomial (c .row) (task .length) →
+    pub entry-walked : (at n : ℕ) → at ≡ (c .row - 0) % f .rows * f .width + getD places (c .entry) 0 →
+        n ≡ binomial (c .row) (task .length) →
         storedAt (taskStep task parts) at (spacingsFrom n (firstVector (task .length) (task .total))) T ≡
         countWalked (q .framed .of .P) (f .last) (q .framed .of .s) (entryCells (q .framed .of .s) (c .row) (c .entry)) T
     entry-walked at n begin number =
         let k : task .length ≡ lengthAt (q .framed .of .s) (c .entry) = ap (λ (t : Task). t .length) is ∙ size in
-        let t : task .total ≡ c .row - lengthAt (q .framed .of .s) (c .entry) = ap (λ (t : Task). t .total) is ∙ ap (λ m. c .row - m) size in
+        let t : task .total ≡ c .row - lengthAt (q .framed .of .s) (c .entry) = ap (λ (t : Task). t .total) is ∙ ap
+        (λ m. c .row - m) size in
         ap₂ (λ (u : Task) (l : List ℕ). storedAt (taskStep u l) at (spacingsFrom n (firstVector (task .length) (task .total))) T) is gaps ∙
         ap (λ (gs : List (List ℕ)). storedAt (taskStep (taskOf f (itemOf sheet places (c .entry)) (fieldOf sheet (c .entry) 3) (c .row))
         (partsAt sheet (c .entry))) at gs T)

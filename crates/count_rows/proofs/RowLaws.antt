@@ -1,9 +1,9 @@
 -- The cursor's way through a row, rows one after the other, and the cell of ε.
 -- Assumes nothing.
-use Prim.Native.Nat.{ℕ, zero, suc, _+_, _*_, _-_, _≤_, _<_}
+use Prim.Native.Nat.{ℕ, suc, _+_, _*_, _-_, _≤_, _<_}
 use native.Mathlib.Numerals.{add-one}
 use native.Mathlib.Omega.{arith}
-use mathlib.Core.Path.{_≡_, refl, sym, ap, ap₂, _∙_, subst}
+use mathlib.Core.Path.{_≡_, refl, sym, ap, ap₂, _∙_}
 use mathlib.Core.Logic.{_⊎_, inl, inr}
 use mathlib.Core.List.{List, [], _∷_, _++_, append-nil}
 use lib.ListN.{length, take}
@@ -140,6 +140,7 @@ module _ (P : List (List ℕ)) (n : ℕ) (s : Scheme) (root j : ℕ) (names : Na
       x ≡ held T (cellAt (rowsOf (schemeIn s)) n s (c .row) (c .entry) (take (lengthAt s (c .entry) + 1) (c .spacing))) →
       x ≡ rootValue P n s root T₀ j
   root-read T₀ T x e q =
-      q ∙ ap (λ (l : List ℕ). held l (cellAt (rowsOf (schemeIn s)) n s (c .row) (c .entry) (take (lengthAt s (c .entry) + 1) (c .spacing)))) e ∙
+      q ∙ ap (λ (l : List ℕ). held l (cellAt (rowsOf (schemeIn s)) n s (c .row) (c .entry) (take (lengthAt s (c .entry) + 1)
+      (c .spacing)))) e ∙
       ap (held (countWalked P n s (cellsOf s j) T₀))
       (rw (row-is, spacing-here, entry-is) refl)

@@ -1,21 +1,20 @@
 -- The layout of a table in memory. Definitions only.
-use Prim.Native.Nat.{ℕ, _+_, _-_, _*_, _%_, _≤_, _<_}
+use Prim.Native.Nat.{ℕ, _+_, _-_, _*_, _%_, _≤_}
 use mathlib.Core.Path.{_≡_}
 use mathlib.Core.Bool.{cond}
 use mathlib.Core.List.{List, [], _∷_, map}
 use lib.ListN.{length, getD, take}
 use lib.Dec.{eqb}
-use Rattle.word.specs.Ceilings.{LENGTH, COMPONENTS}
+use Rattle.word.specs.Ceilings.{LENGTH}
 use Rattle.cell.specs.Cell.{total}
 use Rattle.spacing.specs.Sizes.{NEAR}
 use Rattle.forms.specs.SchemeMemory.{schemeIn}
-use Rattle.forms.specs.declared.memory.Scheme.{Scheme}
 use Rattle.count_step.specs.declared.cells.Task.{Task}
 use Rattle.count_step.specs.Step.{held}
 use Rattle.count_plan.specs.Layout.{lengthAt, widthOf, rowsOf, cellAt, HasCell}
 use Rattle.count_plan.specs.Plan.{Item, Places}
-use Rattle.count_plan.specs.SheetRows.{fieldOf, Names, Sheet, itemOf}
-use Rattle.count_walk.specs.Cells.{TableCell, entryCells, rowCells, cellsOf}
+use Rattle.count_plan.specs.SheetRows.{Names, Sheet}
+use Rattle.count_walk.specs.Cells.{entryCells, rowCells, cellsOf}
 use Rattle.count_walk.specs.Walk.{countWalked}
 use Rattle.count_cursor.specs.Cursor.{cellOf, AtCell}
 use Rattle.count_cursor.specs.declared.cursor.Cursor.{Cursor}

@@ -102,8 +102,8 @@ module _ (P : List (List ℕ)) (E : List EntryList) (formed : WellFormed P E) (t
             run-at-most (λ s. size P (childAt (e .prefix) (slot g s)) (split g s)) q n (total g) low high,
           )
 
--- A sum of what the table holds in the cells of children, as the step makes it: k are the cells that
--- are filled, and c is the cell that comes next
+-- A sum of what the table holds in the cells of children, as the step makes it: k are the cells
+-- that are filled, and c is the cell that comes next
 module _ (P : List (List ℕ)) (s : Scheme) (formed : WellFormed P (schemeIn s)) (truth : AllTrue P (schemeIn s)) (n : ℕ) (small : n ≤ LENGTH)
     (T : List ℕ) (room : needOf n (schemeIn s) ≤ length T) (k : List TableCell) (c : TableCell) (l : List TableCell)
     (all : k ++ (c ∷ l) ≡ cellsOf s n) (rule : (entryAt s (c .entry)) .rule ≡ expands)
@@ -126,7 +126,8 @@ module _ (P : List (List ℕ)) (s : Scheme) (formed : WellFormed P (schemeIn s))
       term i h =
           let (a, b) = row-out q m h in
           fed-value single single-sound (countMakes P) (rowsOf (schemeIn s)) n s (size P)
-          (solution-of (size P) P s (sizes-solved P s formed truth)) (proper (schemeIn s) (formed .scheme)) small (omega arith) (omega arith)
+          (solution-of (size P) P s (sizes-solved P s formed truth)) (proper (schemeIn s) (formed .scheme)) small (omega arith)
+          (omega arith)
           k c l all T (omega (arith, room, width-sum n s))
           (record { prefix = childAt (prefixAt s (c .entry)) (slot (c .spacing) i); spacing = split (c .spacing) i })
           (child-fed (entryAt s (c .entry)) (c .spacing) rule f i (omega arith) (omega arith))
@@ -134,4 +135,5 @@ module _ (P : List (List ℕ)) (s : Scheme) (formed : WellFormed P (schemeIn s))
       sums : total (map (λ i. held (countWalked P n s k T) (placeOf (rowsOf (schemeIn s)) n s
           (record { prefix = childAt (prefixAt s (c .entry)) (slot (c .spacing) i); spacing = split (c .spacing) i }))) (row q m)) ≡
           sumFrom (size P) (prefixAt s (c .entry)) (c .spacing) q m
-      sums = ap total (map-same _ (λ i. size P (childAt (prefixAt s (c .entry)) (slot (c .spacing) i)) (split (c .spacing) i)) (row q m) term)
+      sums = ap total (map-same _ (λ i. size P (childAt (prefixAt s (c .entry)) (slot (c .spacing) i)) (split (c .spacing) i))
+          (row q m) term)

@@ -3,9 +3,9 @@
 use Prim.Native.Nat.{ℕ, zero, suc, _+_, _*_, _-_, _≤_, _<_}
 use native.Mathlib.Numerals.{add-one}
 use native.Mathlib.Omega.{arith}
-use mathlib.Core.Path.{_≡_, refl, sym, ap, ap₂, _∙_}
+use mathlib.Core.Path.{_≡_, refl, sym, ap, _∙_}
 use mathlib.Core.Logic.{_⊎_, inl, inr}
-use mathlib.Core.List.{List, [], _∷_, _++_, List·Memᴰ}
+use mathlib.Core.List.{List, [], _∷_, _++_}
 use lib.ListN.{length, getD, set, drop, replicate, length-set, length-drop, length-replicate}
 use lib.Seq.{getD-set-same, getD-set-other, getD-drop, drop-cons, set-at, ext-getD}
 use Rattle.word.specs.Ceilings.{LENGTH, COUNTS}
@@ -23,7 +23,7 @@ use Rattle.count_plan.specs.LayoutLaws.{prefix-length, width-sum}
 use Rattle.count_plan.specs.SheetRows.{Names}
 use Rattle.count_step.specs.Step.{held}
 use Rattle.count_walk.specs.Content.{single}
-use Rattle.count_walk.specs.Cells.{TableCell, cellsOf}
+use Rattle.count_walk.specs.Cells.{cellsOf}
 use Rattle.count_walk.specs.CellLaws.{rows-out}
 use Rattle.count_walk.specs.Walk.{countMakes, countWalked}
 use Rattle.count_walk.specs.WalkLaws.{walked-size, walked-kept, row-value}

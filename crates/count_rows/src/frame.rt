@@ -2,7 +2,6 @@
 use count_plan::places::place_at;
 ghost use mathlib.Core.Path.{_≡_};
 ghost use Prim.Native.Nat.{_-_, _*_, _%_, _≤_};
-ghost use lib.ListN.{getD};
 ghost use Rattle.spacing.specs.Sizes.{NEAR};
 ghost use Rattle.count_rows.specs.Frames.{FrameFits, frameOf};
 

@@ -1,18 +1,18 @@
--- The cells in the order in which they are filled: each cell of the rows is among them, rows come in
--- turn, longer entries first in each; how many there are.
+-- The cells in the order in which they are filled: each cell of the rows is among them, rows come
+-- in turn, longer entries first in each.
 use Prim.Native.Nat.{ℕ, zero, suc, _+_, _-_, _≤_, _<_}
 use native.Mathlib.Omega.{arith}
-use mathlib.Core.Path.{_≡_, refl, sym, ap, ap₂, _∙_, subst}
+use mathlib.Core.Path.{_≡_, refl, sym, ap, _∙_, subst}
 use mathlib.Core.Logic.{_⊎_, inl, inr}
 use mathlib.Core.Bool.{Bool, true, false, cond}
-use mathlib.Core.List.{List, [], _∷_, _++_, map, List·Memᴰ, List·Memᴰ·head, List·Memᴰ·tail, List·Memᴰ·not-nil, List·Memᴰ·cases-cons}
-use mathlib.Core.List.{Memᴰ·map, Memᴰ·of-map, Memᴰ·cast, Memᴰ·append-left, Memᴰ·append-right, List·Memᴰ·append-cases}
-use lib.ListN.{length, length-map, length-append}
-use lib.Dec.{eqb, ltb}
+use mathlib.Core.List.{List, [], _∷_, _++_, List·Memᴰ, List·Memᴰ·head, List·Memᴰ·tail, List·Memᴰ·not-nil, List·Memᴰ·cases-cons}
+use mathlib.Core.List.{Memᴰ·map, Memᴰ·of-map, Memᴰ·append-left, Memᴰ·append-right, List·Memᴰ·append-cases}
+use lib.ListN.{length}
+use lib.Dec.{eqb}
 use borrow.Author.Tests.{eq-eqb, eqb-true}
 use Rattle.word.specs.Ceilings.{PREFIX}
 use Rattle.word.specs.Lists.{each, row}
-use Rattle.word.specs.ListLaws.{true-not-false, below-or-not, same-or-not, each-out, each-in, each-append, row-out, row-in}
+use Rattle.word.specs.ListLaws.{below-or-not, same-or-not, each-out, each-in, each-append, row-out, row-in}
 use Rattle.cell.specs.Cell.{total}
 use Rattle.cell.specs.Binomial.{binomial}
 use Rattle.cell.specs.BinomialLaws.{binomial-above}
@@ -107,7 +107,8 @@ module _ (n : ℕ) (s : Scheme) where
       let l : length (firstVector (lengthAt s d) (j - lengthAt s d)) ≡ suc (lengthAt s d) =
       first-length (lengthAt s d) (j - lengthAt s d) in
       Memᴰ·map (λ (g : List ℕ). record { row = j; entry = d; spacing = g })
-      (spacings-in (binomial j (lengthAt s d)) (firstVector (lengthAt s d) (j - lengthAt s d)) g (lengthAt s d) j l (omega (arith, c .whole))
+      (spacings-in (binomial j (lengthAt s d)) (firstVector (lengthAt s d) (j - lengthAt s d)) g (lengthAt s d) j l (omega
+      (arith, c .whole))
       (c .wide ∙ sym l) (sym t) (omega (arith, first-rank (lengthAt s d) (j - lengthAt s d)))
       (omega (arith, rank-bound g (lengthAt s d) j (c .wide) (c .whole))))
 

@@ -22,7 +22,7 @@ use Rattle.scheme.specs.Proper.{Proper}
 use Rattle.count_step.specs.Step.{spacingsFrom}
 use Rattle.count_plan.specs.Layout.{entryAt, lengthAt}
 use Rattle.count_plan.specs.LayoutLaws.{prefix-length, entry-short}
-use Rattle.count_walk.specs.Cells.{TableCell, entryCells, cellsIf, lengthCells, shorterCells, rowCells, rowsFrom, cellsOf}
+use Rattle.count_walk.specs.Cells.{entryCells, cellsIf, lengthCells, shorterCells, rowCells, rowsFrom, cellsOf}
 use Rattle.count_walk.specs.CellLaws.{spacings-length}
 
 -- sums of two functions, and of zeros

@@ -1,5 +1,5 @@
--- A step reads exactly the places of the cells that feed its cell, so steps at the cells of an entry
--- are a part of the walk.
+-- A step reads exactly the places of the cells that feed its cell, so steps at the cells of an
+-- entry are a part of the walk.
 use Prim.Native.Nat.{ℕ, zero, suc, _+_, _-_, _≤_, _<_}
 use native.Mathlib.Omega.{arith}
 use mathlib.Core.Path.{_≡_, refl, sym, ap, _∙_}
@@ -27,13 +27,13 @@ use Rattle.scheme.proofs.PrefixLaws.{deleted-size}
 use Rattle.verdict.specs.ValueLaws.{position-high}
 use Rattle.count_step.specs.Feed.{Feed, covered, alone, target, children, mapFeed, CellOf, ruleFeed, feedOf, childPlaces, readsOf}
 use Rattle.count_step.specs.Step.{held, addedUp, stepOf, storedAt}
-use Rattle.count_plan.specs.Layout.{entryAt, prefixAt, lengthAt, placeAt, rowsOf, blockOf, HasCell}
+use Rattle.count_plan.specs.Layout.{entryAt, prefixAt, lengthAt, placeAt, blockOf, HasCell}
 use Rattle.count_plan.specs.LayoutLaws.{prefix-length, entry-proper, entry-short}
 use Rattle.count_plan.specs.Cards.{indexOf}
 use Rattle.count_plan.specs.Plan.{LeadsTo, Item, RulePlan, Planned}
 use Rattle.count_walk.specs.Content.{single}
 use Rattle.count_walk.specs.Cells.{cellsAt}
-use Rattle.count_walk.specs.Walk.{placeOf, stepAt, walked, countMakes, countWalked}
+use Rattle.count_walk.specs.Walk.{placeOf, stepAt, walked, countMakes}
 
 -- a content of a content
 map-feed-map : {A B D : Type 0} (f : B → D) (h : A → B) (F : Feed A) → mapFeed f (mapFeed h F) ≡ mapFeed (λ x. f (h x)) F
@@ -47,143 +47,144 @@ map-feed-map f h (children l) = ap children (map-map f h l)
 -- where it deletes that of the row before.
 module _ (rows n : ℕ) (P : List (List ℕ)) (s : Scheme) (proper : Proper (schemeIn s)) (e : ℕ) (t : Item) (planned : Planned n P s e t)
     (j offset : ℕ) (here : t .deleted ≡ 0 → offset ≡ blockOf rows n s j) (back : (t .deleted ≡ 0 → ⊥) → offset ≡ blockOf rows n s (j - 1))
-    where
-  abbrev links : List ℕ
-  links = map (λ x. offset + x) (t .links)
+  where
+    abbrev links : List ℕ
+    links = map (λ x. offset + x) (t .links)
 
-  link : (a : ℕ) → a < LINKS → getD (map (λ x. offset + x) (t .links)) a 0 ≡ offset + getD (t .links) a 0
-  link a h = getD-map (λ x. offset + x) (t .links) a (omega (arith, planned .long))
+    link : (a : ℕ) → a < LINKS → getD (map (λ x. offset + x) (t .links)) a 0 ≡ offset + getD (t .links) a 0
+    link a h = getD-map (λ x. offset + x) (t .links) a (omega (arith, planned .long))
 
-  module _ (g : List ℕ) (c : HasCell n s j e g) where
-    size : length (prefixAt s e) ≡ lengthAt s e
-    size = prefix-length s e
+    module _ (g : List ℕ) (c : HasCell n s j e g) where
+      size : length (prefixAt s e) ≡ lengthAt s e
+      size = prefix-length s e
 
-    child-place : t .deleted ≡ 0 →
-        ((a : ℕ) → a ≤ length (prefixAt s e) → LeadsTo n s (childAt (prefixAt s e) (suc a)) (getD (t .links) a 0)) →
-        (q : ℕ) → 1 ≤ q → q ≤ total g → getD (map (λ x. offset + x) (t .links)) (slot g q - 1) 0 + rankOf (split g q) ≡
-        placeOf rows n s (record { prefix = childAt (prefixAt s e) (slot g q); spacing = split g q })
-    child-place zero-is leads q low high =
-        let (a, b) = slot-bounds g q low high in
-        let l = leads (slot g q - 1) (omega (arith, size, c .wide)) in
-        let o : suc (slot g q - 1) ≡ slot g q = omega arith in
-        let row : length (childAt (prefixAt s e) (slot g q)) + total (split g q) ≡ j =
-        omega (arith, child-length (prefixAt s e) (slot g q), split-total g q low high, size, c .whole) in
-        let place : getD (t .links) (slot g q - 1) 0 ≡ placeAt n s (indexOf s (childAt (prefixAt s e) (slot g q))) =
-        l .placed ∙ ap (λ x. placeAt n s (indexOf s (childAt (prefixAt s e) x))) o in
-        let short = entry-short s proper (indexOf s (childAt (prefixAt s e) (suc (slot g q - 1)))) (l .inside) in
-        let len : lengthAt s (indexOf s (childAt (prefixAt s e) (suc (slot g q - 1)))) ≡ suc (lengthAt s e) =
-        sym (prefix-length s (indexOf s (childAt (prefixAt s e) (suc (slot g q - 1))))) ∙ ap length (l .named) ∙
-        child-length (prefixAt s e) (suc (slot g q - 1)) ∙ ap suc size in
-        omega (
-          arith,
-          link (slot g q - 1) (omega (arith, c .wide)),
-          place,
-          here zero-is,
-          ap (blockOf rows n s) row,
-        )
+      child-place : t .deleted ≡ 0 →
+          ((a : ℕ) → a ≤ length (prefixAt s e) → LeadsTo n s (childAt (prefixAt s e) (suc a)) (getD (t .links) a 0)) →
+          (q : ℕ) → 1 ≤ q → q ≤ total g → getD (map (λ x. offset + x) (t .links)) (slot g q - 1) 0 + rankOf (split g q) ≡
+          placeOf rows n s (record { prefix = childAt (prefixAt s e) (slot g q); spacing = split g q })
+      child-place zero-is leads q low high =
+          let (a, b) = slot-bounds g q low high in
+          let l = leads (slot g q - 1) (omega (arith, size, c .wide)) in
+          let o : suc (slot g q - 1) ≡ slot g q = omega arith in
+          let row : length (childAt (prefixAt s e) (slot g q)) + total (split g q) ≡ j =
+          omega (arith, child-length (prefixAt s e) (slot g q), split-total g q low high, size, c .whole) in
+          let place : getD (t .links) (slot g q - 1) 0 ≡ placeAt n s (indexOf s (childAt (prefixAt s e) (slot g q))) =
+          l .placed ∙ ap (λ x. placeAt n s (indexOf s (childAt (prefixAt s e) x))) o in
+          let short = entry-short s proper (indexOf s (childAt (prefixAt s e) (suc (slot g q - 1)))) (l .inside) in
+          let len : lengthAt s (indexOf s (childAt (prefixAt s e) (suc (slot g q - 1)))) ≡ suc (lengthAt s e) =
+          sym (prefix-length s (indexOf s (childAt (prefixAt s e) (suc (slot g q - 1))))) ∙ ap length (l .named) ∙
+          child-length (prefixAt s e) (suc (slot g q - 1)) ∙ ap suc size in
+          omega (
+            arith,
+            link (slot g q - 1) (omega (arith, c .wide)),
+            place,
+            here zero-is,
+            ap (blockOf rows n s) row,
+          )
 
-    target-place : (r : ℕ) → (entryAt s e) .rule ≡ deletes (suc r) → t .deleted ≡ entry (prefixAt s e) (suc r) →
-        1 ≤ entry (prefixAt s e) (suc r) → LeadsTo n s (deleted (suc r ∷ []) (prefixAt s e)) (getD (t .links) 0 0) →
-        getD (map (λ x. offset + x) (t .links)) 0 0 + rankOf (mergeValues (t .deleted ∷ []) g) ≡
-        placeOf rows n s (record { prefix = deleted (suc r ∷ []) (prefixAt s e); spacing = merged (suc r ∷ []) (prefixAt s e) g })
-    unfolding merged
-    target-place r rule value low l =
-        let perm = entry-proper s proper e (c .inside) .perm in
-        let o : outside (length (prefixAt s e)) (deletes (suc r)) ≡ false = ap (outside (length (prefixAt s e))) (sym rule) ∙
-        entry-proper s proper e (c .inside) .inside in
-        let cut = deleted-size r (prefixAt s e) perm (position-high (length (prefixAt s e)) (suc r) o) in
-        let row : length (deleted (suc r ∷ []) (prefixAt s e)) + total (merged (suc r ∷ []) (prefixAt s e) g) ≡ j - 1 =
-        omega (arith, cut, merged-total (suc r ∷ []) (prefixAt s e) g, size, c .whole) in
-        let m : rankOf (mergeValues (t .deleted ∷ []) g) ≡ rankOf (merged (suc r ∷ []) (prefixAt s e) g) =
-        ap (λ (x : ℕ). rankOf (mergeValues (x ∷ []) g)) value in
-        omega (
-          arith,
-          link 0 (omega arith),
-          l .placed,
-          m,
-          back (λ (z : t .deleted ≡ 0). omega arith),
-          ap (blockOf rows n s) row,
-        )
+      target-place : (r : ℕ) → (entryAt s e) .rule ≡ deletes (suc r) → t .deleted ≡ entry (prefixAt s e) (suc r) →
+          1 ≤ entry (prefixAt s e) (suc r) → LeadsTo n s (deleted (suc r ∷ []) (prefixAt s e)) (getD (t .links) 0 0) →
+          getD (map (λ x. offset + x) (t .links)) 0 0 + rankOf (mergeValues (t .deleted ∷ []) g) ≡
+          placeOf rows n s (record { prefix = deleted (suc r ∷ []) (prefixAt s e); spacing = merged (suc r ∷ []) (prefixAt s e) g })
+      unfolding merged
+      target-place r rule value low l =
+          let perm = entry-proper s proper e (c .inside) .perm in
+          let o : outside (length (prefixAt s e)) (deletes (suc r)) ≡ false = ap (outside (length (prefixAt s e))) (sym rule) ∙
+          entry-proper s proper e (c .inside) .inside in
+          let cut = deleted-size r (prefixAt s e) perm (position-high (length (prefixAt s e)) (suc r) o) in
+          let row : length (deleted (suc r ∷ []) (prefixAt s e)) + total (merged (suc r ∷ []) (prefixAt s e) g) ≡ j - 1 =
+          omega (arith, cut, merged-total (suc r ∷ []) (prefixAt s e) g, size, c .whole) in
+          let m : rankOf (mergeValues (t .deleted ∷ []) g) ≡ rankOf (merged (suc r ∷ []) (prefixAt s e) g) =
+          ap (λ (x : ℕ). rankOf (mergeValues (x ∷ []) g)) value in
+          omega (
+            arith,
+            link 0 (omega arith),
+            l .placed,
+            m,
+            back (λ (z : t .deleted ≡ 0). omega arith),
+            ap (blockOf rows n s) row,
+          )
 
-    -- where no gap vector covers the spacing
-    rule-reads : (rule : Does) → (entryAt s e) .rule ≡ rule → RulePlan n P s (prefixAt s e) rule t →
-        cond (eqb (t .deleted) 0) (cond (eqb (total g) 0) alone (children (childPlaces (map (λ x. offset + x) (t .links)) g)))
-        (target (getD (map (λ x. offset + x) (t .links)) 0 0 + rankOf (mergeValues (t .deleted ∷ []) g))) ≡
-        mapFeed (placeOf rows n s) (ruleFeed (prefixAt s e) g rule)
-    rule-reads expands r (zero-is, alone-is, leads) =
-        ap (λ b. cond b (cond (eqb (total g) 0) alone (children (childPlaces (map (λ x. offset + x) (t .links)) g)))
-        (target (getD (map (λ x. offset + x) (t .links)) 0 0 + rankOf (mergeValues (t .deleted ∷ []) g)))) (eq-eqb (t .deleted) 0 zero-is) ∙
-        go (eqb (total g) 0)
-      where
-        go : (b : Bool) → cond b alone (children (childPlaces (map (λ x. offset + x) (t .links)) g)) ≡
-            mapFeed (placeOf rows n s) (cond b alone (children (map
-            (λ q. record { prefix = childAt (prefixAt s e) (slot g q); spacing = split g q }) (oneTo (total g)))))
-        go true = refl
-        go false =
-            ap children (map-same (λ q. getD (map (λ x. offset + x) (t .links)) (slot g q - 1) 0 + rankOf (split g q))
-            (λ q. placeOf rows n s (record { prefix = childAt (prefixAt s e) (slot g q); spacing = split g q })) (oneTo (total g))
-            (λ q m. let (low, high) = row-out 1 (total g) m in child-place zero-is leads q low (omega arith)) ∙
-            sym (map-map (placeOf rows n s) (λ (q : ℕ). record { prefix = childAt (prefixAt s e) (slot g q); spacing = split g q })
-            (oneTo (total g))))
-    rule-reads (deletes zero) r plan =
-        absurd (true-not-false (ap (outside (length (prefixAt s e))) (sym r) ∙ entry-proper s proper e (c .inside) .inside))
-    rule-reads (deletes (suc r)) q (value, low, leads) =
-        ap (λ b. cond b (cond (eqb (total g) 0) alone (children (childPlaces (map (λ x. offset + x) (t .links)) g)))
-        (target (getD (map (λ x. offset + x) (t .links)) 0 0 + rankOf (mergeValues (t .deleted ∷ []) g))))
-        (ne-eqb (t .deleted) 0 (λ (z : t .deleted ≡ 0). omega arith)) ∙
-        ap target (target-place r q value low leads)
+      -- where no gap vector covers the spacing
+      rule-reads : (rule : Does) → (entryAt s e) .rule ≡ rule → RulePlan n P s (prefixAt s e) rule t →
+          cond (eqb (t .deleted) 0) (cond (eqb (total g) 0) alone (children (childPlaces (map (λ x. offset + x) (t .links)) g)))
+          (target (getD (map (λ x. offset + x) (t .links)) 0 0 + rankOf (mergeValues (t .deleted ∷ []) g))) ≡
+          mapFeed (placeOf rows n s) (ruleFeed (prefixAt s e) g rule)
+      rule-reads expands r (zero-is, alone-is, leads) =
+          ap (λ b. cond b (cond (eqb (total g) 0) alone (children (childPlaces (map (λ x. offset + x) (t .links)) g)))
+          (target (getD (map (λ x. offset + x) (t .links)) 0 0 + rankOf (mergeValues (t .deleted ∷ []) g)))) (eq-eqb
+          (t .deleted) 0 zero-is) ∙
+          go (eqb (total g) 0)
+        where
+          go : (b : Bool) → cond b alone (children (childPlaces (map (λ x. offset + x) (t .links)) g)) ≡
+              mapFeed (placeOf rows n s) (cond b alone (children (map
+              (λ q. record { prefix = childAt (prefixAt s e) (slot g q); spacing = split g q }) (oneTo (total g)))))
+          go true = refl
+          go false =
+              ap children (map-same (λ q. getD (map (λ x. offset + x) (t .links)) (slot g q - 1) 0 + rankOf (split g q))
+              (λ q. placeOf rows n s (record { prefix = childAt (prefixAt s e) (slot g q); spacing = split g q })) (oneTo (total g))
+              (λ q m. let (low, high) = row-out 1 (total g) m in child-place zero-is leads q low (omega arith)) ∙
+              sym (map-map (placeOf rows n s) (λ (q : ℕ). record { prefix = childAt (prefixAt s e) (slot g q); spacing = split g q })
+              (oneTo (total g))))
+      rule-reads (deletes zero) r plan =
+          absurd (true-not-false (ap (outside (length (prefixAt s e))) (sym r) ∙ entry-proper s proper e (c .inside) .inside))
+      rule-reads (deletes (suc r)) q (value, low, leads) =
+          ap (λ b. cond b (cond (eqb (total g) 0) alone (children (childPlaces (map (λ x. offset + x) (t .links)) g)))
+          (target (getD (map (λ x. offset + x) (t .links)) 0 0 + rankOf (mergeValues (t .deleted ∷ []) g))))
+          (ne-eqb (t .deleted) 0 (λ (z : t .deleted ≡ 0). omega arith)) ∙
+          ap target (target-place r q value low leads)
 
-    -- a step reads exactly the places of the cells that feed its cell
-    pub step-reads : readsOf (t .gaps) (t .deleted) (map (λ x. offset + x) (t .links)) g ≡
-        mapFeed (placeOf rows n s) (feedOf (entryAt s e) g)
-    unfolding readsOf feedOf
-    step-reads =
-        ap (λ (B : List (List ℕ)). readsOf B (t .deleted) (map (λ x. offset + x) (t .links)) g) (planned .gaps) ∙
-        go (free ((entryAt s e) .gaps) g) (rule-reads ((entryAt s e) .rule) refl (planned .rule))
-      where
-        go : (b : Bool) →
-            cond (eqb (t .deleted) 0) (cond (eqb (total g) 0) alone (children (childPlaces (map (λ x. offset + x) (t .links)) g)))
-            (target (getD (map (λ x. offset + x) (t .links)) 0 0 + rankOf (mergeValues (t .deleted ∷ []) g))) ≡
-            mapFeed (placeOf rows n s) (ruleFeed (prefixAt s e) g ((entryAt s e) .rule)) →
-            cond b (cond (eqb (t .deleted) 0) (cond (eqb (total g) 0) alone (children (childPlaces (map (λ x. offset + x) (t .links)) g)))
-            (target (getD (map (λ x. offset + x) (t .links)) 0 0 + rankOf (mergeValues (t .deleted ∷ []) g)))) covered ≡
-            mapFeed (placeOf rows n s) (cond b (ruleFeed (prefixAt s e) g ((entryAt s e) .rule)) covered)
-        go true q = q
-        go false q = refl
+      -- a step reads exactly the places of the cells that feed its cell
+      pub step-reads : readsOf (t .gaps) (t .deleted) (map (λ x. offset + x) (t .links)) g ≡
+          mapFeed (placeOf rows n s) (feedOf (entryAt s e) g)
+      unfolding readsOf feedOf
+      step-reads =
+          ap (λ (B : List (List ℕ)). readsOf B (t .deleted) (map (λ x. offset + x) (t .links)) g) (planned .gaps) ∙
+          go (free ((entryAt s e) .gaps) g) (rule-reads ((entryAt s e) .rule) refl (planned .rule))
+        where
+          go : (b : Bool) →
+              cond (eqb (t .deleted) 0) (cond (eqb (total g) 0) alone (children (childPlaces (map (λ x. offset + x) (t .links)) g)))
+              (target (getD (map (λ x. offset + x) (t .links)) 0 0 + rankOf (mergeValues (t .deleted ∷ []) g))) ≡
+              mapFeed (placeOf rows n s) (ruleFeed (prefixAt s e) g ((entryAt s e) .rule)) →
+              cond b (cond (eqb (t .deleted) 0) (cond (eqb (total g) 0) alone (children (childPlaces (map (λ x. offset + x) (t .links)) g)))
+              (target (getD (map (λ x. offset + x) (t .links)) 0 0 + rankOf (mergeValues (t .deleted ∷ []) g)))) covered ≡
+              mapFeed (placeOf rows n s) (cond b (ruleFeed (prefixAt s e) g ((entryAt s e) .rule)) covered)
+          go true q = q
+          go false q = refl
 
-    -- the value with nothing after the prefix is asked for where the entry expands
-    adds-alone : (f : CellOf → ℕ) → addedUp (t .alone) (mapFeed f (feedOf (entryAt s e) g)) ≡
-        countMakes P (entryAt s e) g (mapFeed f (feedOf (entryAt s e) g))
-    unfolding feedOf
-    adds-alone f = go (free ((entryAt s e) .gaps) g) ((entryAt s e) .rule) (planned .rule)
-      where
-        go : (b : Bool) (rule : Does) → RulePlan n P s (prefixAt s e) rule t →
-            addedUp (t .alone) (mapFeed f (cond b (ruleFeed (prefixAt s e) g rule) covered)) ≡
-            addedUp (cond (avoids P (prefixAt s e)) 1 0) (mapFeed f (cond b (ruleFeed (prefixAt s e) g rule) covered))
-        go false rule plan = refl
-        go true expands (zero-is, alone-is, leads) =
-            ap (λ x. addedUp x (mapFeed f (ruleFeed (prefixAt s e) g expands))) alone-is
-        go true (deletes r) plan = refl
+      -- the value with nothing after the prefix is asked for where the entry expands
+      adds-alone : (f : CellOf → ℕ) → addedUp (t .alone) (mapFeed f (feedOf (entryAt s e) g)) ≡
+          countMakes P (entryAt s e) g (mapFeed f (feedOf (entryAt s e) g))
+      unfolding feedOf
+      adds-alone f = go (free ((entryAt s e) .gaps) g) ((entryAt s e) .rule) (planned .rule)
+        where
+          go : (b : Bool) (rule : Does) → RulePlan n P s (prefixAt s e) rule t →
+              addedUp (t .alone) (mapFeed f (cond b (ruleFeed (prefixAt s e) g rule) covered)) ≡
+              addedUp (cond (avoids P (prefixAt s e)) 1 0) (mapFeed f (cond b (ruleFeed (prefixAt s e) g rule) covered))
+          go false rule plan = refl
+          go true expands (zero-is, alone-is, leads) =
+              ap (λ x. addedUp x (mapFeed f (ruleFeed (prefixAt s e) g expands))) alone-is
+          go true (deletes r) plan = refl
 
-    -- so the step is the walk's step at the cell
-    pub step-is : (T : List ℕ) → stepOf T (t .gaps) (t .deleted) (t .alone) (map (λ x. offset + x) (t .links)) g ≡
-        stepAt single (countMakes P) rows n s (record { row = j; entry = e; spacing = g }) T
-    step-is T =
-        ap (λ (F : Feed ℕ). addedUp (t .alone) (mapFeed (held T) F)) step-reads ∙
-        ap (addedUp (t .alone)) (map-feed-map (held T) (placeOf rows n s) (feedOf (entryAt s e) g)) ∙
-        adds-alone (λ f. held T (placeOf rows n s f))
+      -- so the step is the walk's step at the cell
+      pub step-is : (T : List ℕ) → stepOf T (t .gaps) (t .deleted) (t .alone) (map (λ x. offset + x) (t .links)) g ≡
+          stepAt single (countMakes P) rows n s (record { row = j; entry = e; spacing = g }) T
+      step-is T =
+          ap (λ (F : Feed ℕ). addedUp (t .alone) (mapFeed (held T) F)) step-reads ∙
+          ap (addedUp (t .alone)) (map-feed-map (held T) (placeOf rows n s) (feedOf (entryAt s e) g)) ∙
+          adds-alone (λ f. held T (placeOf rows n s f))
 
-  -- steps at some spacings of the entry, in turn
-  pub stored-walked : (at : ℕ) → at ≡ blockOf rows n s j + placeAt n s e → (gs : List (List ℕ)) →
-      ((g : List ℕ) → List·Memᴰ g gs → HasCell n s j e g) → (T : List ℕ) →
-      storedAt (λ T g. stepOf T (t .gaps) (t .deleted) (t .alone) (map (λ x. offset + x) (t .links)) g) at gs T ≡
-      walked single (countMakes P) rows n s (cellsAt j e gs) T
-  unfolding storedAt walked
-  stored-walked at is [] has T = refl
-  stored-walked at is (g ∷ gs) has T =
-      ap (storedAt (λ T g. stepOf T (t .gaps) (t .deleted) (t .alone) (map (λ x. offset + x) (t .links)) g) at gs)
-      (ap (λ x. set T (at + rankOf g) x) (step-is g (has g (List·Memᴰ·head refl)) T) ∙
-      ap (λ m. set T (m + rankOf g) (stepAt single (countMakes P) rows n s (record { row = j; entry = e; spacing = g }) T)) is) ∙
-      stored-walked at is gs (λ h m. has h (List·Memᴰ·tail m))
-      (set T (blockOf rows n s j + placeAt n s e + rankOf g)
-      (stepAt single (countMakes P) rows n s (record { row = j; entry = e; spacing = g }) T))
+    -- steps at some spacings of the entry, in turn
+    pub stored-walked : (at : ℕ) → at ≡ blockOf rows n s j + placeAt n s e → (gs : List (List ℕ)) →
+        ((g : List ℕ) → List·Memᴰ g gs → HasCell n s j e g) → (T : List ℕ) →
+        storedAt (λ T g. stepOf T (t .gaps) (t .deleted) (t .alone) (map (λ x. offset + x) (t .links)) g) at gs T ≡
+        walked single (countMakes P) rows n s (cellsAt j e gs) T
+    unfolding storedAt walked
+    stored-walked at is [] has T = refl
+    stored-walked at is (g ∷ gs) has T =
+        ap (storedAt (λ T g. stepOf T (t .gaps) (t .deleted) (t .alone) (map (λ x. offset + x) (t .links)) g) at gs)
+        (ap (λ x. set T (at + rankOf g) x) (step-is g (has g (List·Memᴰ·head refl)) T) ∙
+        ap (λ m. set T (m + rankOf g) (stepAt single (countMakes P) rows n s (record { row = j; entry = e; spacing = g }) T)) is) ∙
+        stored-walked at is gs (λ h m. has h (List·Memᴰ·tail m))
+        (set T (blockOf rows n s j + placeAt n s e + rankOf g)
+        (stepAt single (countMakes P) rows n s (record { row = j; entry = e; spacing = g }) T))

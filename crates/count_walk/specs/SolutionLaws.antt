@@ -1,10 +1,11 @@
--- Counting as a walk: one number a cell, and the sizes of cells as the values of an accepted scheme.
+-- Counting as a walk: one number a cell, and the sizes of cells as the values of an accepted
+-- scheme.
 use Prim.Native.Nat.{ℕ, suc, _+_, _*_, _≤_, _<_}
 use native.Mathlib.Omega.{arith}
 use mathlib.Core.Path.{_≡_, refl, sym, ap, _∙_}
 use mathlib.Core.Logic.{_⊎_, inl, inr}
 use mathlib.Core.Bool.{Bool, true, false, cond}
-use mathlib.Core.List.{List, _∷_, [], map, map-map}
+use mathlib.Core.List.{List, map, map-map}
 use mathlib.Core.Option.{some}
 use lib.ListN.{length, length-set}
 use lib.Seq.{getD-set-same, getD-set-other}
@@ -24,7 +25,7 @@ use Rattle.verdict.specs.ValueLaws.{size-fits, entry-solves}
 use Rattle.count_step.specs.Feed.{CellOf, covered, alone, children, mapFeed, ruleFeed, feedOf}
 use Rattle.count_step.specs.Step.{LARGEST, addedUp}
 use Rattle.count_step.specs.StepLaws.{below-cap}
-use Rattle.count_plan.specs.Layout.{entryAt, prefixAt, lengthAt}
+use Rattle.count_plan.specs.Layout.{entryAt, prefixAt}
 use Rattle.count_plan.specs.LayoutLaws.{prefix-length, entry-member}
 use Rattle.count_walk.specs.Content.{Sound, single}
 use Rattle.count_walk.specs.Walk.{countMakes, Solution}
@@ -65,7 +66,8 @@ value-fed v P e g small = go (free (e .gaps) g) (e .rule) small
 
     go : (b : Bool) (rule : Does) → cond b (ruleValue v P (e .prefix) g rule) 0 ≤ LARGEST →
         cond b (ruleValue v P (e .prefix) g rule) 0 ≡
-        addedUp (cond (avoids P (e .prefix)) 1 0) (mapFeed (λ (f : CellOf). v (f .prefix) (f .spacing)) (cond b (ruleFeed (e .prefix) g rule) covered))
+        addedUp (cond (avoids P (e .prefix)) 1 0) (mapFeed (λ (f : CellOf). v (f .prefix) (f .spacing)) (cond b (ruleFeed
+        (e .prefix) g rule) covered))
     go false rule h = refl
     go true expands h = summed (eqb (total g) 0) h
     go true (deletes r) h = refl

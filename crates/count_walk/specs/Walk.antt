@@ -13,7 +13,7 @@ use Rattle.forms.specs.SchemeMemory.{schemeIn}
 use Rattle.forms.specs.declared.memory.Scheme.{Scheme}
 use Rattle.count_step.specs.Feed.{Feed, CellOf, mapFeed, feedOf}
 use Rattle.count_step.specs.Step.{addedUp}
-use Rattle.count_plan.specs.Layout.{entryAt, prefixAt, lengthAt, rowsOf, cellAt, HasCell}
+use Rattle.count_plan.specs.Layout.{entryAt, prefixAt, lengthAt, rowsOf, cellAt}
 use Rattle.count_plan.specs.Cards.{indexOf}
 use Rattle.count_walk.specs.Content.{Content, single}
 use Rattle.count_walk.specs.Cells.{TableCell}

@@ -1,6 +1,6 @@
 -- Filling the cells one after the other leaves in each its value, as long as its row is kept:
 -- whatever a cell holds, and however many rows are kept.
-use Prim.Native.Nat.{ℕ, zero, suc, _+_, _*_, _-_, _≤_, _<_}
+use Prim.Native.Nat.{ℕ, suc, _+_, _*_, _-_, _≤_, _<_}
 use native.Mathlib.Omega.{arith}
 use mathlib.Core.Path.{_≡_, refl, sym, ap, ap₂, _∙_, subst}
 use mathlib.Core.Logic.{_⊎_, inl, inr}
@@ -13,7 +13,7 @@ use Rattle.cell.specs.Cell.{total}
 use Rattle.forms.specs.SchemeMemory.{schemeIn}
 use Rattle.forms.specs.declared.memory.Scheme.{Scheme}
 use Rattle.scheme.specs.Proper.{Proper}
-use Rattle.count_step.specs.Feed.{CellOf, mapFeed, fed, feedOf}
+use Rattle.count_step.specs.Feed.{CellOf, fed, feedOf}
 use Rattle.count_plan.specs.Layout.{entryAt, prefixAt, lengthAt, widthOf, rowsOf, cellAt, numberAt, HasCell}
 use Rattle.count_plan.specs.ApartLaws.{cell-inside, cells-apart, numbers-apart}
 use Rattle.count_plan.specs.Cards.{indexOf}
@@ -97,7 +97,8 @@ module _ {A : Type 0} (C : Content A) (sound : Sound C) (make : Makes A) (rows n
       pub step-value : stepAt C make rows n s c T ≡ v (prefixAt s (c .entry)) (c .spacing)
       step-value =
           ap (make (entryAt s (c .entry)) (c .spacing))
-          (map-feed-same (λ f. C .holds T (placeOf rows n s f)) (λ f. v (f .prefix) (f .spacing)) (feedOf (entryAt s (c .entry)) (c .spacing))
+          (map-feed-same (λ f. C .holds T (placeOf rows n s f)) (λ f. v (f .prefix) (f .spacing)) (feedOf (entryAt s (c .entry))
+          (c .spacing))
           agree) ∙
           sym (solves .makes (c .entry) (has .inside) (c .spacing) (has .wide) reach)
 

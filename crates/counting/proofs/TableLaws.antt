@@ -2,10 +2,10 @@
 -- Assumes nothing.
 use Prim.Native.Nat.{ℕ, suc, _*_, _≤_}
 use native.Mathlib.Omega.{arith}
-use mathlib.Core.Path.{_≡_, refl, sym, ap, ap₂, _∙_, subst}
+use mathlib.Core.Path.{_≡_, sym, ap, ap₂, _∙_, subst}
 use mathlib.Core.Bool.{false}
 use mathlib.Core.List.{List, []}
-use lib.ListN.{length, getD}
+use lib.ListN.{length}
 use Rattle.word.specs.Ceilings.{LENGTH}
 use Rattle.forms.specs.SchemeMemory.{patternsIn, schemeIn, faulty}
 use Rattle.forms.specs.declared.memory.Patterns.{Patterns}
@@ -43,8 +43,10 @@ module _ (n : ℕ) (s : Scheme) (places : List ℕ) (p : Places n s places) (f :
 
 -- A count in that layout
 
-pub given-of : (patterns : Patterns) (s : Scheme) (n cells : ℕ) (m : Measure) (T : List ℕ) → Measured s n cells m → faulty (m .fault) ≡ false →
-    WellFormed (patternsIn patterns) (schemeIn s) → AllTrue (patternsIn patterns) (schemeIn s) → n ≤ LENGTH → needOf n (schemeIn s) ≤ length T →
+pub given-of : (patterns : Patterns) (s : Scheme) (n cells : ℕ) (m : Measure) (T : List ℕ) → Measured s n cells m →
+    faulty (m .fault) ≡ false →
+    WellFormed (patternsIn patterns) (schemeIn s) → AllTrue (patternsIn patterns) (schemeIn s) → n ≤ LENGTH → needOf n
+    (schemeIn s) ≤ length T →
     TableGiven patterns s m T
 given-of patterns s n cells m T w clean formed truth small room =
     let last : n ≡ m .frame .last = sym (ap (λ (x : Frame). x .last) (w .framed clean)) in

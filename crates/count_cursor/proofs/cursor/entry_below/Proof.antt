@@ -3,7 +3,7 @@
 use native.Mathlib.Omega.{arith}
 use Prim.Native.Nat.{_+_, _-_, _≤_}
 use mathlib.Core.Path.{_≡_, subst}
-use Rattle.count_cursor.specs.Cursor.{Listed, FirstBelow}
+use Rattle.count_cursor.specs.Cursor.{Listed}
 use Rattle.count_cursor.proofs.FindLaws.{NoneBetween, between-start, between-more, below-here, below-end}
 use borrow.Author.Needs.{needs}
 use Rattle.count_cursor.proofs.cursor.entry_below.Statement.{statement}
@@ -23,9 +23,9 @@ returns c =
     let a = c .before .before .before .before .before .args in
     let l = c .before .before .before .loop in
     λ o.
-        let up : l .l ≡ l .l - 1 + 1 = omega arith in
-        below-here (o .of .s) (a .k) (l .l - 1) (c .before .entry-from .result) (c .before .entry-from .ensures o) (omega (arith, o .counted))
-        (omega arith) (subst (λ m. NoneBetween (o .of .s) m (a .k)) up (l .inv .1 o))
+    let up : l .l ≡ l .l - 1 + 1 = omega arith in
+    below-here (o .of .s) (a .k) (l .l - 1) (c .before .entry-from .result) (c .before .entry-from .ensures o) (omega (arith, o .counted))
+    (omega arith) (subst (λ m. NoneBetween (o .of .s) m (a .k)) up (l .inv .1 o))
 
 loop-again : tie.Need-loop-again Inv-loop μ-loop
 loop-again c =
@@ -43,8 +43,8 @@ returns-2 c =
     let a = c .before .before .before .args in
     let l = c .before .loop in
     λ o.
-        let z : l .l ≡ 0 = omega arith in
-        rw (o .counted) (below-end (o .of .s) (a .k) (subst (λ m. NoneBetween (o .of .s) m (a .k)) z (l .inv .1 o)))
+    let z : l .l ≡ 0 = omega arith in
+    rw (o .counted) (below-end (o .of .s) (a .k) (subst (λ m. NoneBetween (o .of .s) m (a .k)) z (l .inv .1 o)))
 
 pub entry-below-spec : {M : Type 1} → statement M
 entry-below-spec =

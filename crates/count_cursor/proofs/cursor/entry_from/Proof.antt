@@ -1,9 +1,8 @@
 -- `count_cursor::cursor::entry_from` meets its contract.
 -- Assumes nothing.
-use denote.Ref.{now}
 use native.Mathlib.Omega.{arith}
 use Prim.Native.Nat.{_-_, _≤_, _<_}
-use mathlib.Core.Path.{_≡_, sym, _∙_}
+use mathlib.Core.Path.{sym, _∙_}
 use Rattle.count_plan.specs.LayoutLaws.{count-few}
 use Rattle.count_cursor.specs.Cursor.{Listed}
 use Rattle.count_cursor.proofs.FindLaws.{NoneFrom, none-start, none-more}
@@ -33,13 +32,13 @@ returns c =
     let start = c .before .before .before .before .before in
     let l = c .before .before .before .loop in
     λ o.
-        let inside : l .e < o .of .s .count = omega (arith, o .counted) in
-        record {
-          low = l .inv .0;
-          high = omega arith;
-          none = l .inv .2 o;
-          here = λ h. sym (o .of .rows (l .e) inside .size) ∙ sym (c .before .field .ensures) ∙ c .if1 .taken;
-        }
+    let inside : l .e < o .of .s .count = omega (arith, o .counted) in
+    record {
+      low = l .inv .0;
+      high = omega arith;
+      none = l .inv .2 o;
+      here = λ h. sym (o .of .rows (l .e) inside .size) ∙ sym (c .before .field .ensures) ∙ c .if1 .taken;
+    }
 
 loop-again : tie.Need-loop-again Inv-loop μ-loop
 loop-again c =
@@ -58,12 +57,12 @@ returns-2 : tie.Need-returns-2 Inv-loop μ-loop
 returns-2 c =
     let l = c .before .loop in
     λ o.
-        record {
-          low = omega arith;
-          high = omega (arith, o .counted);
-          none = λ d low high. l .inv .2 o d low (omega arith);
-          here = λ h. absurd (omega (arith, o .counted));
-        }
+    record {
+      low = omega arith;
+      high = omega (arith, o .counted);
+      none = λ d low high. l .inv .2 o d low (omega arith);
+      here = λ h. absurd (omega (arith, o .counted));
+    }
 
 pub entry-from-spec : {M : Type 1} → statement M
 entry-from-spec =

@@ -1,8 +1,7 @@
 -- `count_cursor::cursor::entry_start` meets its contract.
 -- Assumes nothing.
-use denote.Ref.{now}
 use Prim.Native.Nat.{_+_, _-_}
-use mathlib.Core.Path.{_≡_, refl, sym, ap, _∙_}
+use mathlib.Core.Path.{refl, sym, ap, _∙_}
 use lib.ListN.{take}
 use Rattle.spacing.specs.Following.{firstVector}
 use borrow.Author.Needs.{needs}

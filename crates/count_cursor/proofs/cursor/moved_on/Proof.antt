@@ -83,12 +83,12 @@ returns c =
     let start = at-field .before .before .before in
     let a = start .args in
     λ q.
-        let k = size (now (a .sheet)) (a .entries) (a .c) q (at-field .field .result) (at-field .field .ensures) in
-        let n : at-choose .choose .result ≡ binomial (a .c .row) (lengthAt (q .listed .of .s) (a .c .entry)) =
-        at-choose .choose .ensures ∙ ap (binomial (a .c .row)) k in
-        moves-on (q .listed .of .s) (a .c) (q .at) (omega (arith, n)) _ refl refl refl
-        (ap (λ m. take (m + 1) (c .before .next-cell .result)) (sym k) ∙ c .before .next-cell .ensures ∙
-        ap (λ m. nextOf (take (m + 1) (a .c .spacing))) k)
+    let k = size (now (a .sheet)) (a .entries) (a .c) q (at-field .field .result) (at-field .field .ensures) in
+    let n : at-choose .choose .result ≡ binomial (a .c .row) (lengthAt (q .listed .of .s) (a .c .entry)) =
+    at-choose .choose .ensures ∙ ap (binomial (a .c .row)) k in
+    moves-on (q .listed .of .s) (a .c) (q .at) (omega (arith, n)) _ refl refl refl
+    (ap (λ m. take (m + 1) (c .before .next-cell .result)) (sym k) ∙ c .before .next-cell .ensures ∙
+    ap (λ m. nextOf (take (m + 1) (a .c .spacing))) k)
 
 returns-2 : tie.Need-returns-2
 returns-2 c =
@@ -97,10 +97,10 @@ returns-2 c =
     let start = at-field .before .before .before in
     let a = start .args in
     λ q.
-        let k = size (now (a .sheet)) (a .entries) (a .c) q (at-field .field .result) (at-field .field .ensures) in
-        let n : at-choose .choose .result ≡ binomial (a .c .row) (lengthAt (q .listed .of .s) (a .c .entry)) =
-        at-choose .choose .ensures ∙ ap (binomial (a .c .row)) k in
-        moves-entry (q .listed .of .s) (a .c) (q .at) (omega (arith, n)) (c .next-entry .result) (c .next-entry .ensures q)
+    let k = size (now (a .sheet)) (a .entries) (a .c) q (at-field .field .result) (at-field .field .ensures) in
+    let n : at-choose .choose .result ≡ binomial (a .c .row) (lengthAt (q .listed .of .s) (a .c .entry)) =
+    at-choose .choose .ensures ∙ ap (binomial (a .c .row)) k in
+    moves-entry (q .listed .of .s) (a .c) (q .at) (omega (arith, n)) (c .next-entry .result) (c .next-entry .ensures q)
 
 pub moved-on-spec : {M : Type 1} → statement M
 moved-on-spec =

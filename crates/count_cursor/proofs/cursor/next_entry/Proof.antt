@@ -9,10 +9,9 @@ use mathlib.Core.List.{List}
 use Rattle.count_plan.specs.Layout.{lengthAt}
 use Rattle.count_plan.specs.LayoutLaws.{count-few, entry-short}
 use Rattle.count_plan.specs.SheetRows.{fieldOf}
-use Rattle.count_cursor.specs.Cursor.{Listed, CursorGiven, FirstFrom, FindsFrom, FirstBelow, FindsBelow}
+use Rattle.count_cursor.specs.Cursor.{CursorGiven, FirstFrom, FindsFrom, FirstBelow, FindsBelow}
 use Rattle.count_cursor.specs.CursorLaws.{next-same, next-less, next-row}
 use Rattle.count_cursor.specs.declared.cursor.Cursor.{Cursor}
-use borrow.Author.Needs.{needs}
 use Rattle.count_cursor.proofs.cursor.next_entry.Statement.{statement}
 use Rattle.count_cursor.proofs.cursor.next_entry.Tie as tie
 
@@ -53,13 +52,15 @@ add-entry-from c =
 
 entry-start-requires : tie.Need-entry-start-requires
 entry-start-requires c κs =
-    let start = c .before .before .before .before .before in
+    let at-field = c .before .before .before in
+    let at-before = at-field .before in
+    let start = at-before .before in
     let a = start .args in
     let q = start .pre in
     let o = q .listed in
     let e = c .before .entry-from .result in
     let inside : e < o .of .s .count = omega (arith, o .counted) in
-    let f = from-entry (now (a .sheet)) (a .entries) (a .c) q (c .before .before .before .field .result) e _ (c .before .before .before .field .ensures)
+    let f = from-entry (now (a .sheet)) (a .entries) (a .c) q (at-field .field .result) e _ (at-field .field .ensures)
     (add-one (a .c .entry)) (c .before .entry-from .ensures) in
     let long = o .of .rows e inside .size in (
       omega (arith, count-few (o .of .s) (o .of .proper)),
@@ -75,10 +76,10 @@ returns c =
     let start = at-from .before .before .before .before in
     let a = start .args in
     λ q.
-        next-same (now (a .sheet)) (q .listed .of) (a .c) (q .at) (at-from .entry-from .result)
-        (from-entry (now (a .sheet)) (a .entries) (a .c) q (at-from .before .before .field .result) (at-from .entry-from .result) _
-        (at-from .before .before .field .ensures) (add-one (a .c .entry)) (at-from .entry-from .ensures)) (c .entry-start .result)
-        (omega (arith, q .listed .counted)) (c .entry-start .ensures)
+    next-same (now (a .sheet)) (q .listed .of) (a .c) (q .at) (at-from .entry-from .result)
+    (from-entry (now (a .sheet)) (a .entries) (a .c) q (at-from .before .before .field .result) (at-from .entry-from .result) _
+    (at-from .before .before .field .ensures) (add-one (a .c .entry)) (at-from .entry-from .ensures)) (c .entry-start .result)
+    (omega (arith, q .listed .counted)) (c .entry-start .ensures)
 
 entry-below-requires : tie.Need-entry-below-requires
 entry-below-requires c κs =
@@ -104,7 +105,8 @@ entry-start-requires-2 c κs =
     let o = q .listed in
     let d = c .before .entry-below .result in
     let inside : d < o .of .s .count = omega (arith, o .counted) in
-    let b = below-entry (now (a .sheet)) (a .entries) (a .c) q (at-from .before .before .field .result) d (at-from .before .before .field .ensures)
+    let b = below-entry (now (a .sheet)) (a .entries) (a .c) q (at-from .before .before .field .result) d
+    (at-from .before .before .field .ensures)
     (c .before .entry-below .ensures) in
     let long = o .of .rows d inside .size in (
       omega (arith, count-few (o .of .s) (o .of .proper)),
@@ -121,13 +123,13 @@ returns-2 c =
     let start = at-from .before .before .before .before in
     let a = start .args in
     λ q.
-        next-less (now (a .sheet)) (q .listed .of) (a .c) (q .at) (at-from .entry-from .result)
-        (from-entry (now (a .sheet)) (a .entries) (a .c) q (at-from .before .before .field .result) (at-from .entry-from .result) _
-        (at-from .before .before .field .ensures) (add-one (a .c .entry)) (at-from .entry-from .ensures)) (omega (arith, q .listed .counted))
-        (at-below .entry-below .result)
-        (below-entry (now (a .sheet)) (a .entries) (a .c) q (at-from .before .before .field .result) (at-below .entry-below .result)
-        (at-from .before .before .field .ensures) (at-below .entry-below .ensures)) (c .entry-start2 .result)
-        (omega (arith, q .listed .counted)) (c .entry-start2 .ensures)
+    next-less (now (a .sheet)) (q .listed .of) (a .c) (q .at) (at-from .entry-from .result)
+    (from-entry (now (a .sheet)) (a .entries) (a .c) q (at-from .before .before .field .result) (at-from .entry-from .result) _
+    (at-from .before .before .field .ensures) (add-one (a .c .entry)) (at-from .entry-from .ensures)) (omega (arith, q .listed .counted))
+    (at-below .entry-below .result)
+    (below-entry (now (a .sheet)) (a .entries) (a .c) q (at-from .before .before .field .result) (at-below .entry-below .result)
+    (at-from .before .before .field .ensures) (at-below .entry-below .ensures)) (c .entry-start2 .result)
+    (omega (arith, q .listed .counted)) (c .entry-start2 .ensures)
 
 row-start-requires : tie.Need-row-start-requires
 row-start-requires c κs =
@@ -146,13 +148,13 @@ returns-3 c =
     let start = at-from .before .before .before .before in
     let a = start .args in
     λ q.
-        next-row (now (a .sheet)) (q .listed .of) (a .c) (q .at) (at-from .entry-from .result)
-        (from-entry (now (a .sheet)) (a .entries) (a .c) q (at-from .before .before .field .result) (at-from .entry-from .result) _
-        (at-from .before .before .field .ensures) (add-one (a .c .entry)) (at-from .entry-from .ensures)) (omega (arith, q .listed .counted))
-        (at-below .entry-below .result)
-        (below-entry (now (a .sheet)) (a .entries) (a .c) q (at-from .before .before .field .result) (at-below .entry-below .result)
-        (at-from .before .before .field .ensures) (at-below .entry-below .ensures)) (c .row-start .result)
-        (omega (arith, q .listed .counted)) (c .row-start .ensures (q .listed))
+    next-row (now (a .sheet)) (q .listed .of) (a .c) (q .at) (at-from .entry-from .result)
+    (from-entry (now (a .sheet)) (a .entries) (a .c) q (at-from .before .before .field .result) (at-from .entry-from .result) _
+    (at-from .before .before .field .ensures) (add-one (a .c .entry)) (at-from .entry-from .ensures)) (omega (arith, q .listed .counted))
+    (at-below .entry-below .result)
+    (below-entry (now (a .sheet)) (a .entries) (a .c) q (at-from .before .before .field .result) (at-below .entry-below .result)
+    (at-from .before .before .field .ensures) (at-below .entry-below .ensures)) (c .row-start .result)
+    (omega (arith, q .listed .counted)) (c .row-start .ensures (q .listed))
 
 pub next-entry-spec : {M : Type 1} → statement M
 next-entry-spec =

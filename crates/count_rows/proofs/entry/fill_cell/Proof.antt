@@ -2,24 +2,19 @@
 -- Assumes nothing.
 use denote.Ref.{now}
 use native.Mathlib.Omega.{arith}
-use Prim.Native.Nat.{ℕ, _+_, _-_, _*_, _%_}
-use mathlib.Core.Path.{_≡_, refl, sym, ap, ap₂, _∙_, subst}
-use mathlib.Core.List.{List}
-use lib.ListN.{length, getD, take}
+use Prim.Native.Nat.{_+_, _-_}
+use mathlib.Core.Path.{_≡_, sym, ap, ap₂, _∙_, subst}
+use lib.ListN.{length, take}
 use Rattle.word.specs.Ceilings.{PARTS}
-use Rattle.cell.specs.Binomial.{binomial}
 use Rattle.cell.specs.Cell.{total}
-use Rattle.spacing.specs.Sizes.{CHOICES}
 use Rattle.spacing.specs.RankLaws.{rank-bound}
 use Rattle.spacing.specs.PascalLaws.{binomial-small}
 use Rattle.count_step.specs.Task.{TaskFits}
 use Rattle.count_step.specs.declared.cells.Task.{Task}
 use Rattle.count_plan.specs.Layout.{lengthAt}
-use Rattle.count_plan.specs.LayoutLaws.{entry-short}
-use Rattle.count_plan.specs.SheetRows.{fieldOf, itemOf}
 use Rattle.count_plan.proofs.SheetRowLaws.{parts-long}
 use Rattle.count_cursor.specs.Cursor.{spacingOf}
-use Rattle.count_rows.proofs.FrameLaws.{index-small, size, few, reach, framed-fits, task-fits, entry-walked, cell-walked}
+use Rattle.count_rows.proofs.FrameLaws.{index-small, size, few, framed-fits, task-fits, cell-walked}
 use borrow.Author.Needs.{needs}
 use Rattle.count_rows.proofs.entry.fill_cell.Statement.{statement}
 use Rattle.count_rows.proofs.entry.fill_cell.Tie as tie
@@ -60,11 +55,13 @@ gaps-of-requires c κs =
 
 fill-one-requires : tie.Need-fill-one-requires
 fill-one-requires c κs =
-    let start = c .before .before .before .before .before .before .before .before .before .before .before in
+    let at-task-of = c .before .before .before .before .before .before in
+    let at-before = at-task-of .before .before .before .before in
+    let start = at-before .before in
     let a = start .args in
     let q = start .pre .0 in
-    let is = c .before .before .before .before .before .before .task-of .ensures in
-    let k : c .before .before .before .before .before .before .task-of .result .length ≡ lengthAt (q .framed .of .s) (a .c .entry) =
+    let is = at-task-of .task-of .ensures in
+    let k : at-task-of .task-of .result .length ≡ lengthAt (q .framed .of .s) (a .c .entry) =
     ap (λ (t : Task). t .length) is ∙ size (now (a .sheet)) (now (a .places)) (a .f) (a .c) q in
     let long : length (now (c .before .before .gaps-of .result)) ≡ PARTS = ap length (c .before .before .gaps-of .ensures) ∙
     parts-long (now (a .sheet)) (a .c .entry) (index-small (now (a .sheet)) (now (a .places)) (a .f) (a .c) q) (q .framed .of .long) in (
@@ -82,16 +79,21 @@ fill-one-requires c κs =
 
 returns : tie.Need-returns
 returns c =
-    let start = c .before .before .before .before .before .before .before .before .before .before .before .before .before .before in
+    let at-gaps-of = c .before .before .before .before .before in
+    let at-place-at = at-gaps-of .before .before in
+    let at-block-of = at-place-at .before in
+    let at-task-of = at-block-of .before in
+    let at-before = at-task-of .before .before .before .before in
+    let start = at-before .before in
     let a = start .args in
     λ q.
-        let k : c .before .before .before .before .before .before .before .before .before .task-of .result .length ≡ lengthAt (q .framed .of .s) (a .c .entry) =
-        ap (λ (t : Task). t .length) (c .before .before .before .before .before .before .before .before .before .task-of .ensures) ∙ size (now (a .sheet)) (now (a .places)) (a .f) (a .c) q in
-        c .before .before .fill-one .ensures ∙
-        cell-walked (now (a .sheet)) (now (a .places)) (a .f) (a .c) q (c .before .before .before .before .before .before .before .before .before .task-of .result) (now (c .before .before .before .before .before .gaps-of .result))
-        (c .before .before .before .before .before .before .before .before .before .task-of .ensures) (c .before .before .before .before .before .gaps-of .ensures) (now (a .table)) _ _
-        (ap (λ x. x + a .c .rank) (ap₂ _+_ (c .before .before .before .before .before .before .before .before .block-of .ensures .0) (c .before .before .before .before .before .before .before .place-at .ensures)))
-        (ap (λ m. take (m + 1) (a .c .spacing)) k)
+    let k : at-task-of .task-of .result .length ≡ lengthAt (q .framed .of .s) (a .c .entry) =
+    ap (λ (t : Task). t .length) (at-task-of .task-of .ensures) ∙ size (now (a .sheet)) (now (a .places)) (a .f) (a .c) q in
+    c .before .before .fill-one .ensures ∙
+    cell-walked (now (a .sheet)) (now (a .places)) (a .f) (a .c) q (at-task-of .task-of .result) (now (at-gaps-of .gaps-of .result))
+    (at-task-of .task-of .ensures) (at-gaps-of .gaps-of .ensures) (now (a .table)) _ _
+    (ap (λ x. x + a .c .rank) (ap₂ _+_ (at-block-of .block-of .ensures .0) (at-place-at .place-at .ensures)))
+    (ap (λ m. take (m + 1) (a .c .spacing)) k)
 
 pub fill-cell-spec : {M : Type 1} → statement M
 fill-cell-spec =

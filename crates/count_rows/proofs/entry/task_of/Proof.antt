@@ -70,22 +70,33 @@ links-from-requires c κs =
 
 sub-t12 : tie.Need-sub-t12
 sub-t12 c =
-    let start = c .before .before .before .before .before .before .before .before .before .before .before in
+    let at-field = c .before .before .before .before .before .before .before .before in
+    let at-before = at-field .before .before in
+    let start = at-before .before in
     let a = start .args in
-    omega (arith, c .before .before .before .before .before .before .before .before .field .ensures, reach (now (a .sheet)) (now (a .places)) (a .f) (a .c) (start .pre))
+    omega (arith, at-field .field .ensures, reach (now (a .sheet)) (now (a .places)) (a .f) (a .c) (start .pre))
 
 returns : tie.Need-returns
 returns c =
-    let start = c .before .before .before .before .before .before .before .before .before .before .before in
+    let at-rows-back = c .before .before .before in
+    let at-field4 = at-rows-back .before in
+    let at-long = at-field4 .before in
+    let at-field3 = at-long .before in
+    let at-field2 = at-field3 .before in
+    let at-field = at-field2 .before in
+    let at-before = at-field .before .before in
+    let start = at-before .before in
     let a = start .args in
     let sheet = now (a .sheet) in
     let places = now (a .places) in
-    let offset : c .before .before .block-of .result ≡ offsetOf (a .f) (itemOf (now (a .sheet)) (now (a .places)) (a .c .entry)) (a .c .row) =
+    let offset : c .before .before .block-of .result ≡ offsetOf (a .f) (itemOf (now (a .sheet)) (now (a .places)) (a .c .entry))
+    (a .c .row) =
     c .before .before .block-of .ensures .0 ∙
-    ap (λ m. (a .c .row - m) % a .f .rows * a .f .width) (c .before .before .before .rows-back .ensures ∙ ap backOf (c .before .before .before .before .before .before .before .field2 .ensures)) in
-    task-made (a .f) (itemOf sheet places (a .c .entry)) (fieldOf sheet (a .c .entry) 3) (a .c .row) (c .before .before .before .before .before .before .before .before .field .result)
-    (c .before .before .before .before .before .before .before .field2 .result) (c .before .before .before .before .before .long .result) (c .before .before .before .before .field4 .result) (c .before .links-from .result) (c .before .before .before .before .before .before .before .before .field .ensures)
-    (c .before .before .before .before .before .before .before .field2 .ensures) (c .before .before .before .before .before .long .ensures ∙ c .before .before .before .before .before .before .field3 .ensures) (c .before .before .before .before .field4 .ensures)
+    ap (λ m. (a .c .row - m) % a .f .rows * a .f .width) (at-rows-back .rows-back .ensures ∙ ap backOf (at-field2 .field2 .ensures)) in
+    task-made (a .f) (itemOf sheet places (a .c .entry)) (fieldOf sheet (a .c .entry) 3) (a .c .row) (at-field .field .result)
+    (at-field2 .field2 .result) (at-long .long .result) (at-field4 .field4 .result) (c .before .links-from .result)
+    (at-field .field .ensures)
+    (at-field2 .field2 .ensures) (at-long .long .ensures ∙ at-field3 .field3 .ensures) (at-field4 .field4 .ensures)
     (c .before .links-from .ensures ∙ ap (λ o. map (λ x. o + x) (linksAt sheet places (a .c .entry))) offset)
 
 pub task-of-spec : {M : Type 1} → statement M

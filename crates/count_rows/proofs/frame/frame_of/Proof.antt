@@ -1,10 +1,8 @@
 -- `count_rows::frame::frame_of` meets its contract.
 -- Assumes nothing.
-use denote.Ref.{now}
 use Prim.Native.Nat.{ℕ}
-use mathlib.Core.Path.{_≡_, ap}
+use mathlib.Core.Path.{ap}
 use borrow.Author.Needs.{needs}
-use Rattle.count_rows.specs.declared.frame.Frame.{Frame}
 use Rattle.count_rows.proofs.frame.frame_of.Statement.{statement}
 use Rattle.count_rows.proofs.frame.frame_of.Tie as tie
 

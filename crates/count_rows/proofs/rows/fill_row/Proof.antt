@@ -82,15 +82,18 @@ loop-less c =
 
 loop-again : tie.Need-loop-again Inv-loop μ-loop
 loop-again c =
-    let start = c .before .before .before .before .before .before .before .before .before .before .before .before .before in
+    let at-fill-entry = c .before .before .before in
+    let at-loop = at-fill-entry .before .before .before .before in
+    let at-before = at-loop .before .before .before .before .before in
+    let start = at-before .before in
     let a = start .args in
-    let l = c .before .before .before .before .before .before .before .loop in
-    let len : length (c .before .before .before .fill-entry .last .0) ≡ length (l .table) = search needs in
+    let l = at-loop .loop in
+    let len : length (at-fill-entry .fill-entry .last .0) ≡ length (l .table) = search needs in
     let here : l .c .row ≡ a .j = omega arith in (
       len ∙ l .inv .0,
       λ o. going-more (o .of .P) (a .f .last) (o .of .s) (a .j) (now (a .table)) (l .c) (c .next-entry .result) (l .table)
-          (c .before .before .before .fill-entry .last .0) (l .inv .1 o) here
-          (c .before .before .before .fill-entry .ensures (cell-given (now (a .sheet)) (now (a .places)) (a .f) o (a .j) (start .pre .1) (l .c) here
+          (at-fill-entry .fill-entry .last .0) (l .inv .1 o) here
+          (at-fill-entry .fill-entry .ensures (cell-given (now (a .sheet)) (now (a .places)) (a .f) o (a .j) (start .pre .1) (l .c) here
           (now (a .table)) (l .table) (l .inv .1 o)))
           (c .next-entry .ensures (cursor-given (now (a .sheet)) (now (a .places)) (a .f) o (a .j) (start .pre .1) (l .c) here
           (now (a .table)) (l .table) (l .inv .1 o))),

@@ -38,12 +38,14 @@ add-i c =
 
 loop-again : tie.Need-loop-again Inv-loop μ-loop
 loop-again c =
-    let a = c .before .before .before .before .before .before .before .before .before .before .args in
-    let l = c .before .before .before .before .before .loop in
+    let at-loop = c .before .before .before .before .before in
+    let a = at-loop .before .before .before .before .before .args in
+    let l = at-loop .loop in
     let len : length (c .before .before .fill-row .last .0) ≡ length (l .table) = search needs in (
       len ∙ l .inv .0,
       omega arith,
-      λ o. rows-more (o .of .P) (a .f .last) (o .of .s) (l .i) (now (a .table)) (l .table) (c .before .before .fill-row .last .0) (l .inv .2 o)
+      λ o. rows-more (o .of .P) (a .f .last) (o .of .s) (l .i) (now (a .table)) (l .table) (c .before .before .fill-row .last .0)
+          (l .inv .2 o)
           (c .before .before .fill-row .ensures o),
     )
 

@@ -3,15 +3,12 @@
 use denote.Ref.{now}
 use native.Mathlib.Numerals.{add-one}
 use native.Mathlib.Omega.{arith}
-use Prim.Native.Nat.{ℕ, suc, _+_, _-_, _*_, _≤_}
-use mathlib.Core.Path.{_≡_, refl, sym, ap, ap₂, _∙_, subst}
-use mathlib.Core.List.{List}
+use Prim.Native.Nat.{_+_, _-_, _*_, _≤_}
+use mathlib.Core.Path.{_≡_, refl, ap, ap₂, _∙_, subst}
 use lib.ListN.{length}
-use Rattle.count_plan.specs.Layout.{widthOf, rowsOf}
-use Rattle.forms.specs.SchemeMemory.{schemeIn}
 use Rattle.count_walk.specs.Cells.{rowsFrom}
 use Rattle.count_walk.specs.Walk.{countWalked}
-use Rattle.count_rows.specs.Frames.{Framed, RootGiven, ReadGiven}
+use Rattle.count_rows.specs.Frames.{Framed, RootGiven}
 use Rattle.count_rows.specs.Run.{cleared, ValuesTo}
 use Rattle.count_rows.specs.RunLaws.{values-start, values-more, walked-cleared}
 use Rattle.count_rows.proofs.FrameLaws.{framed-fits}

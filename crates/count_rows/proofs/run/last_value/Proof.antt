@@ -3,9 +3,7 @@
 use denote.Ref.{now}
 use native.Mathlib.Omega.{arith}
 use Prim.Native.Nat.{_*_}
-use mathlib.Core.Path.{_≡_, ap, ap₂, _∙_}
-use lib.ListN.{length}
-use Rattle.count_rows.specs.Frames.{ReadGiven}
+use mathlib.Core.Path.{ap, ap₂, _∙_}
 use Rattle.count_rows.specs.Run.{cleared}
 use Rattle.count_rows.specs.RunLaws.{walked-cleared}
 use Rattle.count_rows.proofs.FrameLaws.{framed-fits}
@@ -36,20 +34,25 @@ need-requires c κs =
 
 returns : tie.Need-returns
 returns c =
-    let start = c .before .before .before .before .before .before .before .before .before .before .before .before .before .before .before .before in
+    let at-need = c .before .before .before in
+    let at-value-in = at-need .before .before in
+    let at-root-cell = at-value-in .before .before in
+    let at-fill-rows = at-root-cell .before .before .before in
+    let at-before = at-fill-rows .before .before .before .before .before in
+    let start = at-before .before in
     let a = start .args in
     let o = start .pre .0 .framed in
-    let r = c .before .before .before .before .before .before .before .root-cell in
-    let filled = c .before .before .before .before .before .before .before .before .before .before .fill-rows in (
+    let r = at-root-cell .root-cell in
+    let filled = at-fill-rows .fill-rows in (
       λ q.
           root-read (q .framed .of .P) (a .f .last) (q .framed .of .s) (a .root) (a .f .last) (q .root-is) (r .result) (r .ensures .0)
-          (r .ensures .1) (r .ensures .2) (now (a .table)) (filled .last .0) (c .before .before .before .before .before .value-in .result) (filled .ensures (q .framed))
-          (c .before .before .before .before .before .value-in .ensures (record {
+          (r .ensures .1) (r .ensures .2) (now (a .table)) (filled .last .0) (at-value-in .value-in .result) (filled .ensures (q .framed))
+          (at-value-in .value-in .ensures (record {
             framed = q .framed;
             cell = root-has (q .framed .of .P) (a .f .last) (q .framed .of .s) (a .root) (a .f .last) (q .root-is) (r .result)
                 (r .ensures .0) (r .ensures .1) (r .ensures .2) (omega arith);
           })),
-      c .before .before .clear .ensures ∙ ap (λ m. cleared m (filled .last .0)) (c .before .before .before .need .ensures) ∙
+      c .before .before .clear .ensures ∙ ap (λ m. cleared m (filled .last .0)) (at-need .need .ensures) ∙
           ap (cleared (a .f .rows * a .f .width)) (filled .ensures o) ∙
           walked-cleared (o .of .P) (a .f .last) (o .of .s) (a .f .last) (a .f .rows * a .f .width) (now (a .table)) (omega arith)
           (ap₂ _*_ (o .rows-are) (o .width-is)),

@@ -2,8 +2,8 @@
 -- Assumes nothing.
 use denote.Ref.{now}
 use native.Mathlib.Omega.{arith}
-use Prim.Native.Nat.{ℕ, _+_, _-_, _*_, _%_}
-use mathlib.Core.Path.{_≡_, sym, ap, ap₂, _∙_}
+use Prim.Native.Nat.{_+_, _-_, _*_, _%_}
+use mathlib.Core.Path.{_≡_, ap, ap₂, _∙_}
 use lib.ListN.{take}
 use Rattle.cell.specs.Cell.{total}
 use Rattle.spacing.specs.Rank.{rankAfter, rankOf}
@@ -59,21 +59,24 @@ add-read c =
 returns : tie.Need-returns
 unfolding rankOf
 returns c =
-    let start = c .before .before .before .before .before .before .before .before .before .before in
+    let at-rank-without = c .before .before .before in
+    let at-field = at-rank-without .before .before in
+    let at-before = at-field .before .before .before .before in
+    let start = at-before .before in
     let a = start .args in
     λ q.
-        let o = q .framed .of in
-        let k = c .before .before .before .before .before .field .ensures ∙ o .rows (a .c .entry) (q .cell .inside) .size in
-        let z : a .c .row - 0 ≡ a .c .row = omega arith in
-        c .read .ensures ∙
-        ap (held (now (a .table)))
-        (ap₂ _+_
-        (ap₂ _+_
-        (c .before .before .block-of .ensures .0 ∙ ap (λ x. x % a .f .rows * a .f .width) z ∙
-        block-is (now (a .sheet)) (now (a .places)) (a .f) (q .framed) (a .c .row))
-        (c .before .place-at .ensures ∙ q .framed .placed .at (a .c .entry) (omega (arith, q .cell .inside))))
-        (c .before .before .before .rank-without .ensures .0 ∙ ap (rankAfter 0 0) (merge-none (take (c .before .before .before .before .before .field .result + 1) (a .c .spacing))) ∙
-        ap (λ m. rankAfter 0 0 (take (m + 1) (a .c .spacing))) k))
+    let o = q .framed .of in
+    let k = at-field .field .ensures ∙ o .rows (a .c .entry) (q .cell .inside) .size in
+    let z : a .c .row - 0 ≡ a .c .row = omega arith in
+    c .read .ensures ∙
+    ap (held (now (a .table)))
+    (ap₂ _+_
+    (ap₂ _+_
+    (c .before .before .block-of .ensures .0 ∙ ap (λ x. x % a .f .rows * a .f .width) z ∙
+    block-is (now (a .sheet)) (now (a .places)) (a .f) (q .framed) (a .c .row))
+    (c .before .place-at .ensures ∙ q .framed .placed .at (a .c .entry) (omega (arith, q .cell .inside))))
+    (at-rank-without .rank-without .ensures .0 ∙ ap (rankAfter 0 0) (merge-none (take (at-field .field .result + 1) (a .c .spacing))) ∙
+    ap (λ m. rankAfter 0 0 (take (m + 1) (a .c .spacing))) k))
 
 pub value-in-spec : {M : Type 1} → statement M
 value-in-spec =

@@ -1,10 +1,9 @@
 -- `counting::by_table::count_all` meets its contract: n, then the table, then the counts.
 -- Assumes nothing.
 use denote.Ref.{now}
-use mathlib.Core.Path.{_≡_, sym, ap, _∙_, subst}
-use mathlib.Core.Bool.{false}
+use mathlib.Core.Path.{sym, _∙_, subst}
 use Rattle.word.specs.ListLaws.{true-not-false}
-use Rattle.forms.specs.SchemeMemory.{patternsIn, schemeIn, faulty}
+use Rattle.forms.specs.SchemeMemory.{patternsIn, schemeIn}
 use Rattle.wellformed.proofs.OrderLaws.{not-faulty}
 use Rattle.scheme.specs.ProperLaws.{proper}
 use Rattle.count_rows.specs.Run.{Counts}

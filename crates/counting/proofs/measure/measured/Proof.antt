@@ -1,8 +1,7 @@
 -- `counting::measure::measured` meets its contract: n, then the number of cells.
 -- Assumes nothing.
-use denote.Ref.{now}
 use native.Mathlib.Omega.{arith}
-use mathlib.Core.Path.{_≡_, sym, ap, _∙_}
+use mathlib.Core.Path.{sym, ap, _∙_}
 use Rattle.word.specs.ListLaws.{true-not-false}
 use Rattle.forms.specs.SchemeMemory.{schemeIn, faulty}
 use Rattle.counting.specs.CountLaws.{length-refused, table-refused, table-serves}
@@ -24,28 +23,35 @@ returns c =
 need-requires : tie.Need-need-requires
 need-requires c κs =
     let a = c .before .before .before .before .before .args in
-    frame-fits (a .n) (a .scheme) (c .before .before .places-of .result) (c .before .before .places-of .ensures) (c .frame-of .result) (c .frame-of .ensures)
+    frame-fits (a .n) (a .scheme) (c .before .before .places-of .result) (c .before .before .places-of .ensures) (c .frame-of .result)
+    (c .frame-of .ensures)
 
 returns-2 : tie.Need-returns-2
 returns-2 c =
-    let a = c .before .before .before .before .before .before .before .before .args in
+    let at-frame-of = c .before .before .before in
+    let at-places-of = at-frame-of .before .before in
+    let a = at-places-of .before .before .before .args in
     let is = c .refused2 .ensures in
-    let q = frame-need (a .n) (a .scheme) (c .before .before .before .before .before .places-of .result) (c .before .before .before .before .before .places-of .ensures) (c .before .before .before .frame-of .result)
-    (c .before .before .before .frame-of .ensures) in
+    let q = frame-need (a .n) (a .scheme) (at-places-of .places-of .result) (at-places-of .places-of .ensures)
+    (at-frame-of .frame-of .result)
+    (at-frame-of .frame-of .ensures) in
     record {
-      found = is ∙ sym (table-refused (schemeIn (a .scheme)) (a .n) (a .cells) (omega arith) (omega (arith, c .before .before .need .ensures, q)));
+      found = is ∙ sym (table-refused (schemeIn (a .scheme)) (a .n) (a .cells) (omega arith) (omega
+          (arith, c .before .before .need .ensures, q)));
       placed = λ f. absurd (true-not-false (sym (ap faulty is) ∙ f));
       framed = λ f. absurd (true-not-false (sym (ap faulty is) ∙ f));
     }
 
 returns-3 : tie.Need-returns-3
 returns-3 c =
-    let a = c .before .before .before .before .before .before .before .args in
-    let q = frame-need (a .n) (a .scheme) (c .before .before .before .before .places-of .result) (c .before .before .before .before .places-of .ensures) (c .before .before .frame-of .result)
+    let at-places-of = c .before .before .before .before in
+    let a = at-places-of .before .before .before .args in
+    let q = frame-need (a .n) (a .scheme) (at-places-of .places-of .result) (at-places-of .places-of .ensures)
+    (c .before .before .frame-of .result)
     (c .before .before .frame-of .ensures) in
     record {
       found = sym (table-serves (schemeIn (a .scheme)) (a .n) (a .cells) (omega arith) (omega (arith, c .before .need .ensures, q)));
-      placed = λ f. c .before .before .before .before .places-of .ensures;
+      placed = λ f. at-places-of .places-of .ensures;
       framed = λ f. c .before .before .frame-of .ensures;
     }
 

@@ -41,12 +41,16 @@ put-counts-requires c κs =
 
 returns-2 : tie.Need-returns-2
 returns-2 c =
-    let start = c .before .before .before .before .before .before .before .before .before .before .before in
+    let at-if1 = c .before .before .before .before .before in
+    let at-is-fault = at-if1 .before in
+    let at-count-all = at-is-fault .before .before in
+    let at-before = at-count-all .before .before in
+    let start = at-before .before in
     let a = start .args in
     let P = patternsIn (a .patterns) in
     let E = schemeIn (a .scheme) in
-    let all = c .before .before .before .before .before .before .before .before .count-all in
-    let clean = sym (c .before .before .before .before .before .before .is-fault .ensures) ∙ c .before .before .before .before .before .if1 .left in
+    let all = at-count-all .count-all in
+    let clean = sym (at-is-fault .is-fault .ensures) ∙ at-if1 .if1 .left in
     let none = sym (all .ensures .found) ∙ not-faulty (all .result .fault) clean in
     let good = table-good E (a .n) CELLS none in
     let put = c .before .before .put-counts .ensures in
