@@ -116,13 +116,13 @@ pub fn moved_on(sheet: &[u8], entries: usize, c: Cursor, b: &[usize]) -> Cursor
 {
     let k = field(sheet, c.entry, 0);
     if c.rank + 1 < choose(b, c.row, k) {
-        let g = c.spacing;
-        let next = next_cell(g, k);
+        let mut g = c.spacing;
+        next_cell(&mut g, k);
         return Cursor {
             row: c.row,
             entry: c.entry,
             rank: c.rank + 1,
-            spacing: next,
+            spacing: g,
         };
     }
     next_entry(sheet, entries, c)

@@ -47,8 +47,7 @@ pub fn fill_cells(table: &mut [u64], at: usize, size: usize, task: Task, gaps: &
     let mut p: usize = 0;
     while p < size {
         fill_one(table, at + p, task, gaps, g, b);
-        let next = next_cell(g, k);
-        g = next;
+        next_cell(&mut g, k);
         p += 1;
     }
 }

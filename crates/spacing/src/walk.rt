@@ -5,8 +5,8 @@ use word::limits::COMPONENTS;
 ghost use mathlib.Core.Path.{_≡_};
 ghost use mathlib.Core.List.{[], _∷_};
 ghost use Prim.Native.Nat.{_+_, _≤_, _<_};
-ghost use lib.ListN.{take};
-ghost use Rattle.word.specs.Ceilings.{PREFIX, LENGTH};
+ghost use lib.ListN.{length, take};
+ghost use Rattle.word.specs.Ceilings.{PREFIX, COMPONENTS, LENGTH};
 ghost use Rattle.cell.specs.Cell.{total, mergeValues};
 ghost use Rattle.spacing.specs.Sizes.{RANKS};
 ghost use Rattle.spacing.specs.Rank.{rankAfter, nextOf};
@@ -38,24 +38,23 @@ pub fn rank_without(g: [u8; COMPONENTS], k: usize, v: usize, start: usize, b: &[
     rank
 }
 
-// The spacing that comes next; after the last one the first.
-pub fn next_cell(g: [u8; COMPONENTS], k: usize) -> [u8; COMPONENTS]
-    requires { ⌜ (k ≤ PREFIX) × (total (take (k + 1) g) ≤ LENGTH) ⌝ }
-    ensures { λ r. ⌜ take (k + 1) r ≡ nextOf (take (k + 1) g) ⌝ }
+// Changes a spacing into the one that comes next; the last one into the first. It is changed in
+// place: a copy of bytes that were just stored one by one would wait for each of them.
+pub fn next_cell(g: &mut [u8], k: usize)
+    requires { ⌜ (k ≤ PREFIX) × (length (now g) ≡ COMPONENTS) × (total (take (k + 1) (now g)) ≤ LENGTH) ⌝ }
+    ensures { λ r. ⌜ take (k + 1) (now (g .exit)) ≡ nextOf (take (k + 1) (now (g .entry))) ⌝ }
 {
     let first = g[0];
-    let mut n = g;
-    n[0] = 0;
+    g[0] = 0;
     let mut i: usize = 1;
     while i <= k {
         let y = g[i];
         if y != 0 {
-            n[i] = y - 1;
-            n[i - 1] = first + 1;
-            return n;
+            g[i] = y - 1;
+            g[i - 1] = first + 1;
+            return;
         }
         i += 1;
     }
-    n[k] = first;
-    n
+    g[k] = first;
 }

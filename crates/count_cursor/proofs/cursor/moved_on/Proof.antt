@@ -5,12 +5,13 @@ use native.Mathlib.Omega.{arith}
 use Prim.Native.Nat.{ℕ, _+_, _<_}
 use mathlib.Core.Path.{_≡_, refl, sym, ap, _∙_}
 use mathlib.Core.List.{List}
-use lib.ListN.{take}
+use lib.ListN.{length, take}
 use Rattle.spacing.specs.Sizes.{CHOICES}
 use Rattle.spacing.specs.Rank.{nextOf}
 use Rattle.spacing.specs.RankLaws.{rank-bound}
 use Rattle.spacing.specs.PascalLaws.{binomial-small}
 use Rattle.cell.specs.Binomial.{binomial}
+use Rattle.word.specs.Ceilings.{COMPONENTS}
 use Rattle.cell.specs.Cell.{total}
 use Rattle.count_plan.specs.Layout.{lengthAt}
 use Rattle.count_plan.specs.SheetRows.{fieldOf}
@@ -64,21 +65,26 @@ choose-requires c κs =
       start .pre .1,
     )
 
+-- the array of the spacing has all its places
+seven : (start : tie.Start) → length (start .args .c .spacing) ≡ COMPONENTS
+seven start = search needs
+
 next-cell-requires : tie.Need-next-cell-requires
 next-cell-requires c κs =
-    let at-field = c .before .before .before .before in
+    let at-field = c .before .before .before .before .before in
     let start = at-field .before .before .before in
     let a = start .args in
     let q = start .pre .0 in
     let o = q .listed in
     let k = size (now (a .sheet)) (a .entries) (a .c) q (at-field .field .result) (at-field .field .ensures) in (
       omega (arith, k, entry-short (o .of .s) (o .of .proper) (a .c .entry) (q .at .cell .inside)),
+      seven start,
       omega (arith, ap (λ m. total (take (m + 1) (a .c .spacing))) k, q .at .cell .whole, q .low),
     )
 
 returns : tie.Need-returns
 returns c =
-    let at-choose = c .before .before .before .before in
+    let at-choose = c .before .before .before .before .before .before in
     let at-field = at-choose .before .before in
     let start = at-field .before .before .before in
     let a = start .args in
@@ -86,8 +92,8 @@ returns c =
     let k = size (now (a .sheet)) (a .entries) (a .c) q (at-field .field .result) (at-field .field .ensures) in
     let n : at-choose .choose .result ≡ binomial (a .c .row) (lengthAt (q .listed .of .s) (a .c .entry)) =
     at-choose .choose .ensures ∙ ap (binomial (a .c .row)) k in
-    moves-on (q .listed .of .s) (a .c) (q .at) (omega (arith, n)) _ refl refl refl
-    (ap (λ m. take (m + 1) (c .before .next-cell .result)) (sym k) ∙ c .before .next-cell .ensures ∙
+    moves-on (q .listed .of .s) (a .c) (q .at) (omega (arith, n, c .before .before .before .before .before .if1 .taken)) _ refl refl refl
+    (ap (λ m. take (m + 1) (c .before .before .next-cell .last .0)) (sym k) ∙ c .before .before .next-cell .ensures ∙
     ap (λ m. nextOf (take (m + 1) (a .c .spacing))) k)
 
 returns-2 : tie.Need-returns-2
@@ -109,6 +115,7 @@ moved-on-spec =
     field-requires
     add-if1
     choose-requires
+    (λ c. search needs)
     next-cell-requires
     (λ c. search needs)
     returns

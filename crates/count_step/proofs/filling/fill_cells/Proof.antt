@@ -4,8 +4,9 @@ use borrow.Author.Needs.{needs}
 use native.Mathlib.Omega.{arith}
 use denote.Ref.{now}
 use Prim.Native.Nat.{_+_, _-_}
-use mathlib.Core.Path.{ap, _∙_}
+use mathlib.Core.Path.{_≡_, ap, _∙_}
 use lib.ListN.{length}
+use Rattle.word.specs.Ceilings.{COMPONENTS}
 use Rattle.spacing.specs.Following.{firstVector}
 use Rattle.spacing.specs.PascalLaws.{binomial-small}
 use Rattle.count_step.specs.Task.{spacingIn, taskStep}
@@ -15,7 +16,7 @@ use Rattle.count_step.proofs.filling.fill_cells.Tie as tie
 
 abbrev Inv-loop : tie.InvT-loop
 Inv-loop table₀ at size task gaps b k g₀ p₀ table g p =
-    Filling (taskStep task gaps) (task .length) (task .total) at size p table₀ table (spacingIn (task .length) g)
+    Filling (taskStep task gaps) (task .length) (task .total) at size p table₀ table (spacingIn (task .length) g) × (length g ≡ COMPONENTS)
 
 abbrev μ-loop : tie.MeasureT-loop
 μ-loop table₀ at size task gaps b k g₀ p₀ table g p = size - p
@@ -25,33 +26,48 @@ loop-holds c =
     let start = c .before .before .before .before .before in
     let a = start .args in
     let t = a .task in
-    filling-start (taskStep t (now (a .gaps))) (t .length) (t .total) (a .at) (a .size) (start .pre .2)
-    (now (a .table)) (spacingIn (t .length) (c .first-spacing .result))
-    (c .first-spacing .ensures ∙ ap (firstVector (t .length)) (c .before .narrow .ensures))
+    let seven : length (c .first-spacing .result) ≡ COMPONENTS = search needs in (
+      filling-start (taskStep t (now (a .gaps))) (t .length) (t .total) (a .at) (a .size) (start .pre .2)
+          (now (a .table)) (spacingIn (t .length) (c .first-spacing .result))
+          (c .first-spacing .ensures ∙ ap (firstVector (t .length)) (c .before .narrow .ensures)),
+      seven,
+    )
 
 add-fill-one : tie.Need-add-fill-one Inv-loop μ-loop
 add-fill-one c =
     let start = c .before .before .before .before .before .before .before .before in
-    let a = start .args in
-    let t = a .task in
+    let t = start .args .task in
     omega (
       arith,
       start .pre .2,
       start .pre .3,
       binomial-small (t .length + t .total) (t .length) (start .pre .0 .sum),
-      c .before .before .loop .inv .reach,
+      c .before .before .loop .inv .0 .reach,
     )
+
+next-cell-requires : tie.Need-next-cell-requires Inv-loop μ-loop
+next-cell-requires c κs =
+    let start = c .before .before .before .before .before .before .before .before .before .before .before .before in
+    let l = c .before .before .before .before .before .before .loop in
+    (start .pre .0 .short, l .inv .1, omega (arith, l .inv .0 .whole, start .pre .0 .sum))
 
 loop-again : tie.Need-loop-again Inv-loop μ-loop
 loop-again c =
-    let at-fill-one = c .before .before .before in
-    let start = at-fill-one .before .before .before .before .before .before .before .before .before in
+    let start = c .before .before .before .before .before .before .before .before .before .before .before .before .before .before in
     let a = start .args in
     let t = a .task in
-    let l = at-fill-one .before .before .before .loop in
-    filling-more (taskStep t (now (a .gaps))) (t .length) (t .total) (a .at) (a .size) (start .pre .2) (now (a .table)) (l .p) (l .table)
-    (spacingIn (t .length) (l .g)) (l .inv) (omega arith) (at-fill-one .fill-one .last .0) (spacingIn (t .length) (c .next-cell .result))
-    (at-fill-one .fill-one .ensures) (c .next-cell .ensures)
+    let l = c .before .before .before .before .before .before .before .before .loop in
+    let next = c .before .next-cell in
+    let filled = c .before .before .before .before .before .fill-one in
+    let seven : length (c .before .next-cell .last .0) ≡ length (l .g) = search needs in (
+      filling-more (taskStep t (now (a .gaps))) (t .length) (t .total) (a .at) (a .size) (start .pre .2) (now (a .table)) (l .p) (l .table)
+          (spacingIn (t .length) (l .g)) (l .inv .0) (omega arith) (filled .last .0) (spacingIn (t .length) (next .last .0))
+          (filled .ensures) (next .ensures),
+      seven ∙ l .inv .1,
+    )
+
+same-length : tie.Need-same-length Inv-loop μ-loop
+same-length c = c .before .loop .inv .0 .size
 
 returns : tie.Need-returns Inv-loop μ-loop
 returns c =
@@ -60,7 +76,7 @@ returns c =
     let t = a .task in
     let l = c .before .loop in
     filling-end (taskStep t (now (a .gaps))) (t .length) (t .total) (a .at) (a .size) (start .pre .2) (now (a .table)) (l .p) (l .table)
-    (spacingIn (t .length) (l .g)) (l .inv) (omega arith)
+    (spacingIn (t .length) (l .g)) (l .inv .0) (omega arith)
 
 pub fill-cells-spec : {M : Type 1} → statement M
 fill-cells-spec =
@@ -73,9 +89,10 @@ fill-cells-spec =
     loop-holds
     add-fill-one
     (λ c κs. search needs)
-    (λ c κs. search needs)
+    (λ c. search needs)
+    next-cell-requires
     (λ c. search needs)
     (λ c. search needs)
     loop-again
-    (λ c. search needs)
+    same-length
     returns)
