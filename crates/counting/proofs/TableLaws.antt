@@ -62,13 +62,13 @@ given-of patterns s n cells m T w clean formed truth small room =
 pub last-is : (s : Scheme) (n cells : ℕ) (m : Measure) → Measured s n cells m → faulty (m .fault) ≡ false → m .frame .last ≡ n
 last-is s n cells m w clean = ap (λ (x : Frame). x .last) (w .framed clean)
 
-module _ (patterns : Patterns) (s : Scheme) (m : Measure) (T : List ℕ) (g : TableGiven patterns s m T) (P : List (List ℕ))
-    (holds : P ≡ patternsIn patterns) (sheet : List ℕ) (t : SheetTo P s (s .count) sheet) (root : ℕ) (names : Names s [] root) where
+module _ (patterns : Patterns) (s : Scheme) (m : Measure) (T : List ℕ) (g : TableGiven patterns s m T)
+    (sheet : List ℕ) (t : SheetTo (patternsIn patterns) s (s .count) sheet) (root : ℕ) (names : Names s [] root) where
   abbrev pub root-given : RootGiven sheet (m .places) (m .frame) root
   root-given =
       record {
         framed = record {
-          of = sheet-of P s sheet (proper (schemeIn s) (g .formed .scheme)) t;
+          of = sheet-of (patternsIn patterns) s sheet (proper (schemeIn s) (g .formed .scheme)) t;
           counted = ap (λ (x : Frame). x .entries) (g .framed);
           small = g .small;
           placed = g .placed;
@@ -81,14 +81,13 @@ module _ (patterns : Patterns) (s : Scheme) (m : Measure) (T : List ℕ) (g : Ta
   pub room-is : m .frame .rows * m .frame .width ≡ needOf (m .frame .last) (schemeIn s)
   room-is = frame-need (m .frame .last) s (m .places) (g .placed) (m .frame) (g .framed)
 
-  pub last-value : (x : ℕ) → x ≡ rootValue P (m .frame .last) s root T (m .frame .last) →
+  pub last-value : (x : ℕ) → x ≡ rootValue (patternsIn patterns) (m .frame .last) s root T (m .frame .last) →
       x ≡ countOf (patternsIn patterns) (schemeIn s) (m .frame .last)
   last-value x e =
-      e ∙ root-count P s (rw holds (g .formed)) (rw holds (g .truth)) (m .frame .last) (g .small) T (g .room) root (m .frame .last) names
-      (omega arith) ∙ ap (λ (Q : List (List ℕ)). countOf Q (schemeIn s) (m .frame .last)) holds
+      e ∙ root-count (patternsIn patterns) s (g .formed) (g .truth) (m .frame .last) (g .small) T (g .room) root (m .frame .last) names
+      (omega arith)
 
-  pub all-values : (values : List ℕ) → ValuesTo P (m .frame .last) s root T (suc (m .frame .last)) values →
+  pub all-values : (values : List ℕ) → ValuesTo (patternsIn patterns) (m .frame .last) s root T (suc (m .frame .last)) values →
       Counts (patternsIn patterns) (schemeIn s) (m .frame .last) values
   all-values values v =
-      subst (λ (Q : List (List ℕ)). Counts Q (schemeIn s) (m .frame .last) values) holds
-      (run-counts P s (rw holds (g .formed)) (rw holds (g .truth)) (m .frame .last) (g .small) T (g .room) root values names v)
+      run-counts (patternsIn patterns) s (g .formed) (g .truth) (m .frame .last) (g .small) T (g .room) root values names v

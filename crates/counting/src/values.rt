@@ -10,12 +10,30 @@ use forms::sets::lengths_of;
 use forms::sets::rows_of;
 use word::limits::COUNTS;
 ghost use mathlib.Core.Path.{_≡_};
+ghost use mathlib.Core.List.{[]};
+ghost use lib.ListN.{length};
 ghost use Rattle.spacing.specs.Pascal.{Pascal};
 ghost use Rattle.forms.specs.SchemeMemory.{patternsIn, schemeIn};
 ghost use Rattle.verdict.specs.Value.{countOf};
+ghost use Rattle.verdict.specs.Truth.{WellFormed};
 ghost use Rattle.count_plan.specs.Layout.{needOf};
+ghost use Rattle.count_plan.specs.SheetSizes.{SHEET};
+ghost use Rattle.count_plan.specs.SheetForm.{SheetTo};
+ghost use Rattle.count_plan.specs.SheetRows.{Names};
 ghost use Rattle.count_rows.specs.Run.{cleared, Counts};
 ghost use Rattle.counting.specs.Measuring.{TableGiven};
+
+// Writes the sheet of the scheme for the patterns; the index of the entry for ε.
+fn write_plan(sheet: &mut [u8], patterns: Patterns, scheme: Scheme) -> usize
+    requires { ⌜ WellFormed (patternsIn patterns) (schemeIn scheme) × (length (now sheet) ≡ SHEET) ⌝ }
+    ensures sheet { λ r. ⌜ SheetTo (patternsIn patterns) scheme (scheme .count) (now (sheet .exit)) ⌝ }
+    ensures root { λ r. ⌜ Names scheme [] r ⌝ }
+{
+    let rows = rows_of(patterns);
+    let lengths = lengths_of(patterns);
+    let size = patterns.count;
+    fill_sheet(sheet, rows, lengths, size, scheme)
+}
 
 // The count for the last length.
 pub fn last_count(
@@ -29,11 +47,8 @@ pub fn last_count(
     ensures count { λ r. ⌜ r ≡ countOf (patternsIn patterns) (schemeIn scheme) (m .frame .last) ⌝ }
     ensures table { λ r. ⌜ now (table .exit) ≡ cleared (needOf (m .frame .last) (schemeIn scheme)) (now (table .entry)) ⌝ }
 {
-    let rows = rows_of(patterns);
-    let lengths = lengths_of(patterns);
-    let size = patterns.count;
     let mut sheet = [0u8; SHEET];
-    let root = fill_sheet(&mut sheet, rows, lengths, size, scheme);
+    let root = write_plan(&mut sheet, patterns, scheme);
     let places = m.places;
     let frame = m.frame;
     last_value(table, &sheet, &places, frame, root, b)
@@ -51,11 +66,8 @@ pub fn all_counts(
     ensures counts { λ r. ⌜ Counts (patternsIn patterns) (schemeIn scheme) (m .frame .last) r ⌝ }
     ensures table { λ r. ⌜ now (table .exit) ≡ cleared (needOf (m .frame .last) (schemeIn scheme)) (now (table .entry)) ⌝ }
 {
-    let rows = rows_of(patterns);
-    let lengths = lengths_of(patterns);
-    let size = patterns.count;
     let mut sheet = [0u8; SHEET];
-    let root = fill_sheet(&mut sheet, rows, lengths, size, scheme);
+    let root = write_plan(&mut sheet, patterns, scheme);
     let places = m.places;
     let frame = m.frame;
     all_values(table, &sheet, &places, frame, root, b)

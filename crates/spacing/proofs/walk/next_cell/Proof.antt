@@ -66,18 +66,22 @@ slice-write-g-3 c =
 
 same-length : tie.Need-same-length Inv-loop μ-loop
 same-length c =
-    let l = c .before .before .before .loop in
-    length-set (set (l .g) (l .i) (getD (l .g) (l .i) 0 - 1)) (l .i - 1) (getD (now (c .before .before .before .before .before .args .g)) 0 0 + 1) ∙
+    let at-loop = c .before .before .before in
+    let l = at-loop .loop in
+    length-set (set (l .g) (l .i) (getD (l .g) (l .i) 0 - 1)) (l .i - 1) (getD (now (at-loop .before .before .args .g)) 0 0 + 1) ∙
     length-set (l .g) (l .i) (getD (l .g) (l .i) 0 - 1) ∙ l .inv .4 ∙
-    length-set (now (c .before .before .before .before .before .args .g)) 0 0
+    length-set (now (at-loop .before .before .args .g)) 0 0
 
 returns : tie.Need-returns Inv-loop μ-loop
 returns c =
-    let start = c .before .before .before .before .before in
+    let at-loop = c .before .before .before in
+    let at-before = at-loop .before in
+    let start = at-before .before in
     let a = start .args in
-    let l = c .before .before .before .loop in
+    let l = at-loop .loop in
     let y = same-part (now (a .g)) (l .g) (l .i) (l .inv .0) (l .inv .2) in
-    ap (λ (u : List ℕ). take (a .k + 1) (set (set u (l .i) (getD (l .g) (l .i) 0 - 1)) (l .i - 1) (getD (now (a .g)) 0 0 + 1))) (l .inv .2) ∙
+    ap (λ (u : List ℕ). take (a .k + 1) (set (set u (l .i) (getD (l .g) (l .i) 0 - 1)) (l .i - 1) (getD (now (a .g)) 0 0 + 1)))
+    (l .inv .2) ∙
     found-memory (now (a .g)) (a .k) (omega (arith, start .pre .0, start .pre .1)) (l .i) (getD (l .g) (l .i) 0) (l .inv .0) (omega arith)
     (same-zeros (now (a .g)) (l .i) (l .inv .3)) y (c .if1 .taken)
 
@@ -85,8 +89,7 @@ loop-again : tie.Need-loop-again Inv-loop μ-loop
 loop-again c =
     let a = c .before .before .before .before .before .args in
     let l = c .before .before .before .loop in
-    let z : getD (l .g) (l .i) 0 ≡ 0 = search needs in
-    (
+    let z : getD (l .g) (l .i) 0 ≡ 0 = search needs in (
       omega arith,
       omega arith,
       l .inv .2,
