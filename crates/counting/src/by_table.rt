@@ -12,10 +12,12 @@ use forms::order::is_fault;
 use judge::judging::judge_without_page;
 use spacing::binomials::binomials;
 use word::limits::COUNTS;
+ghost use mathlib.Core.Path.{_≡_};
 ghost use lib.ListN.{length};
 ghost use Rattle.forms.specs.SchemeMemory.{patternsIn, schemeIn};
 ghost use Rattle.verdict.specs.Truth.{WellFormed, AllTrue};
-ghost use Rattle.counting.specs.Counting.{Counts};
+ghost use Rattle.count_plan.specs.Layout.{needOf};
+ghost use Rattle.counting.specs.Counting.{tableAfter, Counts};
 ghost use Rattle.counting.specs.Measuring.{AllCounted};
 
 // The number of permutations of 1 to n that avoid the patterns, by a scheme that is judged first.
@@ -44,10 +46,12 @@ pub struct Tabled {
     pub counts: [u64; COUNTS],
 }
 
-// The counts for the lengths from 0 to n of an accepted scheme, in one pass.
+// The counts for the lengths from 0 to n of an accepted scheme, in one pass; the table as after a
+// count.
 pub fn count_all(patterns: Patterns, scheme: Scheme, n: usize, table: &mut [u64]) -> Tabled
     requires { ⌜ WellFormed (patternsIn patterns) (schemeIn scheme) × AllTrue (patternsIn patterns) (schemeIn scheme) ⌝ }
-    ensures { λ r. ⌜ AllCounted (patternsIn patterns) (schemeIn scheme) n (length (now (table .entry))) r ⌝ }
+    ensures counts { λ r. ⌜ AllCounted (patternsIn patterns) (schemeIn scheme) n (length (now (table .entry))) r ⌝ }
+    ensures table { λ r. ⌜ now (table .exit) ≡ tableAfter (r .fault) (needOf n (schemeIn scheme)) (now (table .entry)) ⌝ }
 {
     let b = binomials();
     let m = measured(scheme, n, table.len(), &b);

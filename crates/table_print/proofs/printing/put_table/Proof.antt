@@ -29,14 +29,14 @@ returns c =
     let put = c .before .before .put-fault .ensures in
     let h = sym (c .before .before .before .before .before .is-fault .ensures) ∙ c .before .before .before .before .if1 .taken in
     let text = bfileText (map (countOf P E) (row 0 (suc (a .n)))) in
-    (writes-as (put .0) (only-line (all .result .fault) text h ∙ ap (λ (x : Fault). printedOr x text) (all .ensures .found)), put .1)
+    (writes-as (put .0) (only-line (all .result .fault) text h ∙ ap (λ (x : Fault). printedOr x text) (all .ensures .0 .found)), put .1)
 
 put-counts-requires : tie.Need-put-counts-requires
 put-counts-requires c κs =
     let start = c .before .before .before .before .before .before .before .before in
     let a = start .args in
     let all = c .before .before .before .before .before .count-all in
-    table-good (schemeIn (a .scheme)) (a .n) CELLS (sym (all .ensures .found) ∙
+    table-good (schemeIn (a .scheme)) (a .n) CELLS (sym (all .ensures .0 .found) ∙
     not-faulty (all .result .fault) (sym (c .before .before .before .is-fault .ensures) ∙ c .before .before .if1 .left)) .0
 
 returns-2 : tie.Need-returns-2
@@ -51,12 +51,12 @@ returns-2 c =
     let E = schemeIn (a .scheme) in
     let all = at-count-all .count-all in
     let clean = sym (at-is-fault .is-fault .ensures) ∙ at-if1 .if1 .left in
-    let none = sym (all .ensures .found) ∙ not-faulty (all .result .fault) clean in
+    let none = sym (all .ensures .0 .found) ∙ not-faulty (all .result .fault) clean in
     let good = table-good E (a .n) CELLS none in
     let put = c .before .before .put-counts .ensures in
     let text : lengthText P E (a .n) ≡ bfileText (take (a .n + 1) (all .result .counts)) =
     ap (λ (x : Fault). printedOr x (bfileText (map (countOf P E) (row 0 (suc (a .n)))))) none ∙
-    ap bfileText (sym (counts-taken P E (a .n) (all .result .counts) (good .0) (all .ensures .counts clean))) in
+    ap bfileText (sym (counts-taken P E (a .n) (all .result .counts) (good .0) (all .ensures .0 .counts clean))) in
     (rw text (put .0), put .1)
 
 pub put-table-spec : {M : Type 1} → statement M
