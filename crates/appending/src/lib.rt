@@ -18,7 +18,7 @@ ghost use lib.ListN.{take, drop, getD};
 ghost use Rattle.word.specs.Ceilings.{WORD};
 ghost use Rattle.word.specs.Lists.{all};
 ghost use Rattle.word.specs.Word.{isPerm, avoids};
-ghost use Rattle.word.specs.Containment.{patternsOf};
+ghost use Rattle.word.specs.Patterns.{patternsOf};
 ghost use Rattle.arrangement.specs.Searching.{Searches};
 ghost use Rattle.appending.specs.Appending.{Shortest, RuledOut};
 ghost use Rattle.appending.specs.Pairs.{pairAllowed, allPairs};

@@ -14,7 +14,7 @@ use lib.Seq.{getD-set-same, getD-set-other}
 use borrow.Author.Tests.{not-true, not-false}
 use Rattle.word.specs.Lists.{keep, row}
 use Rattle.word.specs.Word.{contains, longest}
-use Rattle.word.specs.Containment.{patternsOf}
+use Rattle.word.specs.Patterns.{patternsOf}
 use Rattle.word.specs.ListLaws.{same-or-not}
 use Rattle.word.proofs.PatternSet.{from, from-start, from-counted, from-cons}
 use Rattle.cell.specs.Basis.{same, basic, basis}

@@ -4,7 +4,7 @@ use mathlib.Core.List.{List}
 use Prim.Native.Nat.{ℕ}
 use lib.ListN.{length}
 use Rattle.word.specs.Ceilings.{PATTERNS}
-use Rattle.word.specs.Containment.{patternsOf}
+use Rattle.word.specs.Patterns.{patternsOf}
 use Rattle.cell.specs.Basis.{basis}
 use Rattle.forms.specs.SetMemory.{HasDigits, HasLengths}
 use Rattle.forms.specs.HeldLaws.{set-held}

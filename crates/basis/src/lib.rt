@@ -1,9 +1,9 @@
 // The basis of a pattern set in memory: the patterns that contain no other pattern of the set; and
 // the length of the longest pattern of a set.
+use copy_search::first_copy;
 use forms::lists::same_bytes;
 use forms::memory::Pattern;
 use forms::memory::Patterns;
-use word::copy::first_copy;
 use word::limits::DIGITS;
 use word::limits::PATTERNS;
 ghost use Prim.Native.Nat.{_≤_, max};
@@ -11,7 +11,7 @@ ghost use mathlib.Core.Path.{_≡_};
 ghost use mathlib.Core.Bool.{not, _||_};
 ghost use lib.ListN.{length, take};
 ghost use Rattle.word.specs.Word.{contains, longest};
-ghost use Rattle.word.specs.Containment.{patternsOf};
+ghost use Rattle.word.specs.Patterns.{patternsOf};
 ghost use Rattle.cell.specs.Basis.{same, basic};
 ghost use Rattle.word.specs.Ceilings.{DIGITS, PATTERNS};
 ghost use Rattle.basis.specs.BasisSet.{IsBasis};

@@ -16,8 +16,8 @@ use Rattle.word.specs.Word.{contains, avoids, longest, under, reduce, has, dist
 use Rattle.word.specs.PermLaws.{perm-bounds, perm-distinct}
 use Rattle.cell.specs.Claim.{DeletionClaim}
 use Rattle.cell.specs.CandidateLaws.{irreversible-law}
-use Rattle.candidate.specs.Tabled.{Tabled, IsCandidate}
-use Rattle.word.specs.Containment.{patternsOf}
+use Rattle.placing.specs.Tabled.{Tabled, IsCandidate}
+use Rattle.word.specs.Patterns.{patternsOf}
 use Rattle.word.specs.ListLaws.{true-not-false, first-some}
 use Rattle.word.specs.CopyLaws.{found, first-found}
 use Rattle.word.specs.ContainsLaws.{avoids-none}
@@ -26,7 +26,7 @@ use Rattle.cell.specs.Cell.{total, without, free, vectors, comparedTo}
 use Rattle.cell.specs.SpacingWalk.{compared-are}
 use Rattle.cell.specs.Built.{level, built}
 use Rattle.cell.specs.Candidate.{headLength, hit, violates, violated, irreversible, violatedFirst}
-use Rattle.candidate.specs.Lookup.{needAt, Says, Flags}
+use Rattle.placing.specs.Lookup.{needAt, Says, Flags}
 use Rattle.forms.specs.SetMemory.{patternAt}
 use Rattle.candidate.specs.Ready.{Ready, Needs, Given, Looked, FlaggedFor, FreeAnswer, FoundAt, TotalAnswer, EntryAnswer}
 use Rattle.candidate.specs.declared.search.Lost.{Lost}

@@ -13,9 +13,9 @@ use Rattle.word.specs.PermLaws.{perm-bounds}
 use Rattle.cell.specs.Cell.{total}
 use Rattle.cell.specs.Built.{level}
 use Rattle.cell.specs.Candidate.{headLength, place, hit}
-use Rattle.candidate.specs.Lookup.{entryOf, flagged}
+use Rattle.placing.specs.Lookup.{entryOf, flagged}
 use Rattle.candidate.specs.Ready.{Ready}
-use Rattle.candidate.proofs.PlacingState.{place-same}
+use Rattle.placing.proofs.PlacingState.{place-same}
 
 -- a pattern that is no longer than the total hits nothing
 pub hit-short : (p R g β : List ℕ) (t : ℕ) → total g ≡ t → length β ≤ t → hit p R g β ≡ false

@@ -11,7 +11,7 @@ use Rattle.word.specs.Ceilings.{DIGITS}
 use Rattle.word.specs.Word.{under}
 use Rattle.word.specs.ListLaws.{same-or-not}
 use Rattle.cell.specs.Candidate.{headLength}
-use Rattle.candidate.specs.Lookup.{VALUES, NEEDS}
+use Rattle.placing.specs.Lookup.{VALUES, NEEDS}
 use Rattle.forms.specs.SetMemory.{patternAt}
 use Rattle.candidate.specs.Ready.{Needs, AllNeeds}
 use Rattle.basis.proofs.BasisWalk.{take-again}

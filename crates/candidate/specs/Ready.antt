@@ -9,13 +9,13 @@ use Rattle.forms.specs.SetMemory.{patternAt}
 use lib.ListN.{length, take, drop}
 use Rattle.word.specs.Ceilings.{DIGITS, PATTERNS, PREFIX}
 use Rattle.word.specs.Lists.{all, first}
-use Rattle.word.specs.Containment.{patternsOf}
+use Rattle.word.specs.Patterns.{patternsOf}
 use Rattle.word.specs.Word.{longest, under, has, entry, isPerm, within}
 use Rattle.cell.specs.Cell.{total, free, vectors}
 use Rattle.cell.specs.Claim.{DeletionClaim}
 use Rattle.cell.specs.Built.{level}
 use Rattle.cell.specs.Candidate.{headLength, violated, irreversible, violatedFirst}
-use Rattle.candidate.specs.Lookup.{VALUES, NEEDS, needAt, Says, Flags}
+use Rattle.placing.specs.Lookup.{VALUES, NEEDS, needAt, Says, Flags}
 use Rattle.candidate.specs.declared.search.Lost.{Lost}
 
 -- of one prefix, its deleted positions, one spacing and one pattern

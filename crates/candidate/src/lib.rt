@@ -1,6 +1,3 @@
-// The candidate search: placing a pattern's head in a prefix, the numbers that it looks up, and the
-// search itself.
+// The candidate search, and the levels that patterns need in it.
 pub mod needed;
-pub mod placing;
 pub mod search;
-pub mod tables;

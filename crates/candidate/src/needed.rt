@@ -1,8 +1,8 @@
 // The levels that the head entries of the patterns of a set need, for every total: worked out once
 // for a set, and looked up in the search.
-use crate::tables::VALUES;
-use crate::tables::at_most;
 use basis::digits;
+use placing::tables::VALUES;
+use placing::tables::at_most;
 use word::limits::DIGITS;
 use word::limits::PATTERNS;
 ghost use mathlib.Core.Path.{_≡_};
@@ -10,7 +10,7 @@ ghost use Prim.Native.Nat.{_-_, _≤_, _<_};
 ghost use lib.ListN.{length, take, drop};
 ghost use Rattle.word.specs.Ceilings.{DIGITS, PATTERNS};
 ghost use Rattle.word.specs.Word.{under};
-ghost use Rattle.candidate.specs.Lookup.{NEEDS, needAt};
+ghost use Rattle.placing.specs.Lookup.{NEEDS, needAt};
 ghost use Rattle.candidate.specs.Ready.{AllNeeds};
 
 // for each pattern, each total below DIGITS and each value one byte

@@ -2,19 +2,19 @@
 // it first does. For each spacing and pattern there is one word to look at: the prefix at the
 // spacing, followed by the rest that the pattern's last entries make.
 use crate::needed::need_at;
-use crate::placing::Placing;
-use crate::placing::placed;
-use crate::tables::Tables;
-use crate::tables::VALUES;
-use crate::tables::candidate_word;
-use crate::tables::deleted_values;
-use crate::tables::levels_of;
 use basis::digits;
 use completion::contained;
+use copy_search::first_copy;
+use placing::placing::Placing;
+use placing::placing::placed;
+use placing::tables::Tables;
+use placing::tables::VALUES;
+use placing::tables::candidate_word;
+use placing::tables::deleted_values;
+use placing::tables::levels_of;
 use spacing::first_spacing;
 use spacing::is_free;
 use spacing::next_spacing;
-use word::copy::first_copy;
 use word::limits::COMPONENTS;
 use word::limits::DIGITS;
 use word::limits::PATTERNS;
@@ -27,11 +27,11 @@ ghost use Prim.Native.Nat.{ℕ, _+_, _≤_, _<_};
 ghost use lib.ListN.{length, take};
 ghost use Rattle.word.specs.Ceilings.{DIGITS, PATTERNS, PREFIX, TOTAL, WORD};
 ghost use Rattle.word.specs.Word.{avoids};
-ghost use Rattle.word.specs.Containment.{patternsOf};
+ghost use Rattle.word.specs.Patterns.{patternsOf};
 ghost use Rattle.cell.specs.Cell.{total};
 ghost use Rattle.cell.specs.Candidate.{hit};
 ghost use Rattle.forms.specs.GapRows.{gapsOf, HasVectors};
-ghost use Rattle.candidate.specs.Lookup.{NEEDS};
+ghost use Rattle.placing.specs.Lookup.{NEEDS};
 ghost use Rattle.candidate.specs.Ready.{Ready, AllNeeds, Given, SpacingAnswer, FreeAnswer, TotalAnswer, EntryAnswer};
 
 // A deletion from an entry's prefix: the prefix, the deleted positions, how many gap vectors the

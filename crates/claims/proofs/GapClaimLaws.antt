@@ -14,14 +14,14 @@ use Rattle.word.specs.Lists.{any, keep, each, row}
 use Rattle.word.specs.Word.{isPerm}
 use Rattle.word.specs.ListLaws.{and-left, and-right, any-out, map-same}
 use Rattle.word.specs.PermLaws.{perm-bounds}
-use Rattle.word.specs.Containment.{patternsOf}
+use Rattle.word.specs.Patterns.{patternsOf}
 use Rattle.cell.specs.Cell.{total, cell, atLeast, vectors}
 use Rattle.cell.specs.Built.{level, val}
 use Rattle.cell.specs.BuiltWords.{level-at-most}
 use Rattle.cell.specs.Theorems.{gap-law}
-use Rattle.candidate.specs.Lookup.{entryOf, flagged, Says}
-use Rattle.candidate.specs.Tabled.{keptValues}
-use Rattle.candidate.proofs.LookupLaws.{level-more, flag-none}
+use Rattle.placing.specs.Lookup.{entryOf, flagged, Says}
+use Rattle.placing.specs.Tabled.{keptValues}
+use Rattle.placing.proofs.LookupLaws.{level-more, flag-none}
 use Rattle.completion.specs.Completion.{completable}
 use Rattle.forms.specs.SchemeMemory.{padded, gapIn, gapAt, entryIn}
 use Rattle.forms.specs.MemoryLaws.{padded-within}

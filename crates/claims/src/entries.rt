@@ -17,7 +17,7 @@ use word::limits::WORD;
 ghost use mathlib.Core.Path.{_≡_};
 ghost use Prim.Native.Nat.{_≤_};
 ghost use Rattle.word.specs.Ceilings.{DIGITS};
-ghost use Rattle.word.specs.Containment.{patternsOf};
+ghost use Rattle.word.specs.Patterns.{patternsOf};
 ghost use Rattle.word.specs.Word.{longest};
 ghost use Rattle.forms.specs.SchemeMemory.{entryIn};
 ghost use Rattle.candidate.specs.Ready.{AllNeeds};

@@ -1,8 +1,8 @@
 // The gap vectors of an entry: whether the cell at one of them is not empty.
-use candidate::tables::kept;
-use candidate::tables::levels_of;
 use completion::completable;
 use forms::memory::Gap;
+use placing::tables::kept;
+use placing::tables::levels_of;
 use spacing::at_least;
 use spacing::first_spacing;
 use spacing::next_spacing;
@@ -19,7 +19,7 @@ ghost use lib.ListN.{length, take};
 ghost use lib.Dec.{leb};
 ghost use Rattle.word.specs.Ceilings.{PREFIX, COMPONENTS, TOTAL};
 ghost use Rattle.word.specs.Word.{isPerm};
-ghost use Rattle.word.specs.Containment.{patternsOf};
+ghost use Rattle.word.specs.Patterns.{patternsOf};
 ghost use Rattle.cell.specs.Cell.{total, cell};
 ghost use Rattle.forms.specs.SchemeMemory.{gapIn};
 ghost use Rattle.verdict.specs.Verdict.{isEmpty};

@@ -1,7 +1,7 @@
 // The emptiness search: whether a word of first entries can be completed to an avoider of a given
 // length.
+use containment::any_in;
 use word::bytes::wide;
-use word::containment::any_in;
 use word::limits::DIGITS;
 use word::limits::PATTERNS;
 use word::limits::WORD;
@@ -13,7 +13,7 @@ ghost use Prim.Native.Nat.{_+_, _≤_, _<_};
 ghost use lib.ListN.{take};
 ghost use Rattle.word.specs.Ceilings.{WORD};
 ghost use Rattle.word.specs.Word.{avoids, has};
-ghost use Rattle.word.specs.Containment.{patternsOf};
+ghost use Rattle.word.specs.Patterns.{patternsOf};
 ghost use Rattle.completion.specs.Completion.{completable as completes, begun, allAllowed};
 
 // Whether some avoider of length n begins with the first `len` entries of the word.

@@ -9,7 +9,7 @@ use word::limits::PATTERNS;
 ghost use mathlib.Core.Path.{_≡_};
 ghost use Prim.Native.Nat.{_≤_};
 ghost use Rattle.word.specs.Ceilings.{PLAIN_LENGTH};
-ghost use Rattle.word.specs.Containment.{patternsOf};
+ghost use Rattle.word.specs.Patterns.{patternsOf};
 ghost use Rattle.forms.specs.SchemeMemory.{schemeIn};
 ghost use Rattle.verdict.specs.Truth.{WellFormed, AllTrue};
 ghost use Rattle.verdict.specs.Value.{countOf};

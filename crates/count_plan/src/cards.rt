@@ -1,4 +1,5 @@
 // The card of each entry: its children and its target are looked up once for all cells.
+use containment::any_in;
 use forms::memory::Entry;
 use forms::memory::Rule;
 use scheme::links::Found;
@@ -6,7 +7,6 @@ use scheme::links::child;
 use scheme::links::find_prefix;
 use scheme::links::shorter;
 use word::bytes::wide;
-use word::containment::any_in;
 use word::limits::DIGITS;
 use word::limits::LINKS;
 use word::limits::PATTERNS;
@@ -17,7 +17,7 @@ ghost use Prim.Native.Nat.{_+_, _≤_, _<_};
 ghost use lib.ListN.{take};
 ghost use Rattle.word.specs.Ceilings.{PREFIX};
 ghost use Rattle.word.specs.Word.{avoids, isPerm};
-ghost use Rattle.word.specs.Containment.{patternsOf};
+ghost use Rattle.word.specs.Patterns.{patternsOf};
 ghost use Rattle.cell.specs.Child.{childAt};
 ghost use Rattle.forms.specs.SchemeMemory.{entryIn};
 ghost use Rattle.scheme.specs.Links.{LinkedEntry};

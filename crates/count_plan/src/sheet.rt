@@ -21,7 +21,7 @@ ghost use Rattle.count_plan.specs.SheetForm.{Put, headOf, GapsIn, CardIn
 ghost use Rattle.count_plan.specs.SheetRows.{Names};
 ghost use Rattle.forms.specs.SchemeMemory.{schemeIn};
 ghost use Rattle.scheme.specs.Proper.{Proper};
-ghost use Rattle.word.specs.Containment.{patternsOf};
+ghost use Rattle.word.specs.Patterns.{patternsOf};
 
 // Bytes before the links: four numbers of an entry, and four zeros.
 pub const FIELDS: usize = 8;

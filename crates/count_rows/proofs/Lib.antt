@@ -1,3 +1,2 @@
 -- The laws that the proofs of the crate count_rows use.
-pub mod FrameLaws
 pub mod RowLaws

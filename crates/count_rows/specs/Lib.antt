@@ -1,5 +1,5 @@
 -- Counting by the table.
-pub mod Frames
+pub mod Rows
 pub mod Run
 pub mod RunLaws
 pub mod OverflowLaws

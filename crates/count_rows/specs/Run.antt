@@ -12,8 +12,8 @@ use Rattle.count_step.specs.Step.{held}
 use Rattle.count_plan.specs.Layout.{rowsOf, cellAt}
 use Rattle.count_walk.specs.Cells.{cellsOf}
 use Rattle.count_walk.specs.Walk.{countWalked}
-use Rattle.count_rows.specs.Frames.{RootGiven}
-use Rattle.count_rows.specs.declared.frame.Frame.{Frame}
+use Rattle.count_rows.specs.Rows.{RootGiven}
+use Rattle.count_entry.specs.declared.frame.Frame.{Frame}
 
 -- m zeros in front of what the table has behind them: "After a count those cells hold 0, the rest
 -- being untouched" (01)

@@ -3,13 +3,14 @@
 // are kept, `width` the sum of C(n, k) over all entries, `place` that over the entries before d,
 // and `rank` the rank of g. Longer entries come first, so that children are there before their
 // parents; targets stand in a row before.
-use crate::entry::fill_entry;
-use crate::frame::Frame;
 use count_cursor::cursor::next_entry;
 use count_cursor::cursor::row_start;
+use count_entry::entry::fill_entry;
+use count_entry::frame::Frame;
 ghost use Prim.Native.Nat.{_≤_};
 ghost use Rattle.spacing.specs.Pascal.{Pascal};
-ghost use Rattle.count_rows.specs.Frames.{Framed, RowWalked, RowsWalked};
+ghost use Rattle.count_entry.specs.Frames.{Framed};
+ghost use Rattle.count_rows.specs.Rows.{RowWalked, RowsWalked};
 
 // Fills the row of length j: the cursor goes through it, entry by entry.
 pub fn fill_row(table: &mut [u64], sheet: &[u8], places: &[usize], f: Frame, j: usize, b: &[usize])

@@ -1,17 +1,17 @@
 // All rows up to a length, the values at ε, and the table afterwards.
-use crate::frame::Frame;
-use crate::frame::need;
 use crate::rows::fill_row;
 use crate::rows::fill_rows;
 use crate::values::root_cell;
 use crate::values::value_in;
+use count_entry::frame::Frame;
+use count_entry::frame::need;
 use count_step::cells::store;
 use word::limits::COUNTS;
 ghost use mathlib.Core.Path.{_≡_};
 ghost use Prim.Native.Nat.{_*_, _≤_};
 ghost use lib.ListN.{length};
 ghost use Rattle.spacing.specs.Pascal.{Pascal};
-ghost use Rattle.count_rows.specs.Frames.{RootGiven};
+ghost use Rattle.count_rows.specs.Rows.{RootGiven};
 ghost use Rattle.count_rows.specs.Run.{cleared, LastValue, Values};
 
 // Sets the first m cells to 0.

@@ -1,6 +1,6 @@
 // Reading the value at a listed prefix and a spacing, in a row that the table keeps.
-use crate::frame::Frame;
-use crate::frame::block_of;
+use count_entry::frame::Frame;
+use count_entry::frame::block_of;
 use count_plan::places::place_at;
 use count_plan::reading::field;
 use count_step::cells::read;
@@ -12,7 +12,7 @@ ghost use Prim.Native.Nat.{_≤_};
 ghost use lib.ListN.{take};
 ghost use Rattle.word.specs.Ceilings.{LENGTH};
 ghost use Rattle.spacing.specs.Pascal.{Pascal};
-ghost use Rattle.count_rows.specs.Frames.{ReadGiven, ReadsCell};
+ghost use Rattle.count_rows.specs.Rows.{ReadGiven, ReadsCell};
 
 // A cell: its row, its entry and its spacing.
 pub struct CellAt {

@@ -19,10 +19,11 @@ use Rattle.count_plan.specs.Plan.{Places}
 use Rattle.count_plan.specs.SheetForm.{SheetTo}
 use Rattle.count_plan.specs.SheetRows.{Names}
 use Rattle.count_plan.proofs.SheetRowLaws.{sheet-of}
-use Rattle.count_rows.specs.Frames.{frameOf, FrameFits, RootGiven}
+use Rattle.count_entry.specs.Frames.{frameOf, FrameFits}
+use Rattle.count_rows.specs.Rows.{RootGiven}
 use Rattle.count_rows.specs.Run.{rootValue, ValuesTo, Counts}
 use Rattle.count_rows.specs.RunLaws.{root-count, run-counts}
-use Rattle.count_rows.specs.declared.frame.Frame.{Frame}
+use Rattle.count_entry.specs.declared.frame.Frame.{Frame}
 use Rattle.counting.specs.Measuring.{Measured, TableGiven}
 use Rattle.counting.specs.declared.measure.Measure.{Measure}
 

@@ -14,7 +14,7 @@ use Rattle.forms.specs.declared.memory.Scheme.{Scheme}
 use Rattle.verdict.specs.Truth.{WellFormed, AllTrue}
 use Rattle.count_plan.specs.Layout.{needOf}
 use Rattle.count_plan.specs.Plan.{Places}
-use Rattle.count_rows.specs.Frames.{frameOf}
+use Rattle.count_entry.specs.Frames.{frameOf}
 use Rattle.count_rows.specs.Run.{Counts}
 use Rattle.counting.specs.Counting.{tableTests}
 use Rattle.counting.specs.declared.measure.Measure.{Measure}

@@ -1,9 +1,9 @@
 // What n and the table are refused for, and the layout of the table: worked out once a call.
+use count_entry::frame::Frame;
+use count_entry::frame::frame_of;
+use count_entry::frame::need;
 use count_plan::places::PLACES;
 use count_plan::places::places_of;
-use count_rows::frame::Frame;
-use count_rows::frame::frame_of;
-use count_rows::frame::need;
 use forms::memory::Fault;
 use forms::memory::Scheme;
 use word::limits::LENGTH;

@@ -1,6 +1,6 @@
 // The test by which a word with too many unused values between two bounds cannot be completed.
+use copy_search::capped;
 use word::bytes::wide;
-use word::copy::capped;
 use word::limits::DIGITS;
 use word::limits::PATTERNS;
 use word::limits::WORD;
@@ -9,7 +9,7 @@ ghost use mathlib.Core.Bool.{_&&_, cond};
 ghost use Prim.Native.Nat.{_-_, _*_, _≤_, _<_};
 ghost use lib.ListN.{take, drop, getD};
 ghost use Rattle.word.specs.Ceilings.{DIGITS, WORD};
-ghost use Rattle.word.specs.Containment.{patternsOf};
+ghost use Rattle.word.specs.Patterns.{patternsOf};
 ghost use Rattle.crowding.specs.Crowding.{precedes, monotone, monotoneLength};
 ghost use Rattle.crowding.specs.Crowding.{shorter, shortest, shortestRising, shortestFalling};
 ghost use Rattle.crowding.specs.Crowding.{bound, startEnds, nextEnds, ends, crowded};

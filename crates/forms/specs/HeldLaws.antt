@@ -7,7 +7,7 @@ use lib.ListN.{length, getD, take}
 use Rattle.word.specs.Ceilings.{DIGITS, PATTERNS}
 use Rattle.word.specs.Lists.{row}
 use Rattle.word.specs.ListLaws.{map-same, row-out}
-use Rattle.word.specs.Containment.{patternsOf}
+use Rattle.word.specs.Patterns.{patternsOf}
 use Rattle.forms.specs.SetMemory.{patternAt, HasDigits, HasLengths}
 use Rattle.forms.specs.SchemeMemory.{noPattern, patternIn, patternsIn}
 use Rattle.forms.specs.MemoryLaws.{padded-within}

@@ -17,7 +17,7 @@ pub struct Pattern {
 
 // A set of patterns: so many of the items. The checker takes no field that is an array of arrays,
 // so each pattern is a struct here; an array of arrays of digits with lengths beside it is what
-// containment is handed (word::containment::any_in).
+// containment is handed.
 pub struct Patterns {
     pub items: [Pattern; PATTERNS],
     pub count: usize,

@@ -16,7 +16,7 @@ ghost use lib.Dec.{eqb};
 ghost use lib.ListN.{take};
 ghost use Rattle.word.specs.Ceilings.{WORD};
 ghost use Rattle.word.specs.Word.{isPerm};
-ghost use Rattle.word.specs.Containment.{patternsOf};
+ghost use Rattle.word.specs.Patterns.{patternsOf};
 ghost use Rattle.arrangement.specs.Searching.{Searches};
 ghost use Rattle.insertion.specs.Insertion.{PutsIn};
 

@@ -4,6 +4,3 @@ pub mod SetMemory
 pub mod ProperSetLaws
 pub mod JudgementLaws
 pub mod WitnessPageLaws
-pub mod TextJudgement
-pub mod TextVerdictLaws
-pub mod TextPageLaws

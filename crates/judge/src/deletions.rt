@@ -11,7 +11,7 @@ use word::refusal::Refusal;
 ghost use Prim.Native.Nat.{_≤_};
 ghost use Rattle.word.specs.Ceilings.{DIGITS};
 ghost use Rattle.word.specs.Word.{longest};
-ghost use Rattle.word.specs.Containment.{patternsOf};
+ghost use Rattle.word.specs.Patterns.{patternsOf};
 ghost use Rattle.forms.specs.SchemeMemory.{schemeIn};
 ghost use Rattle.claims.specs.EntryMemory.{ProperSet};
 ghost use Rattle.scheme.specs.Proper.{Proper};

@@ -6,7 +6,7 @@ use word::limits::DIGITS;
 use word::limits::PATTERNS;
 use word::refusal::Refusal;
 ghost use mathlib.Core.Path.{_≡_};
-ghost use Rattle.word.specs.Containment.{patternsOf};
+ghost use Rattle.word.specs.Patterns.{patternsOf};
 ghost use Rattle.word.specs.declared.refusal.Refusal.the-variants.{LiveGap};
 ghost use Rattle.scheme.specs.WellFormed.{firstAt};
 ghost use Rattle.forms.specs.SchemeMemory.{schemeIn, faultOf};

@@ -5,7 +5,7 @@ use mathlib.Core.Path.{_≡_}
 use mathlib.Core.List.{List}
 use mathlib.Core.Logic.{_↔_}
 use Rattle.verdict.specs.Verdict.{toldVerdict}
-use Rattle.judge.specs.TextJudgement.{verdictOfTexts, TextsTrue}
+use Rattle.judge_texts.specs.TextJudgement.{verdictOfTexts, TextsTrue}
 
 -- the number r for the texts s and t
 pub record Called (s t : List ℕ) (r : ℕ) : Type 0 where

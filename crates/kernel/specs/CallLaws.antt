@@ -15,7 +15,7 @@ use Rattle.word.specs.declared.refusal.Refusal.the-variants.{Irreversible, Shor
 use Rattle.verdict.specs.Verdict.{toldVerdict, accepted}
 use Rattle.verdict.specs.declared.answer.Verdict.{Verdict}
 use Rattle.verdict.specs.declared.answer.Verdict.the-variants.{Accepted, Refused}
-use Rattle.judge.specs.TextJudgement.{JudgesTextsWithoutPage}
+use Rattle.judge_texts.specs.TextJudgement.{JudgesTextsWithoutPage}
 use Rattle.kernel.specs.Call.{Called}
 
 -- no refusal has the number 0

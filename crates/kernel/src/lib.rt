@@ -1,5 +1,5 @@
 // The call from C: "it calls the judge with two texts" (01).
-use judge::texts::judge_texts_without_page;
+use judge_texts::judge_texts_without_page;
 use verdict::answer::Verdict;
 use word::refusal::number;
 ghost use mathlib.Core.Path.{_≡_};

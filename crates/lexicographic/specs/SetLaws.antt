@@ -8,7 +8,7 @@ use Rattle.word.specs.Ceilings.{PATTERNS}
 use Rattle.word.specs.Word.{isPerm, avoids}
 use Rattle.word.specs.Listing.{firstAvoider, nextAvoider}
 use Rattle.word.specs.Finding.{clean, firstFault}
-use Rattle.word.specs.Containment.{patternsOf}
+use Rattle.word.specs.Patterns.{patternsOf}
 use Rattle.cell.specs.Basis.{basis}
 use Rattle.cell.specs.BasisLaws.{basis-avoids}
 use Rattle.forms.specs.SetMemory.{HasDigits, HasLengths}

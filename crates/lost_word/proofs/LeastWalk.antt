@@ -15,22 +15,22 @@ use borrow.Author.Tests.{eq-eqb, ne-eqb, le-ltb, not-true, not-false}
 use Rattle.word.specs.Ceilings.{DIGITS, PREFIX}
 use Rattle.word.specs.Lists.{any, keep, oneTo}
 use Rattle.word.specs.Word.{before, has, entry}
-use Rattle.word.specs.Containment.{patternsOf}
+use Rattle.word.specs.Patterns.{patternsOf}
 use Rattle.word.specs.CopyLaws.{found, entries}
 use Rattle.word.specs.ListLaws.{true-not-false, first-some}
 use Rattle.word.proofs.PatternSet.{from, from-start, from-counted, from-cons}
 use Rattle.cell.specs.Cell.{total, without, comparedTo}
 use Rattle.cell.specs.Built.{built}
 use Rattle.cell.specs.Candidate.{violates, violated, restOf, violatedFirst, lostWords, leastOf, leastAt, leastCandidate}
-use Rattle.candidate.specs.Lookup.{VALUES, needAt, flagged}
-use Rattle.candidate.specs.Tabled.{IsCandidate}
+use Rattle.placing.specs.Lookup.{VALUES, needAt, flagged}
+use Rattle.placing.specs.Tabled.{IsCandidate}
 use Rattle.forms.specs.SetMemory.{patternAt}
 use Rattle.candidate.specs.Ready.{Looked, FoundAt}
 use Rattle.lost_word.specs.Shown.{ShowsWord}
 use Rattle.lost_word.specs.Shown.{shown, lesserShown, lostBy, WordAnswer}
 use Rattle.candidate.specs.declared.search.Lost.{Lost}
 use Rattle.lost_word.specs.declared.least.LostWord.{LostWord}
-use Rattle.candidate.proofs.LookupLaws.{flag-none}
+use Rattle.placing.proofs.LookupLaws.{flag-none}
 use Rattle.candidate.proofs.CandidateWalk.{Violates, word-made}
 
 -- comparing two words from index i on

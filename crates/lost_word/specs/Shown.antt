@@ -6,7 +6,7 @@ use mathlib.Core.List.{List}
 use mathlib.Core.Option.{Option, none, some}
 use lib.ListN.{take}
 use Rattle.word.specs.Ceilings.{DIGITS, PREFIX}
-use Rattle.word.specs.Containment.{patternsOf}
+use Rattle.word.specs.Patterns.{patternsOf}
 use Rattle.cell.specs.Cell.{total}
 use Rattle.cell.specs.Built.{built}
 use Rattle.cell.specs.Candidate.{violates, restOf, lesser}

@@ -15,7 +15,7 @@ use Rattle.forms.specs.SchemeMemory.{patternsIn, faultOf, faulty}
 use Rattle.forms.specs.declared.memory.Patterns.{Patterns}
 use Rattle.forms.specs.declared.memory.Fault.{Fault}
 use Rattle.forms.specs.declared.memory.Fault.the-variants.{Clean, At}
-use Rattle.word.specs.Containment.{isPattern}
+use Rattle.word.specs.Patterns.{isPattern}
 use Rattle.text_grammar.specs.Tokens.{tokens}
 use Rattle.text_grammar.specs.Spelling.{SpellsPatterns, writtenPatterns}
 use Rattle.notation.specs.Answers.{answerFrom}

@@ -13,7 +13,7 @@ use Rattle.word.specs.Lists.{all, any}
 use Rattle.word.specs.Word.{isPerm, within}
 use Rattle.word.specs.ListLaws.{true-not-false, and-in, any-in, row-in, below-or-not}
 use Rattle.word.specs.PermLaws.{within-in}
-use Rattle.word.specs.Containment.{isPattern}
+use Rattle.word.specs.Patterns.{isPattern}
 use Rattle.word.specs.Finding.{clean, firstFault}
 use Rattle.word.specs.declared.refusal.Refusal.the-variants.{Oversize, NoPermutation, Rootless, Width, NoPosition, Childless, NoTarget}
 use Rattle.cell.specs.Basis.{same}

@@ -9,7 +9,7 @@ use Rattle.word.specs.Ceilings.{DIGITS, PATTERNS}
 use Rattle.word.specs.Word.{isPerm}
 use Rattle.word.specs.ListLaws.{row-in}
 use Rattle.word.specs.Finding.{clean, firstFault}
-use Rattle.word.specs.Containment.{patternsOf}
+use Rattle.word.specs.Patterns.{patternsOf}
 use Rattle.scheme.specs.WellFormed.{patternTests}
 use Rattle.forms.specs.SchemeMemory.{noPattern, patternIn, patternsIn}
 use Rattle.forms.specs.MemoryLaws.{length-padded}

@@ -8,7 +8,7 @@ use lib.Dec.{ltb, eqb}
 use Rattle.word.specs.Ceilings.{DIGITS, PATTERNS, ENTRIES, PREFIX, COMPONENTS, GAPS, TOTAL}
 use Rattle.word.specs.Lists.{any}
 use Rattle.word.specs.Word.{isPerm}
-use Rattle.word.specs.Containment.{isPattern}
+use Rattle.word.specs.Patterns.{isPattern}
 use Rattle.word.specs.Finding.{Finding, clean, fault, test}
 use Rattle.word.specs.declared.refusal.Refusal.{Refusal}
 use Rattle.word.specs.declared.refusal.Refusal.the-variants.{Oversize, NoPermutation, Repeated, Rootless, Width}

@@ -12,9 +12,9 @@ use Rattle.word.specs.Lists.{all, keep, each, row}
 use Rattle.word.specs.Word.{firstCopy, reduce, isPerm}
 use Rattle.word.specs.Told.{Told}
 use Rattle.word.specs.Earliest.{earliest, positionsOf}
-use Rattle.word.specs.Containment.{containment}
-use Rattle.word.specs.declared.containment.Contained.{Contained}
-use Rattle.word.specs.declared.containment.Contained.the-variants.{Yes, No}
+use Rattle.containment.specs.Containment.{containment}
+use Rattle.containment.specs.declared.Contained.{Contained}
+use Rattle.containment.specs.declared.Contained.the-variants.{Yes, No}
 use Rattle.word.specs.declared.refusal.Refusal.the-variants.{Rootless, LiveGap, Irreversible}
 use Rattle.cell.specs.Basis.{same, basis}
 use Rattle.cell.specs.Cell.{spacing, cell, deleted, merged, vectors, free, total, children, mOf, comparedTo}
@@ -32,7 +32,7 @@ use Rattle.notation.specs.SchemeAnswers.{schemeAnswer}
 use Rattle.verdict.specs.Verdict.{verdictOf, toldVerdict, comparedCellsUnder, liveGap, differsUnder, sizesDiffer, comparedWithUnder}
 use Rattle.verdict.specs.declared.answer.Verdict.{Verdict}
 use Rattle.verdict.specs.declared.answer.Verdict.the-variants.{Accepted, Refused}
-use Rattle.judge.specs.TextJudgement.{verdictOfTexts, verdictReadOn, pageRead}
+use Rattle.judge_texts.specs.TextJudgement.{verdictOfTexts, verdictReadOn, pageRead}
 use Rattle.verdict.specs.Witness.{shownWordUnder, shownWord}
 use Rattle.verdict.specs.Value.{countOf}
 use Rattle.starred.specs.Utf8.{bytes}

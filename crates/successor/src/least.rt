@@ -17,7 +17,7 @@ ghost use lib.ListN.{take, getD};
 ghost use Rattle.word.specs.Ceilings.{WORD};
 ghost use Rattle.word.specs.Lists.{oneTo};
 ghost use Rattle.word.specs.Listing.{firstAvoider, nextAvoider};
-ghost use Rattle.word.specs.Containment.{patternsOf};
+ghost use Rattle.word.specs.Patterns.{patternsOf};
 ghost use Rattle.successor.specs.Values.{SeeksValue, Avoider, leastFrom, Lowers, givenIn};
 
 // The first avoider of length n that begins with the first k entries of an avoider. At each further

@@ -4,9 +4,9 @@ use libc::STDOUT_FILENO;
 use table_lines::input::Lines;
 use table_lines::input::SCHEME;
 use table_lines::input::SET;
-use table_lines::reading::State;
-use table_lines::reading::read_all;
 use table_print::printing::print;
+use table_reading::State;
+use table_reading::read_all;
 use table_text::printing::PAGE;
 
 fn main() {

@@ -2,10 +2,8 @@
 pub mod Lines
 pub mod Kept
 pub mod KeptWalk
-pub mod Reads
 pub mod LineLaws
 pub mod KeptLaws
-pub mod ReadLaws
 pub mod LastNumberLaws
 pub mod CallerLaws
 pub mod ThreeLaws

@@ -1,3 +1,2 @@
-// What is kept of an input of three lines, and one read of it.
+// What is kept of an input of three lines.
 pub mod input;
-pub mod reading;

@@ -36,9 +36,9 @@ use Rattle.verdict.specs.ValueLaws.{count-avoiders}
 use Rattle.count_plan.specs.Layout.{needOf}
 use Rattle.count_rows.specs.Run.{Counts}
 use Rattle.forms.specs.MemoryLaws.{take-row}
-use Rattle.judge.specs.TextJudgement.{verdictRead, verdictOfTexts, TextsTrue, JudgesAndReads}
-use Rattle.judge.specs.TextVerdictLaws.{set-clean, set-list, scheme-clean, scheme-list}
-use Rattle.judge.specs.declared.texts.TextsJudged.{TextsJudged}
+use Rattle.judge_texts.specs.TextJudgement.{verdictRead, verdictOfTexts, TextsTrue, JudgesAndReads}
+use Rattle.judge_texts.specs.TextVerdictLaws.{set-clean, set-list, scheme-clean, scheme-list}
+use Rattle.judge_texts.specs.declared.TextsJudged.{TextsJudged}
 use Rattle.counting.specs.Counting.{faultIn}
 use Rattle.counting.specs.CountLaws.{clean-accepts, table-serves}
 use Rattle.table_lines.specs.Lines.{Three, threeLines, numberIn}

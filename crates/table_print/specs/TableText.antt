@@ -20,7 +20,7 @@ use Rattle.text_page.specs.Page.{Writes}
 use Rattle.notation.specs.PatternAnswers.{patternsAnswer}
 use Rattle.notation.specs.SchemeAnswers.{schemeAnswer}
 use Rattle.verdict.specs.Truth.{WellFormed, AllTrue}
-use Rattle.judge.specs.TextJudgement.{verdictOfTexts, TextsTrue}
+use Rattle.judge_texts.specs.TextJudgement.{verdictOfTexts, TextsTrue}
 use Rattle.verdict.specs.Value.{countOf}
 use Rattle.count_plan.specs.Layout.{needOf}
 use Rattle.counting.specs.Counting.{tableTests, faultIn}

@@ -7,7 +7,7 @@ mod cells;
 mod spacings;
 
 use cells::compared;
-use judge::texts::judge_texts_without_page;
+use judge_texts::judge_texts_without_page;
 use test_support::counts::one_more_if;
 use test_support::lines::input;
 use test_support::lines::line_after;

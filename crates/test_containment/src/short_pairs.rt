@@ -1,4 +1,7 @@
 // Containment against the direct search on every short pair.
+use containment::Contained;
+use containment::CopyAnswer;
+use containment::contains;
 use test_listing::direct::LENGTH;
 use test_listing::direct::first_positions;
 use test_listing::permutations::LONGEST;
@@ -7,9 +10,6 @@ use test_listing::permutations::permutation;
 use test_support::counts::one_more_if;
 use test_support::parts::prefix;
 use test_support::print;
-use word::containment::Contained;
-use word::containment::CopyAnswer;
-use word::containment::contains;
 use word::limits::DIGITS;
 
 // the length of the longest patterns that are compared on every permutation

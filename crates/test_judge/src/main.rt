@@ -5,7 +5,7 @@
 mod line;
 mod pages;
 
-use judge::texts::judge_texts;
+use judge_texts::judge_texts;
 use line::index_of;
 use line::refusal_of;
 use pages::LONG;

@@ -1,7 +1,7 @@
 // What judging leaves in pages of several lengths, each filled with 7 before.
 use crate::line::index_of;
 use crate::line::refusal_of;
-use judge::texts::judge_texts;
+use judge_texts::judge_texts;
 use test_support::parts::lent;
 use test_support::parts::prefix;
 use test_support::parts::same;

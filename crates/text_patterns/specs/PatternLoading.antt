@@ -13,7 +13,7 @@ use borrow.Author.Tests.{ltb-false, lt-ltb, le-ltb}
 use Rattle.word.specs.Ceilings.{DIGITS, PATTERNS}
 use Rattle.word.specs.Lists.{row}
 use Rattle.word.specs.ListLaws.{below-or-not, length-row}
-use Rattle.word.specs.Containment.{isPattern}
+use Rattle.word.specs.Patterns.{isPattern}
 use Rattle.word.specs.Finding.{Finding, clean, fault, test, firstFault}
 use Rattle.word.specs.declared.refusal.Refusal.{Refusal}
 use Rattle.word.specs.declared.refusal.Refusal.the-variants.{Oversize, NoPermutation}

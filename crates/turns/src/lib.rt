@@ -19,7 +19,7 @@ ghost use Prim.Native.Nat.{_≤_};
 ghost use lib.ListN.{take};
 ghost use Rattle.word.specs.Ceilings.{WORD};
 ghost use Rattle.word.specs.Word.{isPerm};
-ghost use Rattle.word.specs.Containment.{patternsOf};
+ghost use Rattle.word.specs.Patterns.{patternsOf};
 ghost use Rattle.arrangement.specs.Searching.{Searches, Decides};
 ghost use Rattle.turns.specs.Turns.{Ready};
 

@@ -10,14 +10,14 @@ use borrow.Author.Tests.{ltb-false}
 use Rattle.word.specs.Ceilings.{DIGITS, WORD}
 use Rattle.word.specs.Word.{firstCopy}
 use Rattle.word.specs.Finding.{Finding, clean, fault, firstFault}
-use Rattle.word.specs.Copy.{placed}
-use Rattle.word.specs.Containment.{containmentTests, answerOf, containment}
+use Rattle.copy_search.specs.Copy.{placed}
+use Rattle.containment.specs.Containment.{containmentTests, answerOf, containment}
 use Rattle.word.specs.EarliestLaws.{copy-length, copy-within}
 use Rattle.word.specs.declared.refusal.Refusal.{Refusal}
 use Rattle.word.specs.declared.refusal.Refusal.the-variants.{Oversize}
-use Rattle.word.specs.declared.containment.Contained.{Contained}
-use Rattle.word.specs.declared.containment.Contained.the-variants.{Yes, No, Refused}
-use Rattle.word.specs.declared.containment.CopyAnswer.{CopyAnswer}
+use Rattle.containment.specs.declared.Contained.{Contained}
+use Rattle.containment.specs.declared.Contained.the-variants.{Yes, No, Refused}
+use Rattle.containment.specs.declared.CopyAnswer.{CopyAnswer}
 use Rattle.scheme.specs.FindingLaws.{clean-in, clean-test}
 use Rattle.text_page.specs.Page.{overlay}
 use Rattle.text_page.specs.PageLaws.{overlay-none}

@@ -7,13 +7,13 @@ use lib.ListN.{length}
 use Rattle.word.specs.Word.{firstCopy}
 use Rattle.word.specs.Refusal.{numberOf}
 use Rattle.word.specs.Finding.{Finding, clean, fault, firstFault}
-use Rattle.word.specs.Containment.{containmentTests}
+use Rattle.containment.specs.Containment.{containmentTests}
 use Rattle.notation.specs.PatternAnswers.{patternsAnswer}
 use Rattle.notation.specs.SchemeAnswers.{schemeAnswer}
 use Rattle.text_page.specs.Page.{overlay}
 use Rattle.verdict.specs.declared.answer.Verdict.{Verdict}
 use Rattle.verdict.specs.declared.answer.Verdict.the-variants.{Accepted, Refused}
-use Rattle.judge.specs.TextJudgement.{verdictReadOn, pageRead}
+use Rattle.judge_texts.specs.TextJudgement.{verdictReadOn, pageRead}
 use Rattle.twin_exports.specs.TextCounts.{largest}
 
 -- the compared cells, or the largest number less the number of the refusal

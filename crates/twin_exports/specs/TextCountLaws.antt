@@ -17,8 +17,8 @@ use Rattle.notation.specs.declared.patterns.PatternsRead.{PatternsRead}
 use Rattle.notation.specs.declared.schemes.SchemeRead.{SchemeRead}
 use Rattle.verdict.specs.Verdict.{verdictOf, accepted}
 use Rattle.verdict.specs.VerdictLaws.{accepted-exactly}
-use Rattle.judge.specs.TextJudgement.{TextsTrue}
-use Rattle.judge.specs.TextVerdictLaws.{set-clean, set-list, scheme-clean, scheme-list}
+use Rattle.judge_texts.specs.TextJudgement.{TextsTrue}
+use Rattle.judge_texts.specs.TextVerdictLaws.{set-clean, set-list, scheme-clean, scheme-list}
 use Rattle.count_plan.specs.Layout.{needOf}
 use Rattle.counting.specs.Counting.{countedOr, tableAfter, Counts, PlainCounts}
 use Rattle.counting.specs.CountLaws.{refused-count, refused-table}

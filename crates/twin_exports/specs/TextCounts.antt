@@ -13,7 +13,7 @@ use Rattle.notation.specs.PatternAnswers.{patternsAnswer}
 use Rattle.notation.specs.SchemeAnswers.{schemeAnswer}
 use Rattle.count_plan.specs.Layout.{needOf}
 use Rattle.verdict.specs.Value.{countOf}
-use Rattle.judge.specs.TextJudgement.{TextsTrue}
+use Rattle.judge_texts.specs.TextJudgement.{TextsTrue}
 use Rattle.counting.specs.Counting.{countTests, plainTests, countedOr, toldCounted, tableAfter}
 use Rattle.counting.specs.declared.answer.Counted.{Counted}
 use Rattle.counting.specs.declared.answer.Counted.the-variants.{Count, Refused}

@@ -1,12 +1,14 @@
 // Counting on two texts, judging them with a page, containment, and the first and the next avoider,
 // with a C calling convention: for the differential test and the benchmark of twin/.
+use containment::Contained;
+use containment::contains;
 use counting::answer::Counted;
 use counting::answer::count_or;
 use counting::by_table::count;
 use counting::plainly::count_plainly;
 use forms::order::earlier;
 use forms::order::is_fault;
-use judge::texts::judge_texts;
+use judge_texts::judge_texts;
 use lexicographic::answer::Listed;
 use lexicographic::answer::refused_or_nothing;
 use lexicographic::listing::first_avoider;
@@ -16,8 +18,6 @@ use notation::schemes::read_scheme;
 use text_page::bytes::put_bytes;
 use verdict::answer::Verdict;
 use witness::bytes_of;
-use word::containment::Contained;
-use word::containment::contains;
 use word::limits::DIGITS;
 use word::refusal::number;
 ghost use mathlib.Core.Path.{_≡_};

@@ -1,5 +1,4 @@
 -- The laws that the proofs of the crate wellformed cite.
-pub mod PatternLaws
 pub mod OrderLaws
 pub mod EntryTestLaws
 pub mod PassLaws

@@ -1,4 +1,2 @@
 -- The definitions of the crate wellformed, and their laws.
-pub mod Twin
-pub mod TwinLaws
 pub mod EntryPass

@@ -1,5 +1,4 @@
-// The tests of well-formedness of a pattern list and of a scheme list, in their order.
+// The tests of well-formedness of a scheme list, in their order.
 pub mod entry_pass;
 pub mod entry_tests;
-pub mod pattern_tests;
 pub mod scheme_tests;

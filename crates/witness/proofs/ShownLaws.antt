@@ -8,7 +8,8 @@ use lib.ListN.{length, take, replicate, length-append, length-map, length-replic
 use lib.Seq.{take-append-seam}
 use Rattle.word.specs.Ceilings.{DIGITS}
 use Rattle.word.specs.Earliest.{Earliest, nowhere, stands, earliest, positionsOf}
-use Rattle.word.specs.Copy.{placed, shownIn}
+use Rattle.copy_search.specs.Copy.{placed}
+use Rattle.containment.specs.SetCopies.{shownIn}
 use Rattle.word.specs.ListLaws.{map-same}
 use Rattle.word.specs.EarliestLaws.{earliest-is, copy-within}
 

@@ -1,7 +1,7 @@
 // The witness of a refusal 11 on a lent page: a permutation, and a copy of a pattern in it.
+use containment::earliest_in;
 use text_page::bytes::put;
 use text_page::bytes::put_bytes;
-use word::containment::earliest_in;
 use word::limits::DIGITS;
 use word::limits::HALF;
 use word::limits::PATTERNS;
@@ -11,7 +11,7 @@ ghost use mathlib.Core.Option.{some};
 ghost use Prim.Native.Nat.{_+_, _<_, _≤_, min};
 ghost use lib.ListN.{length};
 ghost use Rattle.word.specs.Ceilings.{HALF, PAGE};
-ghost use Rattle.word.specs.Containment.{patternsOf};
+ghost use Rattle.word.specs.Patterns.{patternsOf};
 ghost use Rattle.text_page.specs.Page.{Writes};
 ghost use Rattle.verdict.specs.Witness.{half, witnessBytes};
 

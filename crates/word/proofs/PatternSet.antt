@@ -1,10 +1,10 @@
--- The patterns of a set in memory from a place on, and what the search for a copy says of each.
+-- The patterns of a set in memory from a place on: whether one of them is contained, and the
+-- earliest that has a copy.
 -- Assumes nothing.
 use Prim.Native.Nat.{ℕ, zero, suc, _+_, _-_, _≤_, _<_}
-use mathlib.Core.Path.{_≡_, refl, sym, ap, _∙_}
+use mathlib.Core.Path.{_≡_, refl}
 use mathlib.Core.Bool.{true, false, not}
 use mathlib.Core.List.{List, [], _∷_}
-use mathlib.Core.Option.{Option, none, some}
 use native.Mathlib.Nat.{sub-zero}
 use native.Mathlib.Numerals.{add-one}
 use native.Mathlib.Omega.{arith}
@@ -12,21 +12,7 @@ use lib.ListN.{length, getD, take, drop, drop-of-length-le}
 use lib.Seq.{drop-cons}
 use Rattle.word.specs.Word.{contains, avoids, firstCopy}
 use Rattle.word.specs.Earliest.{nowhere, copyOr, earliestFrom, earliest}
-use Rattle.word.specs.Copy.{shown, shownIn}
-use Rattle.word.specs.Containment.{patternsOf}
-use Rattle.word.specs.ListLaws.{true-not-false}
-use Rattle.word.specs.CopyLaws.{found, copy-exactly}
-use Rattle.word.specs.EarliestLaws.{copy-length}
-use Rattle.word.specs.declared.copy.FirstCopy.{FirstCopy}
-use Rattle.word.specs.declared.containment.SetCopy.{SetCopy}
-
-shown-found : (o : Option (List ℕ)) → (shown o) .found ≡ found o
-shown-found none = refl
-shown-found (some l) = refl
-
--- a search finds a copy exactly if there is one
-pub found-contains : (β w : List ℕ) (r : FirstCopy) → r ≡ shown (firstCopy β w) → r .found ≡ contains β w
-found-contains β w r e = ap (λ (x : FirstCopy). x .found) e ∙ shown-found (firstCopy β w) ∙ copy-exactly β w
+use Rattle.word.specs.Patterns.{patternsOf}
 
 -- the patterns from place i on
 unfoldable pub from : List (List ℕ) → List ℕ → ℕ → ℕ → List (List ℕ)
@@ -74,28 +60,10 @@ module _ (rows : List (List ℕ)) (lengths : List ℕ) (n : ℕ) (w : List ℕ) 
   some-later e = rw (from-cons rows lengths n i hr hl hn, e) refl
 
   -- the earliest of them that has a copy, counted from i on
-  early-cons : earliestFrom i (from rows lengths n i) w ≡
+  pub early-cons : earliestFrom i (from rows lengths n i) w ≡
       copyOr i (firstCopy (take (getD lengths i 0) (getD rows i [])) w) (earliestFrom (i + 1) (from rows lengths n (i + 1)) w)
   unfolding earliestFrom
   early-cons = rw (from-cons rows lengths n i hr hl hn, add-one i) refl
-
-  module _ (r : SetCopy) (e : r ≡ shownIn (copyOr i (firstCopy (take (getD lengths i 0) (getD rows i [])) w) nowhere)) where
-    pub early-here : r .found ≡ true → r ≡ shownIn (earliestFrom i (from rows lengths n i) w)
-    early-here h = rw early-cons (go (firstCopy (take (getD lengths i 0) (getD rows i [])) w) e)
-      where
-        go : (o : Option (List ℕ)) → r ≡ shownIn (copyOr i o nowhere) →
-            r ≡ shownIn (copyOr i o (earliestFrom (i + 1) (from rows lengths n (i + 1)) w))
-        go none q = absurd (true-not-false (sym h ∙ ap (λ (x : SetCopy). x .found) q))
-        go (some at) q = q
-
-    pub early-later : r .found ≡ false →
-        earliestFrom i (from rows lengths n i) w ≡ earliestFrom (i + 1) (from rows lengths n (i + 1)) w
-    early-later h = rw early-cons (go (firstCopy (take (getD lengths i 0) (getD rows i [])) w) e)
-      where
-        go : (o : Option (List ℕ)) → r ≡ shownIn (copyOr i o nowhere) →
-            copyOr i o (earliestFrom (i + 1) (from rows lengths n (i + 1)) w) ≡ earliestFrom (i + 1) (from rows lengths n (i + 1)) w
-        go none q = refl
-        go (some at) q = absurd (true-not-false (ap (λ (x : SetCopy). x .found) (sym q) ∙ h))
 
 -- behind the last of them nothing stands
 pub some-none : (P : List (List ℕ)) (w : List ℕ) → P ≡ [] → not (avoids P w) ≡ false
@@ -109,21 +77,3 @@ early-none i P w e = rw e refl
 pub early-start : (P Q : List (List ℕ)) (w : List ℕ) → P ≡ Q → earliest P w ≡ earliestFrom 0 Q w
 unfolding earliest
 early-start P Q w e = rw e refl
-
--- the copy of one pattern with the index i: what is shown of it
-module _ (i : ℕ) (β w : List ℕ) (r : FirstCopy) (e : r ≡ shown (firstCopy β w)) where
-  pub shown-here : (n : ℕ) → n ≡ length β → r .found ≡ true →
-      record { found = true; pattern = i; length = n; at = r .at } ≡ shownIn (copyOr i (firstCopy β w) nowhere)
-  shown-here n l h = go (firstCopy β w) refl e
-    where
-      go : (o : Option (List ℕ)) → firstCopy β w ≡ o → r ≡ shown o →
-          record { found = true; pattern = i; length = n; at = r .at } ≡ shownIn (copyOr i o nowhere)
-      go none s q = absurd (true-not-false (sym h ∙ ap (λ (x : FirstCopy). x .found) q))
-      go (some at) s q = let k : n ≡ length at = l ∙ sym (copy-length β w at s) in rw (q, k) refl
-
-  pub shown-nowhere : r .found ≡ false → shownIn nowhere ≡ shownIn (copyOr i (firstCopy β w) nowhere)
-  shown-nowhere h = go (firstCopy β w) e
-    where
-      go : (o : Option (List ℕ)) → r ≡ shown o → shownIn nowhere ≡ shownIn (copyOr i o nowhere)
-      go none q = refl
-      go (some at) q = absurd (true-not-false (ap (λ (x : FirstCopy). x .found) (sym q) ∙ h))

@@ -1,5 +1,5 @@
--- Laws of the first copy of a pattern: it is there exactly if the pattern is contained, and so is
--- the yes of `contains`; it is a copy, and no copy comes before it.
+-- Laws of the first copy of a pattern: it is there exactly if the pattern is contained; it is a
+-- copy, and no copy comes before it.
 use Prim.Native.Nat.{ℕ, zero, suc, _≤_, _<_}
 use mathlib.Core.Path.{_≡_, refl, sym, ap, _∙_, subst}
 use mathlib.Core.Logic.{_⊎_, inl, inr}
@@ -12,10 +12,6 @@ use lib.ListN.{length, getD, length-map}
 use borrow.Author.Tests.{le-ltb, eq-eqb, ne-eqb}
 use Rattle.word.specs.Lists.{any, first, sublists, row, oneTo}
 use Rattle.word.specs.Word.{iso, contains, entry, firstCopy, before}
-use Rattle.word.specs.Finding.{clean, firstFault}
-use Rattle.word.specs.Containment.{containmentTests, answerOf, containment}
-use Rattle.word.specs.declared.containment.Contained.{Contained}
-use Rattle.word.specs.declared.containment.Contained.the-variants.{Yes, No}
 use Rattle.word.specs.ListLaws.{true-not-false, any-map, first-some, sublists-map, mem-sublists-in, mem-sublists-out}
 use Rattle.word.specs.IsoLaws.{iso-length}
 
@@ -53,14 +49,6 @@ copy-exactly β w =
     ∙ sym (any-map (iso β) (map (entry w)) (sublists (length β) (oneTo (length w))))
     ∙ ap (any (iso β)) (sym (sublists-map (entry w) (length β) (oneTo (length w))))
     ∙ ap (λ (u : List ℕ). any (iso β) (sublists (length β) u)) (entries w)
-
--- where nothing is refused, `contains` answers yes exactly if the pattern is contained
-pub yes-exactly : (β w : List ℕ) → firstFault (containmentTests β w) ≡ clean → (containment β w) .contained ≡ cond (contains β w) Yes No
-yes-exactly β w e = rw e (go (firstCopy β w) ∙ ap {B = Contained} (λ (b : Bool). cond b Yes No) (copy-exactly β w))
-  where
-    go : (copy : Option (List ℕ)) → (answerOf clean copy) .contained ≡ cond (found copy) Yes No
-    go none = refl
-    go (some at) = refl
 
 pub copy-is : (β w at : List ℕ) → firstCopy β w ≡ some at → Sublistᴰ at (oneTo (length w)) × (iso β (map (entry w) at) ≡ true)
 unfolding firstCopy

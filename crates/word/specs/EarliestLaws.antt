@@ -10,7 +10,6 @@ use native.Mathlib.Omega.{arith}
 use lib.ListN.{length, getD, length-map}
 use Rattle.word.specs.Word.{entry, contains, firstCopy, avoids}
 use Rattle.word.specs.Earliest.{Earliest, nowhere, stands, copyOr, earliestFrom, earliest, isNowhere, positionsOf}
-use Rattle.word.specs.Copy.{shownIn}
 use Rattle.word.specs.ListLaws.{sublist-mem, true-not-false, row-out}
 use Rattle.word.specs.IsoLaws.{iso-length}
 use Rattle.word.specs.CopyLaws.{found, copy-exactly, copy-is}
@@ -69,14 +68,6 @@ fails-stands P w h = go (earliest P w) refl (earliest-avoids P w ∙ h)
     go : (e : Earliest) → earliest P w ≡ e → isNowhere e ≡ false → (i : ℕ) × (at : List ℕ) × (earliest P w ≡ stands i at)
     go nowhere s q = absurd (true-not-false q)
     go (stands i at) s q = (i, at, s)
-
--- what `any_in` answers is whether there is a copy that `earliest_in` shows
-pub shown-any : (P : List (List ℕ)) (w : List ℕ) → (shownIn (earliest P w)) .found ≡ not (avoids P w)
-shown-any P w = go (earliest P w) ∙ ap not (earliest-avoids P w)
-  where
-    go : (e : Earliest) → (shownIn e) .found ≡ not (isNowhere e)
-    go nowhere = refl
-    go (stands i at) = refl
 
 -- of patterns counted from k on: the place of the earliest, its copy, and those before it
 abbrev Place : ℕ → List (List ℕ) → List ℕ → ℕ → List ℕ → Type 0

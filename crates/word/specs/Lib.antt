@@ -7,9 +7,8 @@ pub mod Vocabulary
 pub mod Refusal
 pub mod Finding
 pub mod Told
+pub mod Patterns
 pub mod Earliest
-pub mod Copy
-pub mod Containment
 pub mod ListLaws
 pub mod IsoLaws
 pub mod ContainsLaws

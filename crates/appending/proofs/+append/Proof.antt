@@ -8,7 +8,7 @@ use borrow.Author.Needs.{needs}
 use borrow.Author.Tests.{not-true, not-false}
 use native.Mathlib.Omega.{arith}
 use lib.ListN.{length, take}
-use Rattle.word.specs.Containment.{patternsOf}
+use Rattle.word.specs.Patterns.{patternsOf}
 use Rattle.arrangement.specs.Exchange.{exchange}
 use Rattle.arrangement.specs.Searching.{Searches}
 use Rattle.appending.specs.AppendingLaws.{Tries, tries-start, tries-perm, tries-avoids, tries-passed, tries-more, tries-end}

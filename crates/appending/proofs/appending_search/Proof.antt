@@ -4,7 +4,7 @@ use mathlib.Core.Path.{sym, _∙_}
 use borrow.Author.Needs.{needs}
 use borrow.Author.Tests.{not-true, not-false}
 use lib.ListN.{take}
-use Rattle.word.specs.Containment.{patternsOf}
+use Rattle.word.specs.Patterns.{patternsOf}
 use Rattle.appending.specs.AppendingLaws.{searches-none, contained-none}
 use Rattle.appending.proofs.appending_search.Statement.{statement}
 use Rattle.appending.proofs.appending_search.Tie as tie

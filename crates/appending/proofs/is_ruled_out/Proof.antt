@@ -5,7 +5,7 @@ use borrow.Author.Needs.{needs}
 use borrow.Author.Tests.{not-true, not-false}
 use native.Mathlib.Omega.{arith}
 use lib.ListN.{length, take}
-use Rattle.word.specs.Containment.{patternsOf}
+use Rattle.word.specs.Patterns.{patternsOf}
 use Rattle.completion.specs.CompletionLaws.{not-allowed}
 use Rattle.appending.specs.AppendingLaws.{ruled-out, not-ruled-out, ruled-by-pairs, crowded-none}
 use Rattle.appending.proofs.is_ruled_out.Statement.{statement}

@@ -6,7 +6,7 @@ use borrow.Author.Needs.{needs}
 use borrow.Author.Tests.{not-true, not-false}
 use native.Mathlib.Omega.{arith}
 use lib.ListN.{length, take, drop}
-use Rattle.word.specs.Containment.{patternsOf}
+use Rattle.word.specs.Patterns.{patternsOf}
 use Rattle.appending.specs.Pairs.{pairsBehind, allPairs}
 use Rattle.appending.specs.PairLaws.{pairs-start, pairs-more, pairs-fail, pairs-end}
 use Rattle.appending.proofs.pairs_allowed.Statement.{statement}

@@ -10,7 +10,7 @@ use native.Mathlib.Omega.{arith}
 use lib.ListN.{length, getD, take, drop}
 use Rattle.word.specs.Lists.{all}
 use Rattle.word.specs.Word.{avoids}
-use Rattle.word.specs.Containment.{patternsOf}
+use Rattle.word.specs.Patterns.{patternsOf}
 use Rattle.appending.specs.Pairs.{pairAllowed}
 use Rattle.appending.specs.PairLaws.{with-end, with-first, with-second, with-neither}
 use Rattle.appending.proofs.pairs_with.Statement.{statement}

@@ -6,7 +6,7 @@ use mathlib.Core.Path.{_≡_, sym, _∙_}
 use borrow.Author.Needs.{needs}
 use native.Mathlib.Omega.{arith}
 use lib.ListN.{length, take}
-use Rattle.word.specs.Containment.{patternsOf}
+use Rattle.word.specs.Patterns.{patternsOf}
 use Rattle.word.proofs.PatternSet.{from, from-counted, from-end}
 use Rattle.cell.specs.Basis.{basic}
 use Rattle.basis.proofs.BasisWalk.{basic-start, basic-none, basic-here, basic-later}

@@ -8,7 +8,7 @@ use borrow.Author.Needs.{needs}
 use native.Mathlib.Omega.{arith}
 use lib.ListN.{length, getD, take}
 use Rattle.word.specs.Word.{longest}
-use Rattle.word.specs.Containment.{patternsOf}
+use Rattle.word.specs.Patterns.{patternsOf}
 use Rattle.word.proofs.PatternSet.{from, from-start, from-counted, from-end, from-cons}
 use Rattle.basis.proofs.BasisWalk.{longest-here, longest-done}
 use Rattle.basis.proofs.longest_length.Statement.{statement}

@@ -5,7 +5,7 @@ use mathlib.Core.Path.{_≡_, sym, ap, _∙_}
 use native.Mathlib.Omega.{arith}
 use lib.ListN.{length, take, length-take}
 use Rattle.word.specs.Word.{contains}
-use Rattle.word.proofs.PatternSet.{found-contains}
+use Rattle.copy_search.specs.ShownLaws.{found-contains}
 use lib.Seq.{take-all}
 use borrow.Author.Needs.{needs}
 use Rattle.basis.proofs.stands_in.Statement.{statement}

@@ -10,7 +10,7 @@ use native.Mathlib.Omega.{arith}
 use lib.ListN.{length, take}
 use lib.Seq.{length-take-le}
 use Rattle.word.specs.Lists.{any}
-use Rattle.word.specs.Containment.{patternsOf}
+use Rattle.word.specs.Patterns.{patternsOf}
 use Rattle.completion.specs.Completion.{completable, begun, goesOn}
 use Rattle.completion.specs.CompletionLaws.{begun-snoc, not-allowed}
 use Rattle.completion.proofs.Values.{values, values-none, whole-answer, goes-start, goes-stands, goes-not, goes-there}

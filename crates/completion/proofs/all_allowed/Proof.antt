@@ -8,7 +8,7 @@ use native.Mathlib.Omega.{arith}
 use lib.ListN.{take}
 use Rattle.word.specs.Lists.{all}
 use Rattle.word.specs.Word.{avoids}
-use Rattle.word.specs.Containment.{patternsOf}
+use Rattle.word.specs.Patterns.{patternsOf}
 use Rattle.completion.specs.Completion.{allowed, allAllowed}
 use Rattle.completion.proofs.Values.{values, values-none, allowed-start, allowed-stands, allowed-fits, allowed-fails}
 use Rattle.completion.proofs.all_allowed.Statement.{statement}

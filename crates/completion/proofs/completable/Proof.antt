@@ -6,7 +6,7 @@ use borrow.Author.Tests.{not-true, not-false}
 use native.Mathlib.Omega.{arith}
 use lib.ListN.{length, take}
 use lib.Seq.{length-take-le}
-use Rattle.word.specs.Containment.{patternsOf}
+use Rattle.word.specs.Patterns.{patternsOf}
 use Rattle.completion.specs.CompletionLaws.{too-long, not-begun}
 use borrow.Author.Needs.{needs}
 use Rattle.completion.proofs.completable.Statement.{statement}

@@ -6,7 +6,7 @@ use mathlib.Core.Path.{_≡_, sym, ap, _∙_}
 use borrow.Author.Needs.{needs}
 use native.Mathlib.Omega.{arith}
 use lib.ListN.{length}
-use Rattle.word.specs.Containment.{patternsOf}
+use Rattle.word.specs.Patterns.{patternsOf}
 use Rattle.word.proofs.PatternSet.{from, from-start, from-counted, from-end}
 use Rattle.crowding.specs.Crowding.{shorter, shortest}
 use Rattle.crowding.proofs.PatternLaws.{shortest-start, shortest-end, shortest-more}

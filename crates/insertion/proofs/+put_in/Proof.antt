@@ -8,7 +8,7 @@ use borrow.Author.Needs.{needs}
 use borrow.Author.Tests.{not-true, not-false}
 use native.Mathlib.Omega.{arith}
 use lib.ListN.{length, take}
-use Rattle.word.specs.Containment.{patternsOf}
+use Rattle.word.specs.Patterns.{patternsOf}
 use Rattle.insertion.specs.InsertionLaws.{Turns, turns-start, turns-more, turns-end, passed-on, none-contained}
 use Rattle.insertion.specs.Insertion.{NoneAround, PutsIn}
 use Rattle.insertion.specs.InsertionLaws.{spent-ends, puts-none, puts-whole, puts-undecided}

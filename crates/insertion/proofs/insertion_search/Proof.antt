@@ -4,7 +4,7 @@ use mathlib.Core.Path.{_≡_}
 use borrow.Author.Needs.{needs}
 use native.Mathlib.Omega.{arith}
 use lib.ListN.{length}
-use Rattle.word.specs.Containment.{patternsOf}
+use Rattle.word.specs.Patterns.{patternsOf}
 use Rattle.insertion.specs.InsertionLaws.{puts-searches}
 use Rattle.insertion.proofs.insertion_search.Statement.{statement}
 use Rattle.insertion.proofs.insertion_search.Tie as tie

@@ -5,7 +5,7 @@ use Prim.Native.Nat.{_-_, _≤_}
 use mathlib.Core.Path.{refl, sym, _∙_}
 use lib.ListN.{take}
 use borrow.Author.Needs.{needs}
-use Rattle.word.specs.Containment.{patternsOf}
+use Rattle.word.specs.Patterns.{patternsOf}
 use Rattle.arrangement.specs.SearchingLaws.{searches-decide}
 use Rattle.turns.proofs.in_turns.Statement.{statement}
 use Rattle.turns.proofs.in_turns.Tie as tie

@@ -9,9 +9,9 @@ use borrow.Author.Needs.{needs}
 use lib.ListN.{length, take, length-map}
 use lib.Seq.{length-take-le}
 use Rattle.word.specs.Ceilings.{DIGITS}
-use Rattle.word.specs.Containment.{patternsOf}
+use Rattle.word.specs.Patterns.{patternsOf}
 use Rattle.word.specs.Earliest.{earliest}
-use Rattle.word.specs.declared.containment.SetCopy.{SetCopy}
+use Rattle.containment.specs.declared.SetCopy.{SetCopy}
 use Rattle.text_page.specs.PageLaws.{writes-join, writes-as}
 use Rattle.verdict.specs.Witness.{half}
 use Rattle.verdict.specs.WitnessLaws.{half-length}

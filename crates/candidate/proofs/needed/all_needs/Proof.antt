@@ -6,7 +6,7 @@ use mathlib.Core.List.{[]}
 use native.Mathlib.Omega.{arith}
 use lib.ListN.{length, getD, length-set}
 use borrow.Author.Needs.{needs}
-use Rattle.candidate.specs.Lookup.{NEEDS}
+use Rattle.placing.specs.Lookup.{NEEDS}
 use Rattle.candidate.proofs.NeedLaws.{Filled, filled-more, all-filled, need-cut}
 use Rattle.candidate.proofs.needed.all_needs.Statement.{statement}
 use Rattle.candidate.proofs.needed.all_needs.Tie as tie

@@ -9,7 +9,7 @@ use lib.ListN.{length, take, drop, length-set}
 use borrow.Author.Needs.{needs}
 use Rattle.word.specs.Ceilings.{DIGITS}
 use Rattle.forms.specs.StoredLaws.{copied-more, copied-all}
-use Rattle.candidate.specs.Lookup.{VALUES, NEEDS}
+use Rattle.placing.specs.Lookup.{VALUES, NEEDS}
 use Rattle.candidate.proofs.needed.need_at.Statement.{statement}
 use Rattle.candidate.proofs.needed.need_at.Tie as tie
 

@@ -6,7 +6,7 @@ use mathlib.Core.Bool.{not}
 use mathlib.Core.List.{[]}
 use native.Mathlib.Omega.{arith}
 use lib.ListN.{length, getD, take, length-take}
-use Rattle.word.proofs.PatternSet.{found-contains}
+use Rattle.copy_search.specs.ShownLaws.{found-contains}
 use Rattle.candidate.proofs.CandidateWalk.{not-avoided}
 use borrow.Author.Needs.{needs}
 use Rattle.candidate.proofs.search.contained_by.Statement.{statement}

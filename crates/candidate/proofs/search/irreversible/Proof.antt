@@ -11,7 +11,7 @@ use lib.ListN.{length, take}
 use lib.Seq.{length-take-le}
 use Rattle.word.specs.Lists.{all, first, each, row}
 use Rattle.word.specs.Word.{within}
-use Rattle.word.specs.Containment.{patternsOf}
+use Rattle.word.specs.Patterns.{patternsOf}
 use Rattle.cell.specs.Cell.{vectors}
 use Rattle.forms.specs.GapRows.{gapsOf}
 use Rattle.candidate.specs.Ready.{FlaggedFor}

@@ -9,7 +9,7 @@ use native.Mathlib.Omega.{arith}
 use lib.ListN.{length}
 use Rattle.word.specs.Ceilings.{PREFIX, GAPS}
 use Rattle.word.specs.Lists.{any}
-use Rattle.word.specs.Containment.{patternsOf}
+use Rattle.word.specs.Patterns.{patternsOf}
 use Rattle.forms.specs.SchemeMemory.{gapAt, entryIn}
 use Rattle.scheme.specs.TestLaws.{from, any-here, any-later, any-end}
 use Rattle.verdict.specs.Verdict.{liveGap}

@@ -1,7 +1,7 @@
 -- `claims::entries::is_irreversible` meets its contract: by the cases of the rule.
 -- Assumes nothing.
 use mathlib.Core.Path.{refl}
-use Rattle.word.specs.Containment.{patternsOf}
+use Rattle.word.specs.Patterns.{patternsOf}
 use Rattle.claims.proofs.RuleLaws.{expands-answer}
 use borrow.Author.Needs.{needs}
 use Rattle.claims.proofs.entries.is_irreversible.Statement.{statement}

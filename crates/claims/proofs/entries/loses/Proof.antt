@@ -6,7 +6,7 @@ use native.Mathlib.Omega.{arith}
 use borrow.Author.Tests.{not-true, not-false}
 use lib.ListN.{length, set}
 use Rattle.word.specs.Ceilings.{PATTERNS, PREFIX, PARTS}
-use Rattle.word.specs.Containment.{patternsOf}
+use Rattle.word.specs.Patterns.{patternsOf}
 use Rattle.scheme.specs.EntryMemoryLaws.{entry-short, gaps-in}
 use Rattle.claims.proofs.RuleLaws.{position-bound, given, found-total, answers-none, answers-some}
 use borrow.Author.Needs.{needs}

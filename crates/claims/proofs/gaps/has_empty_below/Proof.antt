@@ -7,7 +7,7 @@ use native.Mathlib.Omega.{arith}
 use lib.ListN.{take}
 use borrow.Author.Tests.{leb-true, leb-false}
 use Rattle.word.specs.Ceilings.{TOTAL}
-use Rattle.word.specs.Containment.{patternsOf}
+use Rattle.word.specs.Patterns.{patternsOf}
 use Rattle.word.specs.Lists.{each, row}
 use Rattle.word.specs.CopyLaws.{found, first-found}
 use Rattle.cell.specs.Cell.{total, vectors}

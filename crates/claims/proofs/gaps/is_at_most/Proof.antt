@@ -7,7 +7,7 @@ use lib.Seq.{length-take-le}
 use lib.Dec.{leb}
 use Rattle.word.specs.Ceilings.{COMPONENTS}
 use Rattle.cell.specs.Built.{level}
-use Rattle.candidate.proofs.LookupLaws.{level-zero, level-more}
+use Rattle.placing.proofs.LookupLaws.{level-zero, level-more}
 use Rattle.claims.proofs.GapClaimLaws.{level-whole}
 use borrow.Author.Needs.{needs}
 use Prim.Native.Nat.{ℕ, _+_, _*_, _-_, _≤_}

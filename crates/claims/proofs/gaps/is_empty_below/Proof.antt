@@ -5,7 +5,7 @@ use mathlib.Core.Path.{sym, _∙_}
 use native.Mathlib.Omega.{arith}
 use borrow.Author.Tests.{not-true, not-false}
 use lib.ListN.{take}
-use Rattle.word.specs.Containment.{patternsOf}
+use Rattle.word.specs.Patterns.{patternsOf}
 use Rattle.claims.proofs.GapClaimLaws.{shows-not, shows-if-empty}
 use Rattle.claims.proofs.gaps.is_empty_below.Statement.{statement}
 use Rattle.claims.proofs.gaps.is_empty_below.Tie as tie

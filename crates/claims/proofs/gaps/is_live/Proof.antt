@@ -6,7 +6,7 @@ use mathlib.Core.Path.{sym, ap, _∙_}
 use mathlib.Core.Bool.{not}
 use mathlib.Core.List.{List}
 use lib.ListN.{take}
-use Rattle.word.specs.Containment.{patternsOf}
+use Rattle.word.specs.Patterns.{patternsOf}
 use Rattle.cell.specs.Cell.{cell}
 use Rattle.forms.specs.SchemeMemory.{gapIn}
 use Rattle.verdict.specs.Verdict.{isEmpty}

@@ -5,7 +5,7 @@ use mathlib.Core.Path.{_≡_, _∙_}
 use native.Mathlib.Omega.{arith}
 use lib.ListN.{length}
 use Rattle.word.specs.Ceilings.{WORD, PREFIX, COMPONENTS}
-use Rattle.word.specs.Containment.{patternsOf}
+use Rattle.word.specs.Patterns.{patternsOf}
 use Rattle.claims.proofs.GapClaimLaws.{cell-length, live-is}
 use borrow.Author.Needs.{needs}
 use Rattle.claims.proofs.gaps.is_live_at.Statement.{statement}

@@ -1,7 +1,7 @@
 -- `count_plain::counting::plain_count` meets its contract.
 -- Assumes nothing.
 use mathlib.Core.Path.{refl}
-use Rattle.word.specs.Containment.{patternsOf}
+use Rattle.word.specs.Patterns.{patternsOf}
 use Rattle.forms.specs.SchemeMemory.{schemeIn}
 use Rattle.scheme.specs.ProperLaws.{proper}
 use Rattle.count_plain.specs.ReadingLaws.{counted-cell, counted-value}

@@ -8,7 +8,7 @@ use lib.ListN.{length, take}
 use lib.Seq.{length-take-le}
 use Rattle.word.specs.Ceilings.{PREFIX}
 use Rattle.word.specs.Word.{avoids}
-use Rattle.word.specs.Containment.{patternsOf}
+use Rattle.word.specs.Patterns.{patternsOf}
 use borrow.Author.Needs.{needs}
 use Rattle.count_plan.proofs.cards.alone_value.Statement.{statement}
 use Rattle.count_plan.proofs.cards.alone_value.Tie as tie

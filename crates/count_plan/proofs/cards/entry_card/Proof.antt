@@ -4,7 +4,7 @@ use native.Mathlib.Omega.{arith}
 use mathlib.Core.Path.{_≡_, ap}
 use lib.ListN.{length}
 use Rattle.word.specs.Ceilings.{PREFIX}
-use Rattle.word.specs.Containment.{patternsOf}
+use Rattle.word.specs.Patterns.{patternsOf}
 use Rattle.forms.specs.SchemeMemory.{doesOf}
 use Rattle.scheme.proofs.LookupLaws.{position-inside}
 use Rattle.count_plan.proofs.CardLaws.{rule-expands, rule-deletes, perm-memory}

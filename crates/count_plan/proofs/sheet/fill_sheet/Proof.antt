@@ -5,7 +5,7 @@ use Prim.Native.Nat.{ℕ, _-_, _≤_, _<_}
 use mathlib.Core.Path.{_≡_, sym, subst}
 use mathlib.Core.List.{[]}
 use lib.Seq.{length-take-le}
-use Rattle.word.specs.Containment.{patternsOf}
+use Rattle.word.specs.Patterns.{patternsOf}
 use Rattle.scheme.specs.Links.{prefixesIn}
 use Rattle.count_plan.specs.LayoutLaws.{count-few, entry-short}
 use Rattle.count_plan.specs.SheetForm.{SheetTo}

@@ -8,8 +8,8 @@ use Prim.Native.Nat.{ℕ, _≤_}
 use lib.ListN.{length}
 use Rattle.count_cursor.specs.Cursor.{Listed, CursorGiven}
 use Rattle.count_cursor.specs.declared.cursor.Cursor.{Cursor}
-use Rattle.count_rows.specs.Frames.{Framed, CellGiven}
-use Rattle.count_rows.specs.declared.frame.Frame.{Frame}
+use Rattle.count_entry.specs.Frames.{Framed, CellGiven}
+use Rattle.count_entry.specs.declared.frame.Frame.{Frame}
 use Rattle.count_rows.proofs.RowLaws.{Going, going-start, going-more, going-end, weight, weight-falls}
 use borrow.Author.Needs.{needs}
 use Rattle.count_rows.proofs.rows.fill_row.Statement.{statement}

@@ -7,7 +7,7 @@ use mathlib.Core.Path.{_≡_, refl, _∙_}
 use lib.ListN.{length}
 use Rattle.count_walk.specs.Cells.{rowsFrom}
 use Rattle.count_walk.specs.Walk.{countWalked}
-use Rattle.count_rows.specs.Frames.{Framed}
+use Rattle.count_entry.specs.Frames.{Framed}
 use Rattle.count_rows.proofs.RowLaws.{rows-none, rows-more, rows-end}
 use borrow.Author.Needs.{needs}
 use Rattle.count_rows.proofs.rows.fill_rows.Statement.{statement}

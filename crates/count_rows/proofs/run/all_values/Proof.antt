@@ -8,10 +8,11 @@ use mathlib.Core.Path.{_≡_, refl, ap, ap₂, _∙_, subst}
 use lib.ListN.{length}
 use Rattle.count_walk.specs.Cells.{rowsFrom}
 use Rattle.count_walk.specs.Walk.{countWalked}
-use Rattle.count_rows.specs.Frames.{Framed, RootGiven}
+use Rattle.count_entry.specs.Frames.{Framed}
+use Rattle.count_rows.specs.Rows.{RootGiven}
 use Rattle.count_rows.specs.Run.{cleared, ValuesTo}
 use Rattle.count_rows.specs.RunLaws.{values-start, values-more, walked-cleared}
-use Rattle.count_rows.proofs.FrameLaws.{framed-fits}
+use Rattle.count_entry.proofs.FrameLaws.{framed-fits}
 use Rattle.count_rows.proofs.RowLaws.{rows-none, rows-more, rows-end, root-has, root-read}
 use borrow.Author.Needs.{needs}
 use Rattle.count_rows.proofs.run.all_values.Statement.{statement}

@@ -6,7 +6,7 @@ use Prim.Native.Nat.{_*_}
 use mathlib.Core.Path.{ap, ap₂, _∙_}
 use Rattle.count_rows.specs.Run.{cleared}
 use Rattle.count_rows.specs.RunLaws.{walked-cleared}
-use Rattle.count_rows.proofs.FrameLaws.{framed-fits}
+use Rattle.count_entry.proofs.FrameLaws.{framed-fits}
 use Rattle.count_rows.proofs.RowLaws.{root-has, root-read}
 use borrow.Author.Needs.{needs}
 use Rattle.count_rows.proofs.run.last_value.Statement.{statement}

@@ -10,7 +10,7 @@ use Rattle.spacing.specs.Rank.{rankAfter, rankOf}
 use Rattle.spacing.specs.RankLaws.{merge-none}
 use Rattle.count_step.specs.Step.{held}
 use Rattle.count_plan.specs.LayoutLaws.{count-few, entry-short}
-use Rattle.count_rows.proofs.FrameLaws.{framed-fits, block-is}
+use Rattle.count_entry.proofs.FrameLaws.{framed-fits, block-is}
 use borrow.Author.Needs.{needs}
 use Rattle.count_rows.proofs.values.value_in.Statement.{statement}
 use Rattle.count_rows.proofs.values.value_in.Tie as tie

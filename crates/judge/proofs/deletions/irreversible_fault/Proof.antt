@@ -6,7 +6,7 @@ use Prim.Native.Nat.{_-_, _≤_}
 use mathlib.Core.Path.{_≡_, sym, ap, _∙_}
 use native.Mathlib.Omega.{arith}
 use Rattle.word.specs.Ceilings.{ENTRIES}
-use Rattle.word.specs.Containment.{patternsOf}
+use Rattle.word.specs.Patterns.{patternsOf}
 use Rattle.word.specs.declared.refusal.Refusal.the-variants.{Irreversible}
 use Rattle.scheme.specs.WellFormed.{firstAt}
 use Rattle.forms.specs.SchemeMemory.{schemeIn, faultOf}

@@ -11,7 +11,7 @@ use lib.ListN.{length}
 use Rattle.word.specs.Ceilings.{PATTERNS}
 use Rattle.word.specs.Word.{longest}
 use Rattle.word.specs.Finding.{firstFault}
-use Rattle.word.specs.Containment.{patternsOf}
+use Rattle.word.specs.Patterns.{patternsOf}
 use Rattle.forms.specs.SchemeMemory.{patternsIn, schemeIn, faultOf, faulty}
 use Rattle.word.specs.declared.refusal.Refusal.the-variants.{Irreversible}
 use Rattle.scheme.specs.WellFormed.{firstAt}

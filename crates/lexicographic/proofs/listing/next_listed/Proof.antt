@@ -6,7 +6,7 @@ use borrow.Author.Needs.{needs}
 use Rattle.word.specs.Ceilings.{PATTERNS}
 use Rattle.word.specs.Word.{isPerm, avoids}
 use Rattle.word.specs.Listing.{nextAvoider}
-use Rattle.word.specs.Containment.{patternsOf}
+use Rattle.word.specs.Patterns.{patternsOf}
 use Rattle.forms.specs.SchemeMemory.{patternsIn}
 use Rattle.lexicographic.specs.SetLaws.{held-avoids, held-next}
 use Rattle.lexicographic.proofs.listing.next_listed.Statement.{statement}

@@ -13,7 +13,7 @@ use lib.ListN.{length, getD, take}
 use lib.Seq.{length-take-le}
 use Rattle.word.specs.Ceilings.{DIGITS, PREFIX}
 use Rattle.word.specs.Word.{avoids}
-use Rattle.word.specs.Containment.{patternsOf}
+use Rattle.word.specs.Patterns.{patternsOf}
 use Rattle.forms.specs.SetMemory.{patternAt}
 use Rattle.basis.proofs.BasisWalk.{take-again}
 use Rattle.candidate.proofs.CandidateWalk.{Violates, violates-short, violates-not, violates-by, word-made}

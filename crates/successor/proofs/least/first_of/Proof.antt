@@ -7,7 +7,7 @@ use lib.ListN.{take}
 use borrow.Author.Needs.{needs}
 use Rattle.word.specs.Ceilings.{WORD}
 use Rattle.word.specs.Word.{isPerm}
-use Rattle.word.specs.Containment.{patternsOf}
+use Rattle.word.specs.Patterns.{patternsOf}
 use Rattle.successor.specs.StepLaws.{first-least, least-none}
 use Rattle.successor.specs.WordLaws.{perm-row, take-row, given-some, given-none}
 use Rattle.successor.specs.FrontLaws.{completes-avoider}

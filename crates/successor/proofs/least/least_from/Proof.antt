@@ -6,7 +6,7 @@ use mathlib.Core.Path.{_≡_, refl, ap, _∙_}
 use native.Mathlib.Omega.{arith}
 use lib.ListN.{take}
 use borrow.Author.Needs.{needs}
-use Rattle.word.specs.Containment.{patternsOf}
+use Rattle.word.specs.Patterns.{patternsOf}
 use Rattle.successor.specs.Values.{Avoider, leastFrom}
 use Rattle.successor.specs.StepLaws.{least-whole}
 use Rattle.successor.proofs.least.least_from.Statement.{statement}

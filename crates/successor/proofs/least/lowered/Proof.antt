@@ -5,7 +5,7 @@ use native.Mathlib.Omega.{arith}
 use lib.ListN.{length}
 use borrow.Author.Needs.{needs}
 use Rattle.word.specs.Ceilings.{WORD}
-use Rattle.word.specs.Containment.{patternsOf}
+use Rattle.word.specs.Patterns.{patternsOf}
 use Rattle.successor.specs.FrontLaws.{entry-within, lowers-found, lowers-own}
 use Rattle.successor.proofs.least.lowered.Statement.{statement}
 use Rattle.successor.proofs.least.lowered.Tie as tie

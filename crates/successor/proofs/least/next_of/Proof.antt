@@ -8,7 +8,7 @@ use native.Mathlib.Omega.{arith}
 use lib.ListN.{length, take}
 use borrow.Author.Needs.{needs}
 use Rattle.word.specs.Ceilings.{WORD}
-use Rattle.word.specs.Containment.{patternsOf}
+use Rattle.word.specs.Patterns.{patternsOf}
 use Rattle.successor.specs.StepLaws.{NoneAfter, after-whole}
 use Rattle.successor.specs.WordLaws.{given-some, given-none}
 use Rattle.successor.specs.FrontLaws.{next-less, next-found, next-end, completes-avoider}

@@ -9,7 +9,7 @@ use lib.ListN.{length, take}
 use lib.Seq.{length-take-le}
 use borrow.Author.Needs.{needs}
 use Rattle.word.specs.Ceilings.{WORD}
-use Rattle.word.specs.Containment.{patternsOf}
+use Rattle.word.specs.Patterns.{patternsOf}
 use Rattle.arrangement.specs.ExchangeLaws.{exchange-perm}
 use Rattle.successor.specs.WordLaws.{behind-or-used, used-value, decides-none, brought}
 use Rattle.successor.proofs.values.asked.Statement.{statement}

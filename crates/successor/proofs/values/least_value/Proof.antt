@@ -6,7 +6,7 @@ use mathlib.Core.Path.{sym, _∙_}
 use native.Mathlib.Omega.{arith}
 use lib.ListN.{take}
 use borrow.Author.Needs.{needs}
-use Rattle.word.specs.Containment.{patternsOf}
+use Rattle.word.specs.Patterns.{patternsOf}
 use Rattle.successor.specs.Values.{NoneBetween}
 use Rattle.successor.specs.WordLaws.{none-more, seeks-found, seeks-none}
 use Rattle.successor.proofs.values.least_value.Statement.{statement}

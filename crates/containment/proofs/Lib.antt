@@ -1,0 +1,3 @@
+-- The laws that the proofs of containment cite.
+pub mod SetSearch
+pub mod Answer

@@ -1,0 +1,3 @@
+-- The earlier of two twins.
+pub mod Twin
+pub mod TwinLaws
