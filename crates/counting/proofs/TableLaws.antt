@@ -1,67 +1,25 @@
--- A table that is measured: its layout, what a count in it is given, and what it gives.
+-- What a count in a measured table is given, and what it gives.
 -- Assumes nothing.
-use Prim.Native.Nat.{ℕ, suc, _*_, _≤_}
+use Prim.Native.Nat.{ℕ, suc, _*_}
 use native.Mathlib.Omega.{arith}
-use mathlib.Core.Path.{_≡_, sym, ap, ap₂, _∙_, subst}
-use mathlib.Core.Bool.{false}
+use mathlib.Core.Path.{_≡_, ap, _∙_}
 use mathlib.Core.List.{List, []}
-use lib.ListN.{length}
-use Rattle.word.specs.Ceilings.{LENGTH}
-use Rattle.forms.specs.SchemeMemory.{patternsIn, schemeIn, faulty}
+use Rattle.forms.specs.SchemeMemory.{patternsIn, schemeIn}
 use Rattle.forms.specs.declared.memory.Patterns.{Patterns}
 use Rattle.forms.specs.declared.memory.Scheme.{Scheme}
 use Rattle.scheme.specs.ProperLaws.{proper}
-use Rattle.verdict.specs.Truth.{WellFormed, AllTrue}
 use Rattle.verdict.specs.Value.{countOf}
-use Rattle.count_plan.specs.Layout.{widthOf, needOf}
-use Rattle.count_plan.specs.LayoutLaws.{width-sum}
-use Rattle.count_plan.specs.Plan.{Places}
+use Rattle.count_plan.specs.Layout.{needOf}
 use Rattle.count_plan.specs.SheetForm.{SheetTo}
 use Rattle.count_plan.specs.SheetRows.{Names}
 use Rattle.count_plan.proofs.SheetRowLaws.{sheet-of}
-use Rattle.count_entry.specs.Frames.{frameOf, FrameFits}
 use Rattle.count_rows.specs.Rows.{RootGiven}
 use Rattle.count_rows.specs.Run.{rootValue, ValuesTo, Counts}
 use Rattle.count_rows.specs.RunLaws.{root-count, run-counts}
 use Rattle.count_entry.specs.declared.frame.Frame.{Frame}
-use Rattle.counting.specs.Measuring.{Measured, TableGiven}
-use Rattle.counting.specs.declared.measure.Measure.{Measure}
-
--- The layout of n
-
-module _ (n : ℕ) (s : Scheme) (places : List ℕ) (p : Places n s places) (f : Frame) (is : f ≡ frameOf places n (s .count)) where
-  pub width-is : f .width ≡ widthOf n s
-  width-is = ap (λ (x : Frame). x .width) is ∙ p .at (s .count) (omega arith)
-
-  pub rows-are : f .rows ≡ 2
-  rows-are = ap (λ (x : Frame). x .rows) is
-
-  pub frame-fits : FrameFits f
-  frame-fits = record { kept = rows-are; near = omega (arith, ap (λ (x : Frame). x .width) is, p .near (s .count)) }
-
-  pub frame-need : f .rows * f .width ≡ needOf n (schemeIn s)
-  frame-need = ap₂ _*_ rows-are width-is ∙ (omega (arith, width-sum n s))
-
--- A count in that layout
-
-pub given-of : (patterns : Patterns) (s : Scheme) (n cells : ℕ) (m : Measure) (T : List ℕ) → Measured s n cells m →
-    faulty (m .fault) ≡ false →
-    WellFormed (patternsIn patterns) (schemeIn s) → AllTrue (patternsIn patterns) (schemeIn s) → n ≤ LENGTH → needOf n
-    (schemeIn s) ≤ length T →
-    TableGiven patterns s m T
-given-of patterns s n cells m T w clean formed truth small room =
-    let last : n ≡ m .frame .last = sym (ap (λ (x : Frame). x .last) (w .framed clean)) in
-    record {
-      formed = formed;
-      truth = truth;
-      small = omega arith;
-      placed = subst (λ k. Places k s (m .places)) last (w .placed clean);
-      framed = w .framed clean ∙ ap (λ k. frameOf (m .places) k (s .count)) last;
-      room = subst (λ k. needOf k (schemeIn s) ≤ length T) last room;
-    }
-
-pub last-is : (s : Scheme) (n cells : ℕ) (m : Measure) → Measured s n cells m → faulty (m .fault) ≡ false → m .frame .last ≡ n
-last-is s n cells m w clean = ap (λ (x : Frame). x .last) (w .framed clean)
+use Rattle.count_answer.specs.Measuring.{TableGiven}
+use Rattle.count_answer.specs.declared.measure.Measure.{Measure}
+use Rattle.count_answer.proofs.MeasureLaws.{width-is, rows-are, frame-need}
 
 module _ (patterns : Patterns) (s : Scheme) (m : Measure) (T : List ℕ) (g : TableGiven patterns s m T)
     (sheet : List ℕ) (t : SheetTo (patternsIn patterns) s (s .count) sheet) (root : ℕ) (names : Names s [] root) where

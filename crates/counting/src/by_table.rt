@@ -1,10 +1,10 @@
 // Counting by the table: the scheme is judged, then n, then the table.
-use crate::answer::Counted;
-use crate::answer::count_or;
-use crate::answer::fault_of;
-use crate::measure::measured;
 use crate::values::all_counts;
 use crate::values::last_count;
+use count_answer::answer::Counted;
+use count_answer::answer::count_or;
+use count_answer::answer::fault_of;
+use count_answer::measure::measured;
 use forms::memory::Fault;
 use forms::memory::Patterns;
 use forms::memory::Scheme;
@@ -17,8 +17,8 @@ ghost use lib.ListN.{length};
 ghost use Rattle.forms.specs.SchemeMemory.{patternsIn, schemeIn};
 ghost use Rattle.verdict.specs.Truth.{WellFormed, AllTrue};
 ghost use Rattle.count_plan.specs.Layout.{needOf};
-ghost use Rattle.counting.specs.Counting.{tableAfter, Counts};
-ghost use Rattle.counting.specs.Measuring.{AllCounted};
+ghost use Rattle.count_answer.specs.Counting.{tableAfter, Counts};
+ghost use Rattle.counting.specs.AllCounts.{AllCounted};
 
 // The number of permutations of 1 to n that avoid the patterns, by a scheme that is judged first.
 // Nothing is asked of the caller.

@@ -1,7 +1,7 @@
 // The plain evaluation: the scheme is judged, then n. There is no table.
-use crate::answer::Counted;
-use crate::answer::count_or;
-use crate::answer::fault_of;
+use count_answer::answer::Counted;
+use count_answer::answer::count_or;
+use count_answer::answer::fault_of;
 use count_plain::counting::plain_count;
 use forms::memory::Fault;
 use forms::memory::Patterns;
@@ -19,7 +19,7 @@ ghost use Rattle.word.specs.Finding.{firstFault};
 ghost use Rattle.forms.specs.SchemeMemory.{patternsIn, schemeIn, faultOf};
 ghost use Rattle.verdict.specs.Truth.{WellFormed, AllTrue};
 ghost use Rattle.verdict.specs.Value.{countOf};
-ghost use Rattle.counting.specs.Counting.{lengthTests, PlainCounts};
+ghost use Rattle.count_answer.specs.Counting.{lengthTests, PlainCounts};
 
 // The number of permutations of 1 to n that avoid the patterns, n up to PLAIN_LENGTH, without a
 // table. Nothing is asked of the caller.

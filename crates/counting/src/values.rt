@@ -1,5 +1,5 @@
 // The counts of an accepted scheme, in a table that is measured.
-use crate::measure::Measure;
+use count_answer::measure::Measure;
 use count_plan::sheet::SHEET;
 use count_plan::sheet::fill_sheet;
 use count_rows::run::all_values;
@@ -21,7 +21,7 @@ ghost use Rattle.count_plan.specs.SheetSizes.{SHEET};
 ghost use Rattle.count_plan.specs.SheetForm.{SheetTo};
 ghost use Rattle.count_plan.specs.SheetRows.{Names};
 ghost use Rattle.count_rows.specs.Run.{cleared, Counts};
-ghost use Rattle.counting.specs.Measuring.{TableGiven};
+ghost use Rattle.count_answer.specs.Measuring.{TableGiven};
 
 // Writes the sheet of the scheme for the patterns; the index of the entry for ε.
 fn write_plan(sheet: &mut [u8], patterns: Patterns, scheme: Scheme) -> usize

@@ -39,8 +39,8 @@ use Rattle.forms.specs.MemoryLaws.{take-row}
 use Rattle.judge_texts.specs.TextJudgement.{verdictRead, verdictOfTexts, TextsTrue, JudgesAndReads}
 use Rattle.judge_texts.specs.TextVerdictLaws.{set-clean, set-list, scheme-clean, scheme-list}
 use Rattle.judge_texts.specs.declared.TextsJudged.{TextsJudged}
-use Rattle.counting.specs.Counting.{faultIn}
-use Rattle.counting.specs.CountLaws.{clean-accepts, table-serves}
+use Rattle.count_answer.specs.Counting.{faultIn}
+use Rattle.count_answer.specs.CountLaws.{clean-accepts, table-serves}
 use Rattle.table_lines.specs.Lines.{Three, threeLines, numberIn}
 use Rattle.table_lines.specs.Kept.{setRoom, schemeRoom, lastRoom, Memory, keptOf, isComplete, heldLines, threeIn, asNumber}
 use Rattle.table_lines.specs.LastNumberLaws.{number-front}

@@ -23,7 +23,7 @@ use Rattle.verdict.specs.Truth.{WellFormed, AllTrue}
 use Rattle.judge_texts.specs.TextJudgement.{verdictOfTexts, TextsTrue}
 use Rattle.verdict.specs.Value.{countOf}
 use Rattle.count_plan.specs.Layout.{needOf}
-use Rattle.counting.specs.Counting.{tableTests, faultIn}
+use Rattle.count_answer.specs.Counting.{tableTests, faultIn}
 use Rattle.table_lines.specs.Lines.{Three, threeLines, numberIn}
 use Rattle.table_lines.specs.Kept.{Memory, keptOf, threeIn, asNumber}
 use Rattle.table_lines.specs.declared.input.Number.{Number}

@@ -1,5 +1,5 @@
 // The b-file, or the line of a refusal: the three lines are judged in order.
-use counting::answer::fault_of;
+use count_answer::answer::fault_of;
 use counting::by_table::count_all;
 use forms::memory::Fault;
 use forms::memory::Patterns;

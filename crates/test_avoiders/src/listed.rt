@@ -1,7 +1,7 @@
 // The line of a set: its text, for the lengths 0 to 7 how many avoiders following next from the
 // first gives, and whether a scheme counts the same.
 use crate::walk::given;
-use counting::answer::Counted;
+use count_answer::answer::Counted;
 use counting::plainly::count_plainly;
 use forms::memory::Patterns;
 use forms::memory::Scheme;

@@ -1,6 +1,6 @@
 // A count with a table that is lent from a page of cells, and what the page holds afterwards.
 use crate::need::need;
-use counting::answer::Counted;
+use count_answer::answer::Counted;
 use counting::by_table::count;
 use forms::memory::Patterns;
 use forms::memory::Scheme;

@@ -5,7 +5,7 @@ use crate::avoiders::avoiders;
 use crate::need::need;
 use crate::page::Left;
 use crate::page::run;
-use counting::answer::Counted;
+use count_answer::answer::Counted;
 use counting::plainly::count_plainly;
 use forms::memory::Patterns;
 use forms::memory::Scheme;

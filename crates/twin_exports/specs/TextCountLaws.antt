@@ -20,9 +20,9 @@ use Rattle.verdict.specs.VerdictLaws.{accepted-exactly}
 use Rattle.judge_texts.specs.TextJudgement.{TextsTrue}
 use Rattle.judge_texts.specs.TextVerdictLaws.{set-clean, set-list, scheme-clean, scheme-list}
 use Rattle.count_plan.specs.Layout.{needOf}
-use Rattle.counting.specs.Counting.{countedOr, tableAfter, Counts, PlainCounts}
-use Rattle.counting.specs.CountLaws.{refused-count, refused-table}
-use Rattle.counting.specs.declared.answer.Counted.{Counted}
+use Rattle.count_answer.specs.Counting.{countedOr, tableAfter, Counts, PlainCounts}
+use Rattle.count_answer.specs.CountLaws.{refused-count, refused-table}
+use Rattle.count_answer.specs.declared.answer.Counted.{Counted}
 use Rattle.twin_exports.specs.TextCounts.{codeOf, countIn, CountsTexts, PlainTexts}
 
 -- What was read from the texts s and t.

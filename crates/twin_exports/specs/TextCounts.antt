@@ -14,9 +14,9 @@ use Rattle.notation.specs.SchemeAnswers.{schemeAnswer}
 use Rattle.count_plan.specs.Layout.{needOf}
 use Rattle.verdict.specs.Value.{countOf}
 use Rattle.judge_texts.specs.TextJudgement.{TextsTrue}
-use Rattle.counting.specs.Counting.{countTests, plainTests, countedOr, toldCounted, tableAfter}
-use Rattle.counting.specs.declared.answer.Counted.{Counted}
-use Rattle.counting.specs.declared.answer.Counted.the-variants.{Count, Refused}
+use Rattle.count_answer.specs.Counting.{countTests, plainTests, countedOr, toldCounted, tableAfter}
+use Rattle.count_answer.specs.declared.answer.Counted.{Counted}
+use Rattle.count_answer.specs.declared.answer.Counted.the-variants.{Count, Refused}
 
 -- 2 to the 64 less 1, the largest number of 64 bits
 abbrev pub largest : ℕ

@@ -2,8 +2,8 @@
 // with a C calling convention: for the differential test and the benchmark of twin/.
 use containment::Contained;
 use containment::contains;
-use counting::answer::Counted;
-use counting::answer::count_or;
+use count_answer::answer::Counted;
+use count_answer::answer::count_or;
 use counting::by_table::count;
 use counting::plainly::count_plainly;
 use forms::order::earlier;

@@ -9,8 +9,8 @@ use Rattle.scheme.specs.ProperLaws.{proper}
 use Rattle.verdict.specs.Value.{countOf}
 use Rattle.count_plan.specs.Layout.{needOf}
 use Rattle.count_rows.specs.Run.{cleared}
-use Rattle.counting.specs.CountLaws.{verdict-fault, clean-accepts, refused-judging, refused-n-or-table, served, done}
-use Rattle.counting.proofs.TableLaws.{given-of, last-is}
+use Rattle.count_answer.specs.CountLaws.{verdict-fault, clean-accepts, refused-judging, refused-n-or-table, served, done}
+use Rattle.count_answer.proofs.MeasureLaws.{given-of, last-is}
 use borrow.Author.Needs.{needs}
 use Rattle.counting.proofs.by_table.count.Statement.{statement}
 use Rattle.counting.proofs.by_table.count.Tie as tie

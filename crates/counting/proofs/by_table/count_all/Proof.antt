@@ -9,9 +9,9 @@ use Rattle.scheme.specs.ProperLaws.{proper}
 use Rattle.forms.specs.declared.memory.Fault.{Fault}
 use Rattle.count_plan.specs.Layout.{needOf}
 use Rattle.count_rows.specs.Run.{cleared, Counts}
-use Rattle.counting.specs.Counting.{tableAfter}
-use Rattle.counting.specs.CountLaws.{table-good, refused-table}
-use Rattle.counting.proofs.TableLaws.{given-of, last-is}
+use Rattle.count_answer.specs.Counting.{tableAfter}
+use Rattle.count_answer.specs.CountLaws.{table-good, refused-table}
+use Rattle.count_answer.proofs.MeasureLaws.{given-of, last-is}
 use lib.ListN.{length}
 use borrow.Author.Needs.{needs}
 use Rattle.counting.proofs.by_table.count_all.Statement.{statement}

@@ -3,7 +3,7 @@
 use mathlib.Core.Path.{sym, _∙_}
 use Rattle.forms.specs.SchemeMemory.{patternsIn, schemeIn}
 use Rattle.wellformed.proofs.OrderLaws.{not-faulty}
-use Rattle.counting.specs.CountLaws.{verdict-fault, clean-accepts, length-good, plain-refused, plain-long, plain-done}
+use Rattle.count_answer.specs.CountLaws.{verdict-fault, clean-accepts, length-good, plain-refused, plain-long, plain-done}
 use borrow.Author.Needs.{needs}
 use Rattle.counting.proofs.plainly.count_plainly.Statement.{statement}
 use Rattle.counting.proofs.plainly.count_plainly.Tie as tie

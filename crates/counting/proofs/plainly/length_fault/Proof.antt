@@ -2,7 +2,7 @@
 -- Assumes nothing.
 use mathlib.Core.Path.{sym}
 use native.Mathlib.Omega.{arith}
-use Rattle.counting.specs.CountLaws.{length-serves, length-long}
+use Rattle.count_answer.specs.CountLaws.{length-serves, length-long}
 use Rattle.counting.proofs.plainly.length_fault.Statement.{statement}
 use Rattle.counting.proofs.plainly.length_fault.Tie as tie
 

@@ -11,7 +11,7 @@ use Rattle.forms.specs.declared.memory.Fault.{Fault}
 use Rattle.text_page.specs.PageLaws.{writes-as}
 use Rattle.wellformed.proofs.OrderLaws.{not-faulty}
 use Rattle.verdict.specs.Value.{countOf}
-use Rattle.counting.specs.CountLaws.{table-good}
+use Rattle.count_answer.specs.CountLaws.{table-good}
 use Rattle.table_text.specs.Printed.{bfileText}
 use Rattle.table_print.specs.TableText.{printedOr, lengthText}
 use Rattle.table_print.specs.PrintLaws.{counts-taken, only-line}

@@ -1,11 +1,11 @@
--- `counting::answer::count_or` meets its contract: by the cases of the fault.
+-- `count_answer::answer::count_or` meets its contract: by the cases of the fault.
 -- Assumes nothing.
 use mathlib.Core.Path.{sym, ap}
 use Rattle.forms.specs.declared.memory.Fault.{Fault}
-use Rattle.counting.specs.Counting.{countedOr}
+use Rattle.count_answer.specs.Counting.{countedOr}
 use borrow.Author.Needs.{needs}
-use Rattle.counting.proofs.answer.count_or.Statement.{statement}
-use Rattle.counting.proofs.answer.count_or.Tie as tie
+use Rattle.count_answer.proofs.answer.count_or.Statement.{statement}
+use Rattle.count_answer.proofs.answer.count_or.Tie as tie
 
 enum-told : tie.Need-enum-told
 enum-told c = search needs

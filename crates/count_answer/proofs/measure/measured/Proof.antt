@@ -1,14 +1,14 @@
--- `counting::measure::measured` meets its contract: n, then the number of cells.
+-- `count_answer::measure::measured` meets its contract: n, then the number of cells.
 -- Assumes nothing.
 use native.Mathlib.Omega.{arith}
 use mathlib.Core.Path.{sym, ap, _∙_}
 use Rattle.word.specs.ListLaws.{true-not-false}
 use Rattle.forms.specs.SchemeMemory.{schemeIn, faulty}
-use Rattle.counting.specs.CountLaws.{length-refused, table-refused, table-serves}
-use Rattle.counting.proofs.TableLaws.{frame-fits, frame-need}
+use Rattle.count_answer.specs.CountLaws.{length-refused, table-refused, table-serves}
+use Rattle.count_answer.proofs.MeasureLaws.{frame-fits, frame-need}
 use borrow.Author.Needs.{needs}
-use Rattle.counting.proofs.measure.measured.Statement.{statement}
-use Rattle.counting.proofs.measure.measured.Tie as tie
+use Rattle.count_answer.proofs.measure.measured.Statement.{statement}
+use Rattle.count_answer.proofs.measure.measured.Tie as tie
 
 returns : tie.Need-returns
 returns c =

@@ -25,10 +25,10 @@ use Rattle.verdict.specs.declared.answer.Verdict.{Verdict}
 use Rattle.count_plan.specs.Layout.{needOf}
 use Rattle.verdict.specs.Value.{countOf}
 use Rattle.verdict.specs.ValueLaws.{count-avoiders}
-use Rattle.counting.specs.Counting.{tableTests, countTests, lengthTests, plainTests, faultIn, countedOr}
-use Rattle.counting.specs.Counting.{toldCounted, tableAfter, Counts, PlainCounts}
-use Rattle.counting.specs.declared.answer.Counted.{Counted}
-use Rattle.counting.specs.declared.answer.Counted.the-variants.{Count}
+use Rattle.count_answer.specs.Counting.{tableTests, countTests, lengthTests, plainTests, faultIn, countedOr}
+use Rattle.count_answer.specs.Counting.{toldCounted, tableAfter, Counts, PlainCounts}
+use Rattle.count_answer.specs.declared.answer.Counted.{Counted}
+use Rattle.count_answer.specs.declared.answer.Counted.the-variants.{Count}
 
 -- the fault in a verdict is that of its tests
 pub verdict-fault : (P : List (List ℕ)) (E : List EntryList) (v : Verdict) → v ≡ verdictOf P E → faultIn v ≡

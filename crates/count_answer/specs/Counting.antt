@@ -19,8 +19,8 @@ use Rattle.verdict.specs.declared.answer.Verdict.{Verdict}
 use Rattle.verdict.specs.declared.answer.Verdict.the-variants.{Accepted, Refused}
 use Rattle.count_plan.specs.Layout.{needOf}
 use Rattle.verdict.specs.Value.{countOf}
-use Rattle.counting.specs.declared.answer.Counted.{Counted}
-use Rattle.counting.specs.declared.answer.Counted.the-variants.{Count, Refused as RefusedCount}
+use Rattle.count_answer.specs.declared.answer.Counted.{Counted}
+use Rattle.count_answer.specs.declared.answer.Counted.the-variants.{Count, Refused as RefusedCount}
 
 -- "the scheme before n, n before table" (01); a count is for n up to LENGTH, and a table is short
 -- with fewer cells than needed

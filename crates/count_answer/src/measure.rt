@@ -12,7 +12,7 @@ ghost use mathlib.Core.Path.{_≡_};
 ghost use Rattle.spacing.specs.Pascal.{Pascal};
 ghost use Rattle.forms.specs.SchemeMemory.{schemeIn};
 ghost use Rattle.scheme.specs.Proper.{Proper};
-ghost use Rattle.counting.specs.Measuring.{Measured};
+ghost use Rattle.count_answer.specs.Measuring.{Measured};
 
 // The refusal, and where there is none, the layout and the places of the entries in a row.
 pub struct Measure {

@@ -7,7 +7,6 @@ use mathlib.Core.List.{List}
 use lib.ListN.{length}
 use Rattle.word.specs.Ceilings.{LENGTH}
 use Rattle.word.specs.Finding.{firstFault}
-use Rattle.forms.specs.SchemeList.{EntryList}
 use Rattle.forms.specs.SchemeMemory.{patternsIn, schemeIn, faultOf, faulty}
 use Rattle.forms.specs.declared.memory.Patterns.{Patterns}
 use Rattle.forms.specs.declared.memory.Scheme.{Scheme}
@@ -15,10 +14,8 @@ use Rattle.verdict.specs.Truth.{WellFormed, AllTrue}
 use Rattle.count_plan.specs.Layout.{needOf}
 use Rattle.count_plan.specs.Plan.{Places}
 use Rattle.count_entry.specs.Frames.{frameOf}
-use Rattle.count_rows.specs.Run.{Counts}
-use Rattle.counting.specs.Counting.{tableTests}
-use Rattle.counting.specs.declared.measure.Measure.{Measure}
-use Rattle.counting.specs.declared.by_table.Tabled.{Tabled}
+use Rattle.count_answer.specs.Counting.{tableTests}
+use Rattle.count_answer.specs.declared.measure.Measure.{Measure}
 
 -- the fault is what the tests of n and of the table find; where they find none, the places and the
 -- layout are those of n
@@ -35,8 +32,3 @@ pub record TableGiven (patterns : Patterns) (s : Scheme) (m : Measure) (T : List
   pub placed : Places (m .frame .last) s (m .places)
   pub framed : m .frame ≡ frameOf (m .places) (m .frame .last) (s .count)
   pub room : needOf (m .frame .last) (schemeIn s) ≤ length T
-
--- what n and the table are refused for, or all counts
-pub record AllCounted (P : List (List ℕ)) (E : List EntryList) (n cells : ℕ) (r : Tabled) : Type 0 where
-  pub found : r .fault ≡ faultOf (firstFault (tableTests E n cells))
-  pub counts : faulty (r .fault) ≡ false → Counts P E n (r .counts)

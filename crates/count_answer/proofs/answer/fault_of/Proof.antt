@@ -1,10 +1,10 @@
--- `counting::answer::fault_of` meets its contract: by the cases of the verdict.
+-- `count_answer::answer::fault_of` meets its contract: by the cases of the verdict.
 -- Assumes nothing.
 use mathlib.Core.Path.{sym, ap}
-use Rattle.counting.specs.Counting.{faultIn}
+use Rattle.count_answer.specs.Counting.{faultIn}
 use borrow.Author.Needs.{needs}
-use Rattle.counting.proofs.answer.fault_of.Statement.{statement}
-use Rattle.counting.proofs.answer.fault_of.Tie as tie
+use Rattle.count_answer.proofs.answer.fault_of.Statement.{statement}
+use Rattle.count_answer.proofs.answer.fault_of.Tie as tie
 
 returns-2 : tie.Need-returns-2
 returns-2 c = sym (ap faultIn (c .before .verdict .given .1))

@@ -3,7 +3,7 @@ use forms::memory::Fault;
 use verdict::answer::Verdict;
 use word::refusal::Refusal;
 ghost use mathlib.Core.Path.{_≡_};
-ghost use Rattle.counting.specs.Counting.{countedOr, faultIn};
+ghost use Rattle.count_answer.specs.Counting.{countedOr, faultIn};
 
 pub enum Counted {
     Count(u64),

@@ -1,0 +1,2 @@
+-- The laws of a measured table.
+pub mod MeasureLaws
