@@ -4,7 +4,7 @@
 use crate::judging::{avoids, judge};
 use crate::model::*;
 use crate::wellformed::Places;
-use crate::word::{child, deleted};
+use crate::word::{child, deleted, gone_values};
 
 type Binomials = [[u64; 9]; LONGEST + 2];
 
@@ -20,10 +20,16 @@ fn binomials() -> Binomials {
     c
 }
 
+/// The rows that the table keeps: one, and one more for each position of the largest set that an
+/// entry deletes, whether or not the entry is reached.
+fn rows(scheme: &Scheme) -> usize {
+    1 + scheme.entries.iter().map(|e| e.rule.size()).max().unwrap_or(0)
+}
+
 /// The cells that counting to n needs.
 pub fn need(scheme: &Scheme, n: usize) -> u64 {
     let c = binomials();
-    2 * scheme.entries.iter().map(|e| c[n][e.prefix.count()]).sum::<u64>()
+    rows(scheme) as u64 * scheme.entries.iter().map(|e| c[n][e.prefix.count()]).sum::<u64>()
 }
 
 /// What is done at the cells of an entry.
@@ -31,14 +37,40 @@ enum Step {
     /// the places of the children, by the number of first values below the new one; the value at
     /// total 0
     Sum([usize; PREFIX_LENGTH + 1], u64),
-    /// the place of the target; which of the sorted first values goes, from 0
-    Take(usize, usize),
+    Take(Removal),
+}
+
+/// A deletion, as counting needs it.
+struct Removal {
+    /// the place of the target
+    target: usize,
+    /// how many positions go
+    size: usize,
+    /// of the sorted first values, from 0, those that stay, each with how many below it go
+    left: Kept<(u8, u8), PREFIX_LENGTH>,
+    /// for each component of a spacing, the one of the merged spacing that it is added to
+    into: [usize; COMPONENTS],
+}
+
+/// The deletion of some positions of a prefix, all together.
+fn removal(target: usize, prefix: &[u8], positions: &[u16]) -> Removal {
+    let gone = gone_values(prefix, positions) >> 1;
+    let below = |i: usize| (gone & ((1 << i) - 1)).count_ones() as usize;
+    let mut into = [0; COMPONENTS];
+    for (i, place) in into[..=prefix.len()].iter_mut().enumerate() {
+        *place = i - below(i);
+    }
+    let mut left = Kept::new();
+    for i in (0..prefix.len()).filter(|i| gone >> i & 1 == 0) {
+        left.push((i as u8, below(i) as u8));
+    }
+    Removal { target, size: positions.len(), left, into }
 }
 
 /// The step of an entry, from the places of the prefixes.
 fn step(patterns: &Patterns, entry: &Entry, place_of: impl Fn(&[u8]) -> usize) -> Step {
     let prefix = entry.prefix.items();
-    match entry.rule {
+    match &entry.rule {
         Rule::Expand => {
             let mut children = [0; PREFIX_LENGTH + 1];
             for (below, place) in children[..=prefix.len()].iter_mut().enumerate() {
@@ -46,9 +78,9 @@ fn step(patterns: &Patterns, entry: &Entry, place_of: impl Fn(&[u8]) -> usize) -
             }
             Step::Sum(children, avoids(patterns.items(), prefix) as u64)
         }
-        Rule::Delete(r) => {
-            let r = r as usize;
-            Step::Take(place_of(deleted(prefix, r).items()), prefix[r - 1] as usize - 1)
+        Rule::Delete(set) => {
+            let target = place_of(deleted(prefix, set.items()).items());
+            Step::Take(removal(target, prefix, set.items()))
         }
     }
 }
@@ -58,6 +90,16 @@ struct Plan<'a> {
     place: usize,
     vectors: &'a [Vector],
     step: Step,
+}
+
+impl Plan<'_> {
+    /// How many positions go: the values of a target stand in a row so many lengths before.
+    fn size(&self) -> usize {
+        match &self.step {
+            Step::Sum(..) => 0,
+            Step::Take(removal) => removal.size,
+        }
+    }
 }
 
 /// The entries by falling prefix length, each with its place in a row of cells for lengths up to n;
@@ -79,23 +121,25 @@ fn plans<'a>(patterns: &Patterns, scheme: &'a Scheme, n: usize, c: &Binomials) -
 }
 
 /// The counts for 0 to n. The scheme is accepted and the table has the cells that n needs, which
-/// hold 0 afterwards.
+/// hold 0 afterwards. Row j stands in block j modulo the number of rows that are kept.
 pub fn counts(patterns: &Patterns, scheme: &Scheme, n: usize, table: &mut [u64]) -> Vec<u64> {
     let c = binomials();
     let (plans, width) = plans(patterns, scheme, n, &c);
-    let (even, odd) = table[..2 * width].split_at_mut(width);
+    let table = &mut table[..rows(scheme) * width];
+    let mut rows: Vec<&mut [u64]> = table.chunks_exact_mut(width).collect();
     let root = plans.last().expect("there is an entry for ε").place;
     let mut counts = Vec::with_capacity(n + 1);
     for j in 0..=n {
-        let (row, before) = if j % 2 == 0 { (&mut *even, &*odd) } else { (&mut *odd, &*even) };
-        for plan in &plans {
-            if plan.length <= j {
-                fill(plan, j, row, before, &c);
-            }
+        let block = j % rows.len();
+        let row = std::mem::take(&mut rows[block]);
+        for plan in plans.iter().filter(|plan| plan.length <= j) {
+            let before = (j - plan.size()) % rows.len();
+            fill(plan, j, row, &*rows[before], &c);
         }
         counts.push(row[root]);
+        rows[block] = row;
     }
-    table[..2 * width].fill(0);
+    table.fill(0);
     counts
 }
 
@@ -113,7 +157,7 @@ fn fill(plan: &Plan, j: usize, row: &mut [u64], before: &[u64], c: &Binomials) {
             0
         } else {
             match &plan.step {
-                Step::Take(target, gone) => before[target + rank_without(&set[..k], *gone, c)],
+                Step::Take(removal) => before[removal.target + rank_left(&set, removal.left.items(), c)],
                 Step::Sum(_, whole) if j == k => *whole,
                 Step::Sum(children, _) => sum(children, &set, k, row, c),
             }
@@ -140,13 +184,11 @@ fn above_some(vectors: &[Vector], set: &[usize; PREFIX_LENGTH + 1], k: usize) ->
     vectors.iter().any(|v| v.items().iter().zip(&g).all(|(b, x)| b <= x))
 }
 
-fn rank_without(set: &[usize], gone: usize, c: &Binomials) -> usize {
+/// The rank of the values that stay: each falls by the number of those below it that go.
+fn rank_left(set: &[usize; PREFIX_LENGTH + 1], left: &[(u8, u8)], c: &Binomials) -> usize {
     let mut rank = 0;
-    for i in 0..gone {
-        rank += c[set[i]][i + 1];
-    }
-    for i in gone + 1..set.len() {
-        rank += c[set[i] - 1][i];
+    for (at, &(i, below)) in left.iter().enumerate() {
+        rank += c[set[i as usize] - below as usize][at + 1];
     }
     rank as usize
 }
@@ -220,12 +262,12 @@ impl Evaluation<'_> {
             return 0;
         }
         match &self.steps[e] {
-            Step::Take(target, gone) => {
+            Step::Take(removal) => {
                 let mut merged = [0; COMPONENTS];
-                merged[..=*gone].copy_from_slice(&g[..=*gone]);
-                merged[*gone] += g[gone + 1];
-                merged[gone + 1..k].copy_from_slice(&g[gone + 2..=k]);
-                self.cell(*target, &merged, total)
+                for (&x, &i) in g[..=k].iter().zip(&removal.into) {
+                    merged[i] += x;
+                }
+                self.cell(removal.target, &merged, total)
             }
             Step::Sum(_, whole) if total == 0 => *whole,
             Step::Sum(children, _) => self.sum(children, k, g, total),

@@ -1,6 +1,6 @@
 //! The inputs of the differential test: a set's text and a scheme's, of many kinds.
 
-use crate::finder::{decide, empty_vectors, find};
+use crate::finder::{decide, empty_vectors, find, Choice};
 use crate::judging::{basis, longest};
 use crate::listing::LISTED;
 use crate::model::*;
@@ -8,7 +8,8 @@ use crate::notation::{pattern_pieces, read_patterns, read_scheme, scheme_pieces}
 use crate::notation::{write_patterns, write_scheme};
 use crate::published::published;
 use crate::random::Random;
-use crate::word::{child, deleted};
+use crate::set_inputs::{damage_set, fixed_sets, long_set, random_set, together, true_sets, SPACED};
+use crate::word::{child, deleted, position_sets};
 use crate::worst::*;
 
 pub struct Case {
@@ -17,7 +18,7 @@ pub struct Case {
     pub scheme: Vec<u8>,
 }
 
-fn case(kind: &'static str, patterns: impl AsRef<[u8]>, scheme: impl AsRef<[u8]>) -> Case {
+pub fn case(kind: &'static str, patterns: impl AsRef<[u8]>, scheme: impl AsRef<[u8]>) -> Case {
     Case { kind, patterns: patterns.as_ref().to_vec(), scheme: scheme.as_ref().to_vec() }
 }
 
@@ -52,8 +53,10 @@ pub fn fixed() -> Vec<Case> {
     for p in published() {
         cases.push(case("published", p.patterns, p.scheme));
     }
-    for p in published().iter().take(12) {
-        for (text, other, first) in [(p.patterns, p.scheme, true), (p.scheme, p.patterns, false)] {
+    let papers = published();
+    let spaced = papers.iter().take(12).map(|p| (p.patterns, p.scheme)).chain(SPACED);
+    for (patterns, scheme) in spaced {
+        for (text, other, first) in [(patterns, scheme, true), (scheme, patterns, false)] {
             for at in 0..=text.len() {
                 for byte in [b' ', b'\t', b'0', b','] {
                     let mut bytes = text.as_bytes().to_vec();
@@ -74,6 +77,10 @@ pub fn fixed() -> Vec<Case> {
     for (patterns, scheme, _) in lengthened() {
         cases.push(case("examples of order 3", patterns, scheme));
     }
+    for (patterns, scheme, _) in together() {
+        cases.push(case("examples of order 4", patterns, scheme));
+    }
+    fixed_sets(&mut cases);
     cases
 }
 
@@ -93,6 +100,11 @@ pub fn examples() -> Vec<(&'static str, &'static str, &'static [u8], &'static [u
         ("{1423,1234}", root, &[1, 2, 3, 4], &[1, 2, 3, 4]),
         ("{1234,1423}", root, &[1, 2, 3, 4], &[1, 2, 3, 4]),
         ("{12345678}", falling, &[7, 6, 5, 4, 3, 1, 2, 8, 9, 10, 11, 12, 13], &[6, 7, 8, 9, 10, 11, 12, 13]),
+        // several positions together: each of 12 could go alone; the whole prefix; six of six
+        ("{132}", "{(ε,∅,∅),(1,∅,∅),(12,{⟨0,1,0⟩},{1,2}),(21,∅,{1})}", &[1, 2, 4, 3], &[1, 3, 4]),
+        ("{132}", "{(ε,∅,∅),(1,∅,∅),(12,{⟨0,1,0⟩},{1}),(21,∅,{1,2})}", &[2, 1, 4, 3], &[1, 3, 4]),
+        ("{12}", "{(ε,∅,∅),(654321,∅,{1,2,3,4,5,6}),(1,∅,{1})}", &[6, 5, 4, 3, 2, 1, 7], &[1, 7]),
+        ("{321}", "{(ε,∅,∅),(2413,∅,{1,2,3}),(1,∅,{1})}", &[2, 5, 1, 4, 3], &[2, 4, 5]),
     ]
 }
 
@@ -142,21 +154,23 @@ pub fn lengthened() -> Vec<(String, &'static str, &'static str)> {
     inputs
 }
 
-/// The published schemes with one position put in for another, or for an expansion; the sets as
-/// they are, and with a superfluous pattern in front or behind.
+/// The published schemes with other positions put in for those that an entry deletes, or for an
+/// expansion: each single one, and some of the sets; the patterns as they are, and with a
+/// superfluous one in front or behind.
 fn wrong_deletions(cases: &mut Vec<Case>) {
     let mut random = Random::new(1);
     for p in published() {
         let Ok(patterns) = read_patterns(p.patterns.as_bytes()) else { continue };
         let Ok(scheme) = read_scheme(p.scheme.as_bytes()) else { continue };
         for (i, entry) in scheme.entries.iter().enumerate() {
-            for r in 1..=entry.prefix.count() as u16 {
-                if entry.rule == Rule::Delete(r) {
+            for positions in position_sets(entry.prefix.count()) {
+                let rule = Rule::deleting(&positions);
+                if entry.rule == rule || (positions.len() > 1 && !random.one_in(4)) {
                     continue;
                 }
                 let (mut set, mut entries) = (patterns.items().to_vec(), scheme.entries.clone());
-                entries[i].rule = Rule::Delete(r);
-                let mut kind = "a wrong deletion";
+                entries[i].rule = rule;
+                let mut kind = if positions.len() > 1 { "a wrong set" } else { "a wrong deletion" };
                 if random.one_in(3) && add_superfluous(&mut random, &mut set) {
                     kind = "a superfluous pattern";
                 }
@@ -331,7 +345,9 @@ fn ceilings(cases: &mut Vec<Case>) {
     }
     for position in [
         "0", "1", "2", "3", "6", "7", "8", "9", "10", "99", "254", "255", "256", "257", "258", "259", "262", "512", "513", "999", "1000", "01", "00", "001",
-        "", " ", "1,1", "1,2", "-1", "∅", "ε", "1 ", " 1", " 1 ", "1 2", "{1}",
+        "", " ", "1,1", "1,2", "-1", "∅", "ε", "1 ", " 1", " 1 ", "1 2", "{1}", "2,1", "1,2,3", "1,3", "0,1", "1,0", "1,7", "1,", ",1", ",", "1,,2", "1, 2",
+        " 1 , 2 ", "01,2", "1,02", "1,999", "1,1000", "1000,1", "1,2,2", "1;2", "1 2,3", "2,3,1", "1,2,3,4,5,6", "1,2,3,4,5,6,7", "0,1,2,3,4,5,6",
+        "1,2,3,4,6,5", "1,2,3,4,5,5", "1,257", "1,256", "257,258", "1,{2}", "1,∅", "⟨1,2⟩", "1.2",
     ] {
         for prefix in ["ε", "1", "12", "21", "123", "123456"] {
             scheme(format!("{{(ε,∅,∅),(1,∅,∅),({prefix},∅,{{{position}}}),(21,∅,{{1}})}}"));
@@ -357,6 +373,8 @@ fn ceilings(cases: &mut Vec<Case>) {
         }
     }
     let mut pairs = vec![exact_need(), unpatterned(128), short_basis(), own_basis(), long_text()];
+    pairs.extend([exact_set_need(), own_basis_together()]);
+    pairs.extend([2, 3, 5].map(|size| true_deletions_of(size, beginning_with(&[1, 2, 3, 4]), 30)));
     pairs.extend([late_gap_vectors(), late_witness(), gap_vectors(5, 96, 2), gap_vectors(6, 4, 2)]);
     for set in [beginning_low(1), beginning_with(&[2, 1, 4, 3]), beginning_with(&[5, 6, 7, 8]), ending_with(&[8, 7, 6, 5])] {
         let mut pair = true_deletions(set, 30);
@@ -393,24 +411,35 @@ fn prefixes(count: usize) -> Vec<String> {
 /// No patterns, and as many entries as asked for: ε and deletions of the first position.
 pub fn unpatterned(count: usize) -> Pair {
     let all = (0..=6).flat_map(words).take(count);
-    let entry = |w: Vec<u8>| Entry { prefix: Prefix::of(&w), rule: if w.is_empty() { Rule::Expand } else { Rule::Delete(1) }, ..Entry::default() };
+    let entry = |w: Vec<u8>| if w.is_empty() { Entry::default() } else { deleting(&w, &[1]) };
     Pair { patterns: vec![], entries: all.map(entry).collect() }
 }
 
 /// A scheme that needs just 4,096 cells at n = 10.
 pub fn exact_need() -> Pair {
     let mut entries = unpatterned(2).entries;
-    let mut add = |word: &[u8], r| entries.push(Entry { prefix: Prefix::of(word), rule: Rule::Delete(r), ..Entry::default() });
+    let mut add = |word: &[u8], r| entries.push(deleting(word, &[r]));
     add(&[1, 2], 1);
     for w in [[1, 2, 3], [1, 3, 2], [2, 3, 1], [2, 1, 3]] {
-        let r = (1..=3).find(|&r| deleted(&w, r).items() == [1, 2]).expect("12 stands in it");
-        add(&w, r as u16);
+        let r = (1..=3).find(|&r| deleted(&w, &[r]).items() == [1, 2]).expect("12 stands in it");
+        add(&w, r);
     }
     for w in [[1, 2, 3, 4], [1, 2, 4, 3], [1, 3, 4, 2], [2, 3, 4, 1], [4, 1, 2, 3], [1, 4, 2, 3]] {
-        let r = (1..=4).find(|&r| deleted(&w, r).items() == [1, 2, 3]).expect("123 stands in it");
-        add(&w, r as u16);
+        let r = (1..=4).find(|&r| deleted(&w, &[r]).items() == [1, 2, 3]).expect("123 stands in it");
+        add(&w, r);
     }
     add(&[1, 2, 3, 4, 5], 1);
+    Pair { patterns: vec![], entries }
+}
+
+/// A scheme that deletes up to three positions together and needs just 4,096 cells at n = 11: four
+/// rows of the C(11, 0) to C(11, 5), which are half of 2 to the 11.
+pub fn exact_set_need() -> Pair {
+    let sets: [&[u16]; 5] = [&[1], &[1, 2], &[2, 3], &[1, 3, 4], &[5]];
+    let mut entries = vec![Entry::default()];
+    for (k, set) in sets.iter().enumerate() {
+        entries.push(deleting(&[1, 2, 3, 4, 5][..=k], set));
+    }
     Pair { patterns: vec![], entries }
 }
 
@@ -472,7 +501,9 @@ impl Maker {
                 let length = self.random.within(1, depth + 1).min(if longest > 5 { 3 } else { 5 });
                 more.push(Prefix::of(&self.random.permutation(length)));
             }
-            if let Some(entries) = find(&patterns, &more, depth.max(more.first().map_or(0, |p| p.count())), total) {
+            let depth = depth.max(more.first().map_or(0, |p| p.count()));
+            let choice = if self.random.one_in(3) { Choice::Most } else { Choice::One };
+            if let Some(entries) = find(&patterns, &more, depth, total, choice) {
                 return Pair { patterns, entries };
             }
             tries += 1;
@@ -482,14 +513,14 @@ impl Maker {
         }
     }
 
-    /// All prefixes up to a depth; the longest ones delete some position, rightly or not.
+    /// All prefixes up to a depth; the longest ones delete some positions, rightly or not.
     fn cut_off(&mut self, patterns: Vec<Pattern>, depth: usize, total: usize) -> Pair {
         let basis = basis(&patterns);
         let mut entries = vec![];
         for word in (0..=depth).flat_map(words) {
-            let mut entry = decide(&basis, Prefix::of(&word), total);
+            let mut entry = decide(&basis, Prefix::of(&word), total, Choice::One);
             if word.len() == depth && entry.rule == Rule::Expand {
-                entry.rule = Rule::Delete(self.random.within(1, depth) as u16);
+                entry.rule = Rule::deleting(&random_set(&mut self.random, depth));
             }
             entries.push(entry);
         }
@@ -523,6 +554,7 @@ impl Maker {
             11 | 12 => self.random_list(),
             13 => self.mixed(pair),
             14 => self.random_bytes(),
+            15 if self.random.one_in(2) => self.long_position_set(&pair),
             _ => {
                 let mut made = self.texts("found", &pair);
                 let set = self.random.one_in(4);
@@ -533,7 +565,14 @@ impl Maker {
         }
     }
 
-    /// An entry that deletes some position, rightly or not, at the front of what it needs; now and
+    /// The texts of a pair, with a long set of positions in one entry.
+    fn long_position_set(&mut self, pair: &Pair) -> Case {
+        let mut made = self.texts("a long set of positions", pair);
+        long_set(&mut self.random, &mut made.scheme);
+        made
+    }
+
+    /// An entry that deletes some positions, rightly or not, at the front of what it needs; now and
     /// then it has gap vectors, or the set superfluous patterns.
     pub fn next_deletion(&mut self) -> Case {
         let mut patterns = self.set();
@@ -545,7 +584,7 @@ impl Maker {
         let longest = longest(&patterns);
         let length = if r.one_in(4) { r.within(4, PREFIX_LENGTH) } else { r.within(1, 4) };
         let prefix = r.permutation(length);
-        let mut entry = deleting(&prefix, r.within(1, length));
+        let mut entry = deleting(&prefix, &random_set(r, length));
         if r.one_in(3) {
             let total = r.within(0, if longest + length > 9 { 1 } else { 3 });
             entry.vectors = empty_vectors(&basis(&patterns), &prefix, total);
@@ -596,6 +635,67 @@ impl Maker {
             pair.entries.rotate_left(at);
         }
         self.texts(kind, &pair)
+    }
+
+    /// A scheme with sets of positions that can be deleted together, most of them small enough for
+    /// listing; half of the time one of them is another, true or not, or damaged, or a further
+    /// entry, which nothing reaches, has a set as well.
+    pub fn next_together(&mut self) -> Case {
+        let mut pair = if self.random.one_in(6) { self.freely() } else { self.with_sets() };
+        let r = &mut self.random;
+        let mut kind = "several positions together";
+        match r.below(8) {
+            0 | 1 => {
+                delete_another(r, &mut pair.entries);
+                kind = "other positions together";
+            }
+            2 => {
+                let at = r.below(pair.entries.len());
+                kind = damage_set(r, &mut pair.entries[at]);
+            }
+            3 => {
+                add_unreached(r, &mut pair);
+                kind = "a set that nothing reaches";
+            }
+            _ => {}
+        }
+        if r.one_in(3) {
+            let at = r.below(pair.entries.len());
+            pair.entries.rotate_left(at);
+        }
+        self.texts(kind, &pair)
+    }
+
+    /// A small pair of the pool, with true deletions of several positions where there are any; some
+    /// pairs are tried for one that has them.
+    fn with_sets(&mut self) -> Pair {
+        let mut pair = self.small();
+        for _ in 0..20 {
+            let several = give_sets(&mut self.random, &mut pair);
+            if several {
+                break;
+            }
+            pair = self.small();
+        }
+        pair
+    }
+
+    /// No patterns, so that every deletion is true: all prefixes up to a depth, of which the
+    /// longest delete any set.
+    fn freely(&mut self) -> Pair {
+        let r = &mut self.random;
+        let depth = r.within(1, 3);
+        let mut entries = vec![];
+        for word in (0..=depth).flat_map(words) {
+            let set = if word.len() < depth { vec![] } else { random_set(r, depth) };
+            let rule = if set.is_empty() { Rule::Expand } else { Rule::deleting(&set) };
+            entries.push(Entry { prefix: Prefix::of(&word), rule, ..Entry::default() });
+        }
+        let mut pair = Pair { patterns: vec![], entries };
+        for _ in 0..r.below(4) {
+            add_unreached(r, &mut pair);
+        }
+        pair
     }
 
     /// A pair of the pool with patterns, whose set can be lengthened and still be listed. The
@@ -654,12 +754,14 @@ impl Maker {
                 }
                 "a vector more"
             }
-            5..=7 => {
+            5 => {
                 let e = &mut pair.entries[at];
                 let k = e.prefix.count();
-                e.rule = Rule::Delete(if r.one_in(10) { r.below(9) } else { r.within(1, k.max(1)) } as u16);
+                let position = if r.one_in(10) { r.below(9) } else { r.within(1, k.max(1)) };
+                e.rule = Rule::deleting(&[position as u16]);
                 "a position changed"
             }
+            6 | 7 => damage_set(r, &mut pair.entries[at]),
             8 => {
                 pair.entries[at].rule = Rule::Expand;
                 "a deletion expands"
@@ -730,7 +832,10 @@ impl Maker {
                 entry.prefix.items_mut()[r.below(k)] = r.below(10) as u8;
             }
             if (k == depth && k > 0) || r.one_in(5) {
-                entry.rule = Rule::Delete(if r.one_in(25) { r.below(10) } else { r.within(1, k.max(1)) } as u16);
+                entry.rule = Rule::deleting(&random_set(r, k.max(1)));
+                if r.one_in(25) {
+                    damage_set(r, &mut entry);
+                }
             }
             for _ in 0..if r.one_in(4) { r.below(4) } else { 0 } {
                 let width = if r.one_in(25) { r.within(1, 7) } else { k + 1 };
@@ -775,16 +880,58 @@ impl Maker {
     }
 }
 
-/// Has one entry delete another position than it does, or one where it expands, of those whose
+/// Has the entries of a scheme that delete do so with other sets that are true, several positions
+/// where it can be; whether some entry deletes several.
+fn give_sets(r: &mut Random, pair: &mut Pair) -> bool {
+    let listed: Vec<Prefix> = pair.entries.iter().map(|e| e.prefix).collect();
+    let basis = basis(&pair.patterns);
+    for entry in &mut pair.entries {
+        if entry.rule != Rule::Expand {
+            choose_set(r, &basis, entry, &listed);
+        }
+    }
+    pair.entries.iter().any(|e| e.rule.size() > 1)
+}
+
+/// Has an entry delete a set that is true and whose target is listed, where there is one; most of
+/// the time one of several positions.
+fn choose_set(r: &mut Random, basis: &[Pattern], entry: &mut Entry, listed: &[Prefix]) {
+    let mut sets = true_sets(basis, entry, listed);
+    if sets.iter().any(|set| set.len() > 1) && !r.one_in(4) {
+        sets.retain(|set| set.len() > 1);
+    }
+    if !sets.is_empty() {
+        entry.rule = Rule::deleting(&r.pick(&sets)[..]);
+    }
+}
+
+/// Puts an entry that nothing needs at the end of a scheme: a prefix that is not listed, with empty
+/// gap vectors, and a set that is true where there is one.
+fn add_unreached(r: &mut Random, pair: &mut Pair) {
+    let length = r.within(2, PREFIX_LENGTH);
+    let prefix = r.permutation(length);
+    let listed: Vec<Prefix> = pair.entries.iter().map(|e| e.prefix).collect();
+    if listed.iter().any(|p| p.items() == prefix) || listed.len() >= ENTRIES {
+        return;
+    }
+    let basis = basis(&pair.patterns);
+    let mut entry = deleting(&prefix, &random_set(r, length));
+    entry.vectors = empty_vectors(&basis, &prefix, 1);
+    choose_set(r, &basis, &mut entry, &listed);
+    pair.entries.push(entry);
+}
+
+/// Has one entry delete other positions than it does, or some where it expands, of those whose
 /// target has an entry.
 fn delete_another(r: &mut Random, entries: &mut [Entry]) {
     let prefixes: Vec<Prefix> = entries.iter().map(|e| e.prefix).collect();
     let mut changes = vec![];
     for (i, e) in entries.iter().enumerate() {
-        for r in 1..=e.prefix.count() {
-            let target = Prefix::of(deleted(e.prefix.items(), r).items());
-            if prefixes.contains(&target) && e.rule != Rule::Delete(r as u16) {
-                changes.push((i, Rule::Delete(r as u16)));
+        for set in position_sets(e.prefix.count()) {
+            let target = Prefix::of(deleted(e.prefix.items(), &set).items());
+            let rule = Rule::deleting(&set);
+            if prefixes.contains(&target) && e.rule != rule {
+                changes.push((i, rule));
             }
         }
     }

@@ -29,8 +29,8 @@ pub fn judge_showing(patterns: &Patterns, scheme: &Scheme) -> (Verdict, Option<S
         return (Err(Refusal(LIVE_GAP, i)), None);
     }
     for (i, e) in entries.iter().enumerate() {
-        let Rule::Delete(r) = e.rule else { continue };
-        let shown = lost(&basis, e.prefix.items(), e.vectors.items(), r as usize);
+        let Rule::Delete(set) = &e.rule else { continue };
+        let shown = lost(&basis, e.prefix.items(), e.vectors.items(), set.items());
         if shown.is_some() {
             return (Err(Refusal(IRREVERSIBLE, i)), shown);
         }
@@ -202,21 +202,28 @@ fn cut(pattern: &Pattern, total: usize) -> Cut<'_> {
     Cut { pattern, head, below, tail }
 }
 
-/// Whether deleting position r is no bijection for some spacing at or above no vector.
-pub fn violated(basis: &[Pattern], prefix: &[u8], vectors: &[Vector], r: usize) -> bool {
-    lost(basis, prefix, vectors, r).is_some()
+/// Whether deleting the positions together is no bijection for some spacing at or above no vector.
+pub fn violated(basis: &[Pattern], prefix: &[u8], vectors: &[Vector], positions: &[u16]) -> bool {
+    lost(basis, prefix, vectors, positions).is_some()
 }
 
-/// The permutation that deleting position r loses, where there is one: of those at a spacing at or
-/// above no vector that contain a pattern, while they avoid without position r, the one with the
-/// least total, then the least spacing, then the least itself. At the least total each of them is a
-/// candidate: a prefix at a spacing g followed by as many values as g has, in the order of the last
-/// entries of a pattern, with a copy of the pattern through position r and all the last entries;
-/// any other would stay lost without an entry that some copy in it leaves out, at a smaller total.
-/// So the least of the candidates of all patterns at the first spacing that has one is the one
-/// shown; the first one found there need not be the least.
-pub fn lost(basis: &[Pattern], prefix: &[u8], vectors: &[Vector], r: usize) -> Option<Shown> {
-    let k = prefix.len();
+/// Some positions of a prefix, which count from 1, as bits from 0 on.
+type Gone = u32;
+
+fn gone(positions: &[u16]) -> Gone {
+    positions.iter().fold(0, |gone, r| gone | 1 << (r - 1))
+}
+
+/// The permutation that deleting the positions together loses, where there is one: of those at a
+/// spacing at or above no vector that contain a pattern, while they avoid without these positions,
+/// the one with the least total, then the least spacing, then the least itself. At the least total
+/// each of them is a candidate: a prefix at a spacing g followed by as many values as g has, in the
+/// order of the last entries of a pattern, with a copy of the pattern through some deleted position
+/// and all the last entries; any other would stay lost without an entry that some copy in it leaves
+/// out, at a smaller total. So the least of the candidates of all patterns at the first spacing
+/// that has one is the one shown; the first one found there need not be the least.
+pub fn lost(basis: &[Pattern], prefix: &[u8], vectors: &[Vector], positions: &[u16]) -> Option<Shown> {
+    let (k, gone) = (prefix.len(), gone(positions));
     let mut least: Option<Shown> = None;
     (0..longest(basis)).any(|total| {
         let fitting = basis.iter().filter(|p| total < p.count() && p.count() <= total + k);
@@ -229,8 +236,8 @@ pub fn lost(basis: &[Pattern], prefix: &[u8], vectors: &[Vector], r: usize) -> O
                 let levels = levels(prefix, g);
                 for c in &cuts {
                     let chosen = &mut [0; PATTERN_LENGTH];
-                    let placed = placed(c, prefix, &levels, r - 1, chosen, 0, 0, false);
-                    if placed && rest_avoids(basis, prefix, g, r, total, c) {
+                    let placed = placed(c, prefix, &levels, gone, chosen, 0, 0, false);
+                    if placed && rest_avoids(basis, prefix, g, gone, total, c) {
                         let word = candidate(prefix, g, total, c);
                         if least.is_none_or(|l| word.items() < l.items()) {
                             least = Some(word);
@@ -266,13 +273,13 @@ fn levels(prefix: &[u8], g: &[u8]) -> [u8; PREFIX_LENGTH] {
     levels
 }
 
-/// Whether the candidate avoids without position r.
-fn rest_avoids(basis: &[Pattern], prefix: &[u8], g: &[u8], r: usize, total: usize, cut: &Cut) -> bool {
+/// Whether the candidate avoids without the deleted positions.
+fn rest_avoids(basis: &[Pattern], prefix: &[u8], g: &[u8], gone: Gone, total: usize, cut: &Cut) -> bool {
     let (first, free) = values(prefix, g);
     let mut word = [0u8; 32];
     let mut n = 0;
     for (i, &v) in first[..prefix.len()].iter().enumerate() {
-        if i + 1 != r {
+        if gone >> i & 1 == 0 {
             word[n] = v;
             n += 1;
         }
@@ -286,13 +293,13 @@ fn rest_avoids(basis: &[Pattern], prefix: &[u8], g: &[u8], r: usize, total: usiz
 }
 
 /// Whether the head goes on from `depth` with positions from `from` on, at the levels that it
-/// needs, through the deleted position.
+/// needs, through a deleted position.
 #[allow(clippy::too_many_arguments)]
 fn placed(
     cut: &Cut,
     prefix: &[u8],
     levels: &[u8; PREFIX_LENGTH],
-    deleted: usize,
+    gone: Gone,
     chosen: &mut [u8; PATTERN_LENGTH],
     depth: usize,
     from: usize,
@@ -301,7 +308,7 @@ fn placed(
     if depth == cut.head.len() {
         return through;
     }
-    if !through && from > deleted {
+    if !through && gone >> from == 0 {
         return false;
     }
     let p = cut.head[depth];
@@ -309,7 +316,8 @@ fn placed(
         let x = prefix[at];
         if levels[at] == cut.below[depth] && (0..depth).all(|i| (cut.head[i] < p) == (chosen[i] < x)) {
             chosen[depth] = x;
-            if placed(cut, prefix, levels, deleted, chosen, depth + 1, at + 1, through || at == deleted) {
+            let through = through || gone >> at & 1 == 1;
+            if placed(cut, prefix, levels, gone, chosen, depth + 1, at + 1, through) {
                 return true;
             }
         }

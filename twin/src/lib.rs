@@ -17,6 +17,7 @@ pub mod model;
 pub mod notation;
 pub mod published;
 pub mod random;
+pub mod set_inputs;
 pub mod table;
 pub mod wellformed;
 pub mod witness;

@@ -2,7 +2,7 @@
 //! word for word as the documents define them, for small lengths only.
 
 use crate::model::*;
-use crate::word::{contains, deleted, reduce};
+use crate::word::{contains, reduce};
 use std::collections::HashMap;
 
 /// Sizes of cells up to this length are listed.
@@ -137,17 +137,16 @@ impl Listing {
         }
         let mut compared = 0;
         for (i, entry) in scheme.entries.iter().enumerate() {
-            let Rule::Delete(r) = entry.rule else { continue };
-            let p = entry.prefix.items();
-            let value = p[r as usize - 1] as usize;
-            let shorter = deleted(p, r as usize);
+            let Rule::Delete(set) = &entry.rule else { continue };
+            let (p, set) = (entry.prefix.items(), set.items());
+            let shorter = reduce(&without(p, set));
             for total in 0..self.old_m {
                 for g in spacings(p.len() + 1, total) {
                     if is_covered(entry, &g) {
                         continue;
                     }
                     compared += (total < self.m) as usize;
-                    if self.size(p, &g) != self.size(shorter.items(), &merged(&g, value)) {
+                    if self.size(p, &g) != self.size(&shorter, &merged(p, set, &g)) {
                         return Some(Err(Refusal(IRREVERSIBLE, i)));
                     }
                 }
@@ -161,18 +160,17 @@ impl Listing {
     /// that is lost there, and the first copy in it of the earliest pattern that has one. None if
     /// sizes differ at no length up to `limit`.
     pub fn witness(&mut self, entry: &Entry, limit: usize) -> Option<Vec<u8>> {
-        let Rule::Delete(r) = entry.rule else { return None };
-        let (p, r) = (entry.prefix.items(), r as usize);
-        let value = p[r - 1] as usize;
-        let shorter = deleted(p, r);
+        let Rule::Delete(set) = &entry.rule else { return None };
+        let (p, set) = (entry.prefix.items(), set.items());
+        let shorter = reduce(&without(p, set));
         for total in (0..self.old_m).take_while(|total| p.len() + total <= limit) {
             for g in spacings(p.len() + 1, total) {
                 if is_covered(entry, &g) {
                     continue;
                 }
-                if self.size(p, &g) != self.size(shorter.items(), &merged(&g, value)) {
+                if self.size(p, &g) != self.size(&shorter, &merged(p, set, &g)) {
                     let words = permutations(p.len() + total);
-                    let word = words.iter().find(|word| self.is_lost(p, r, &g, word));
+                    let word = words.iter().find(|word| self.is_lost(p, set, &g, word));
                     return Some(self.page(word.expect("where sizes differ a permutation is lost")));
                 }
             }
@@ -181,22 +179,18 @@ impl Listing {
     }
 
     /// Whether a permutation has the prefix p and the spacing g and contains a pattern, while the
-    /// reduced rest without position r belongs to the cell of the shorter prefix and merged
-    /// spacing.
-    fn is_lost(&self, p: &[u8], r: usize, g: &[usize], word: &[u8]) -> bool {
+    /// reduced rest without the positions of the set belongs to the cell of the shorter prefix and
+    /// merged spacing.
+    fn is_lost(&self, p: &[u8], set: &[u16], g: &[usize], word: &[u8]) -> bool {
         let (k, n) = (p.len(), word.len());
         if reduce(&word[..k]) != p || spacing(&word[..k], n) != g {
             return false;
         }
-        let mut rest = word.to_vec();
-        rest.remove(r - 1);
-        let rest = reduce(&rest);
-        let mut shorter = p.to_vec();
-        shorter.remove(r - 1);
-        let first = &rest[..k - 1];
+        let rest = reduce(&without(word, set));
+        let first = &rest[..k - set.len()];
         let contains = |word: &[u8]| self.patterns.iter().any(|p| contains_slowly(p, word));
-        let merged = merged(g, p[r - 1] as usize);
-        let belongs = reduce(first) == reduce(&shorter) && spacing(first, n - 1) == merged;
+        let shorter = reduce(&without(p, set));
+        let belongs = reduce(first) == shorter && spacing(first, rest.len()) == merged(p, set, g);
         belongs && !contains(&rest) && contains(word)
     }
 
@@ -217,7 +211,7 @@ impl Listing {
     /// compared spacing, by the m of order 3, and the copy is the right one. That nothing smaller
     /// is lost is not looked at.
     pub fn admits(&self, entry: &Entry, bytes: &[u8]) -> bool {
-        let Rule::Delete(r) = entry.rule else { return false };
+        let Rule::Delete(set) = &entry.rule else { return false };
         let (p, n) = (entry.prefix.items(), bytes[0] as usize);
         if n < p.len() || n >= p.len() + self.m {
             return false;
@@ -229,7 +223,7 @@ impl Listing {
             return false;
         }
         let g = spacing(&word[..p.len()], n);
-        !is_covered(entry, &g) && self.is_lost(p, r as usize, &g, word) && self.page(word) == bytes
+        !is_covered(entry, &g) && self.is_lost(p, set.items(), &g, word) && self.page(word) == bytes
     }
 
     /// The bytes of the witness for an entry at greater lengths: at each spacing in order that is
@@ -237,7 +231,7 @@ impl Listing {
     /// there are listed in lexicographic order, up to a number of words; the first that is lost is
     /// shown. None if it is not among them.
     pub fn witness_among(&self, entry: &Entry, number: usize) -> Option<Vec<u8>> {
-        let Rule::Delete(r) = entry.rule else { return None };
+        let Rule::Delete(set) = &entry.rule else { return None };
         let p = entry.prefix.items();
         let avoids = |word: &[u8]| self.patterns.iter().all(|p| contains(p, word).is_none());
         let mut listed = 0;
@@ -260,12 +254,8 @@ impl Listing {
                 for order in &orders {
                     let mut word = first.clone();
                     word.extend(order.iter().map(|&i| free[i as usize - 1]));
-                    if !avoids(&word) {
-                        let shown = word.clone();
-                        word.remove(r as usize - 1);
-                        if avoids(&word) {
-                            return Some(self.page(&shown));
-                        }
+                    if !avoids(&word) && avoids(&without(&word, set.items())) {
+                        return Some(self.page(&word));
                     }
                 }
             }
@@ -279,11 +269,26 @@ fn is_covered(entry: &Entry, g: &[usize]) -> bool {
     entry.vectors.items().iter().any(|v| v.items().iter().zip(g).all(|(&b, &x)| b as usize <= x))
 }
 
-/// The spacing once the prefix's value is gone: the components on both sides of it are one.
-fn merged(g: &[usize], value: usize) -> Vec<usize> {
-    let mut merged = g.to_vec();
-    merged[value - 1] += merged[value];
-    merged.remove(value);
+/// What is left of a word without the positions of a set, all together.
+fn without(word: &[u8], set: &[u16]) -> Vec<u8> {
+    let stays = |(i, &x): (usize, &u8)| (!set.contains(&(i as u16 + 1))).then_some(x);
+    word.iter().enumerate().filter_map(stays).collect()
+}
+
+/// The spacing once the prefix's values at the positions of a set are gone: each run of components
+/// with no other value between them is one.
+fn merged(p: &[u8], set: &[u16], g: &[usize]) -> Vec<usize> {
+    let stays = without(p, set);
+    let mut merged = vec![];
+    let mut run = 0;
+    for (i, component) in g.iter().enumerate() {
+        run += component;
+        // the value behind the component, and the end behind the last one
+        if i == p.len() || stays.contains(&(i as u8 + 1)) {
+            merged.push(run);
+            run = 0;
+        }
+    }
     merged
 }
 

@@ -79,11 +79,30 @@ pub type Positions = Kept<u8, PATTERN_LENGTH>;
 /// A permutation that a witness shows: a prefix and as many values as a compared spacing has.
 pub type Shown = Kept<u8, { PREFIX_LENGTH + PATTERN_LENGTH - 1 }>;
 
+/// The positions that an entry deletes together, as they are written. A set of more than six is
+/// kept in part only; no prefix has so many positions.
+pub type Deletion = Kept<u16, PREFIX_LENGTH>;
+
 #[derive(Clone, Copy, Debug, PartialEq, Eq, Default)]
 pub enum Rule {
     #[default]
     Expand,
-    Delete(u16),
+    Delete(Deletion),
+}
+
+impl Rule {
+    /// The rule that deletes some positions together.
+    pub fn deleting(positions: &[u16]) -> Rule {
+        Rule::Delete(Deletion::of(positions))
+    }
+
+    /// How many positions it deletes.
+    pub fn size(&self) -> usize {
+        match self {
+            Rule::Expand => 0,
+            Rule::Delete(set) => set.count(),
+        }
+    }
 }
 
 #[derive(Clone, Copy, Debug, PartialEq, Eq, Default)]

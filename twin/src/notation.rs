@@ -113,9 +113,12 @@ impl Cursor<'_> {
         }
         self.mark(b",")?;
         if !self.takes(EMPTY) {
-            self.mark(b"{")?;
-            entry.rule = Rule::Delete(self.number()?);
-            self.mark(b"}")?;
+            let mut positions = Deletion::new();
+            self.list(b"{", b"}", |cursor| {
+                positions.push(cursor.number()?);
+                Ok(())
+            })?;
+            entry.rule = Rule::Delete(positions);
         }
         self.mark(b")")?;
         Ok(entry)
@@ -193,16 +196,21 @@ fn entry_pieces(entry: &Entry) -> Vec<String> {
         pieces.extend(bracket("{", vectors, "}"));
     }
     pieces.push(",".into());
-    match entry.rule {
+    match &entry.rule {
         Rule::Expand => pieces.push("∅".into()),
-        Rule::Delete(r) => pieces.extend(["{".into(), r.to_string(), "}".into()]),
+        Rule::Delete(set) => pieces.extend(bracket("{", numbers(set.items()), "}")),
     }
     pieces.push(")".into());
     pieces
 }
 
 fn vector_pieces(vector: &Vector) -> Vec<String> {
-    bracket("⟨", vector.items().iter().map(|c| vec![c.to_string()]), "⟩")
+    bracket("⟨", numbers(vector.items()), "⟩")
+}
+
+/// Each number as a piece of its own.
+fn numbers(items: &[u16]) -> impl Iterator<Item = Vec<String>> + '_ {
+    items.iter().map(|x| vec![x.to_string()])
 }
 
 fn permutation(word: &[u8]) -> String {

@@ -35,15 +35,24 @@ pub fn test_scheme(scheme: &Scheme) -> Result<(), Refusal> {
         return Err(Refusal(ROOTLESS, 0));
     }
     first(entries, WIDTH, |_, e| e.vectors.items().iter().any(|v| v.count() != e.prefix.count() + 1))?;
-    first(entries, NO_POSITION, |_, e| match e.rule {
+    first(entries, NO_POSITION, |_, e| match &e.rule {
         Rule::Expand => false,
-        Rule::Delete(r) => r == 0 || r as usize > e.prefix.count(),
+        Rule::Delete(set) => !is_within(set, e.prefix.count()),
     })?;
     first(entries, CHILDLESS, |_, e| e.rule == Rule::Expand && (1..=e.prefix.count() + 1).any(|v| find(child(e.prefix.items(), v as u8).items()).is_none()))?;
-    first(entries, NO_TARGET, |_, e| match e.rule {
+    first(entries, NO_TARGET, |_, e| match &e.rule {
         Rule::Expand => false,
-        Rule::Delete(r) => find(deleted(e.prefix.items(), r as usize).items()).is_none(),
+        Rule::Delete(set) => find(deleted(e.prefix.items(), set.items()).items()).is_none(),
     })
+}
+
+/// Whether a set has a position, each is above the one before it, and all lie within 1 to k. One
+/// that is not kept in full has more positions than there are.
+fn is_within(set: &Deletion, k: usize) -> bool {
+    let positions = set.items();
+    let inside = positions.iter().all(|&r| 1 <= r && r as usize <= k);
+    let ascends = positions.windows(2).all(|two| two[0] < two[1]);
+    set.count() > 0 && set.count() == positions.len() && inside && ascends
 }
 
 /// The first place of each prefix, by its code.

@@ -130,14 +130,39 @@ pub fn reduce(word: &[u8]) -> Vec<u8> {
     word.iter().map(|x| word.iter().filter(|y| *y <= x).count() as u8).collect()
 }
 
-/// The reduced rest without the position, which counts from 1.
-pub fn deleted(prefix: &[u8], position: usize) -> Short {
-    let value = prefix[position - 1];
+/// The reduced rest without some positions, which count from 1.
+pub fn deleted(prefix: &[u8], positions: &[u16]) -> Short {
+    let gone = gone_values(prefix, positions);
     let mut rest = Short::new();
-    for &x in prefix.iter().filter(|x| **x != value) {
-        rest.push(if x > value { x - 1 } else { x });
+    for &x in prefix.iter().filter(|x| gone >> **x & 1 == 0) {
+        rest.push(x - (gone & ((1 << x) - 1)).count_ones() as u8);
     }
     rest
+}
+
+/// The values at some positions of a prefix: bit x stands for the value x.
+pub fn gone_values(prefix: &[u8], positions: &[u16]) -> u32 {
+    positions.iter().fold(0, |gone, &r| gone | 1 << prefix[r as usize - 1])
+}
+
+/// The sets of so many of the positions, in lexicographic order.
+pub fn sets_of(positions: &[u16], size: usize) -> Vec<Vec<u16>> {
+    if size == 0 {
+        return vec![vec![]];
+    }
+    let mut sets = vec![];
+    for (i, &first) in positions.iter().enumerate() {
+        let rest = sets_of(&positions[i + 1..], size - 1);
+        sets.extend(rest.iter().map(|rest| [&[first], &rest[..]].concat()));
+    }
+    sets
+}
+
+/// The sets of positions of a prefix of length k, the smaller first, each size in lexicographic
+/// order; not the empty one.
+pub fn position_sets(k: usize) -> Vec<Vec<u16>> {
+    let all: Vec<u16> = (1..=k as u16).collect();
+    (1..=k).flat_map(|size| sets_of(&all, size)).collect()
 }
 
 /// The child of the prefix that ends with the value.

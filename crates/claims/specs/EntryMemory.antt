@@ -2,13 +2,14 @@
 use Prim.Native.Nat.{ℕ, _≤_}
 use mathlib.Core.Path.{_≡_}
 use mathlib.Core.Bool.{true}
-use mathlib.Core.List.{List, [], _∷_, List·Memᴰ}
+use mathlib.Core.List.{List, List·Memᴰ}
 use mathlib.Core.Option.{Option, none}
 use Rattle.word.specs.Ceilings.{PATTERNS}
 use Rattle.word.specs.Word.{isPerm}
 use Rattle.word.specs.Patterns.{patternsOf}
 use Rattle.cell.specs.Candidate.{leastCandidate}
 use Rattle.forms.specs.SchemeList.{Does, expands, deletes, EntryList}
+use Rattle.forms.specs.declared.memory.Positions.{Positions}
 use Rattle.forms.specs.declared.memory.Rule.the-variants.{Delete}
 use Rattle.forms.specs.declared.memory.Entry.{Entry}
 use Rattle.lost_word.specs.Shown.{ShowsWord}
@@ -20,16 +21,16 @@ pub record ProperSet (set : List (List ℕ)) (lengths : List ℕ) (count : ℕ) 
   pub few : count ≤ PATTERNS
   pub perms : (β : List ℕ) → List·Memᴰ β (patternsOf set lengths count) → isPerm β ≡ true
 
--- the entry deletes position r
-abbrev pub DeletesAt : Entry → ℕ → Type 0
-DeletesAt e r = e .rule ≡ Delete r
+-- the entry deletes the positions d
+abbrev pub DeletesAt : Entry → Positions → Type 0
+DeletesAt e d = e .rule ≡ Delete d
 
 -- what the candidate search shows of an entry: for an expanding one nothing, and for a deletion the
 -- least word at the first violated spacing that is compared under m
 unfoldable pub ruleCandidate : ℕ → List (List ℕ) → List ℕ → List (List ℕ) → Does → Option (List ℕ)
 unfolding leastCandidate
 ruleCandidate m P p B expands = none
-ruleCandidate m P p B (deletes r) = leastCandidate m P p B (r ∷ [])
+ruleCandidate m P p B (deletes R) = leastCandidate m P p B R
 
 -- the answer of test 11 on an entry: whether some sizes that are compared under m differ, and the
 -- word that is shown

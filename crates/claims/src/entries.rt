@@ -5,14 +5,16 @@ use candidate::search::Deletion;
 use candidate::search::irreversible;
 use forms::gaps::entry_gap;
 use forms::memory::Entry;
+use forms::memory::Positions;
 use forms::memory::Rule;
+use forms::positions::six_of;
 use lost_word::least::LostWord;
 use lost_word::least::least_lost;
 use lost_word::least::no_word;
 use spacing::compared_count;
+use word::bytes::wide;
 use word::limits::DIGITS;
 use word::limits::PATTERNS;
-use word::limits::PREFIX;
 use word::limits::WORD;
 ghost use mathlib.Core.Path.{_≡_};
 ghost use Prim.Native.Nat.{_≤_};
@@ -49,14 +51,14 @@ pub fn has_live_gap(
     false
 }
 
-// A deletion: its position, and m.
+// A deletion: its positions, and m.
 struct Cut {
-    position: usize,
+    positions: Positions,
     m: usize,
 }
 
 // Refusal 11 of one entry: whether some compared sizes differ, and then the least permutation that
-// the deletion loses, with the deleted position put back. No pattern is longer than m, below which
+// the deletion loses, with all deleted positions put back. No pattern is longer than m, below which
 // the totals of the compared spacings lie; the levels are those that the head entries of the
 // patterns need.
 pub fn is_irreversible(
@@ -78,8 +80,8 @@ pub fn is_irreversible(
             entries: [0u8; WORD],
             length: 0,
         },
-        Rule::Delete(r) => {
-            let cut = Cut { position: r, m: m };
+        Rule::Delete(d) => {
+            let cut = Cut { positions: d, m: m };
             loses(set, lengths, count, needs, e, cut)
         }
     }
@@ -96,20 +98,21 @@ fn loses(
 ) -> LostWord
     requires { ⌜ AllNeeds set lengths count (now needs) × ProperSet set lengths count ×
         (longest (patternsOf set lengths count) ≤ cut .m) × (cut .m ≤ DIGITS) ×
-        ProperEntry (entryIn e) × DeletesAt e (cut .position) ⌝ }
+        ProperEntry (entryIn e) × DeletesAt e (cut .positions) ⌝ }
     ensures { λ r. ⌜ LostAnswer (cut .m) (patternsOf set lengths count) (entryIn e) r ⌝ }
 {
     let prefix = e.prefix;
     let k = e.length;
     let gaps = e.gaps;
     let n = e.gap_count;
-    let mut positions = [0u8; PREFIX];
-    positions[0] = cut.position as u8;
+    let gone = cut.positions;
+    let positions = six_of(gone);
+    let number = wide(gone.count);
     let deletion = Deletion {
         prefix: prefix,
         length: k,
         positions: positions,
-        position_count: 1,
+        position_count: number,
         gap_count: n,
         m: cut.m,
     };

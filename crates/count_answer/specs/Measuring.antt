@@ -11,7 +11,7 @@ use Rattle.forms.specs.SchemeMemory.{patternsIn, schemeIn, faultOf, faulty}
 use Rattle.forms.specs.declared.memory.Patterns.{Patterns}
 use Rattle.forms.specs.declared.memory.Scheme.{Scheme}
 use Rattle.verdict.specs.Truth.{WellFormed, AllTrue}
-use Rattle.count_plan.specs.Layout.{needOf}
+use Rattle.count_plan.specs.Layout.{rowsOf, needOf}
 use Rattle.count_plan.specs.Plan.{Places}
 use Rattle.count_entry.specs.Frames.{frameOf}
 use Rattle.count_answer.specs.Counting.{tableTests}
@@ -22,7 +22,7 @@ use Rattle.count_answer.specs.declared.measure.Measure.{Measure}
 pub record Measured (s : Scheme) (n cells : ℕ) (m : Measure) : Type 0 where
   pub found : m .fault ≡ faultOf (firstFault (tableTests (schemeIn s) n cells))
   pub placed : faulty (m .fault) ≡ false → Places n s (m .places)
-  pub framed : faulty (m .fault) ≡ false → m .frame ≡ frameOf (m .places) n (s .count)
+  pub framed : faulty (m .fault) ≡ false → m .frame ≡ frameOf (m .places) n (s .count) (rowsOf (schemeIn s))
 
 -- an accepted scheme, and a table of this layout that is long enough
 pub record TableGiven (patterns : Patterns) (s : Scheme) (m : Measure) (T : List ℕ) : Type 0 where
@@ -30,5 +30,5 @@ pub record TableGiven (patterns : Patterns) (s : Scheme) (m : Measure) (T : List
   pub truth : AllTrue (patternsIn patterns) (schemeIn s)
   pub small : m .frame .last ≤ LENGTH
   pub placed : Places (m .frame .last) s (m .places)
-  pub framed : m .frame ≡ frameOf (m .places) (m .frame .last) (s .count)
+  pub framed : m .frame ≡ frameOf (m .places) (m .frame .last) (s .count) (rowsOf (schemeIn s))
   pub room : needOf (m .frame .last) (schemeIn s) ≤ length T

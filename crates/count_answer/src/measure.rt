@@ -4,6 +4,7 @@ use count_entry::frame::frame_of;
 use count_entry::frame::need;
 use count_plan::places::PLACES;
 use count_plan::places::places_of;
+use count_plan::rows::rows_of;
 use forms::memory::Fault;
 use forms::memory::Scheme;
 use word::limits::LENGTH;
@@ -47,7 +48,8 @@ pub fn measured(scheme: Scheme, n: usize, cells: usize, b: &[usize]) -> Measure
         return refused(Fault::At(Refusal::Oversize, 0));
     }
     let places = places_of(scheme, n, b);
-    let frame = frame_of(&places, n, scheme.count);
+    let rows = rows_of(scheme);
+    let frame = frame_of(&places, n, scheme.count, rows);
     if cells < need(frame) {
         return refused(Fault::At(Refusal::ShortTable, 0));
     }

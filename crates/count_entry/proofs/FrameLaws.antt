@@ -2,21 +2,17 @@
 -- steps are a part of the walk.
 -- Assumes nothing.
 use Prim.Native.Nat.{ℕ, zero, suc, _+_, _*_, _-_, _%_, _≤_, _<_}
-use native.Mathlib.Nat.{mod-lt, mul-le-mul-right, one-mul}
+use native.Mathlib.Nat.{mod-lt, mul-le-mul-right}
 use native.Mathlib.Omega.{arith}
 use mathlib.Core.Path.{_≡_, refl, sym, ap, ap₂, _∙_, subst}
-use mathlib.Core.Bool.{cond}
 use mathlib.Core.List.{List, [], _∷_, map, List·Memᴰ, List·Memᴰ·eq-of-singleton}
-use mathlib.Core.Logic.{_⊎_, inl, inr}
 use lib.ListN.{length, getD, set, length-map}
 use lib.Seq.{ext-getD}
-use borrow.Author.Tests.{eq-eqb, ne-eqb}
-use Rattle.word.specs.Ceilings.{ENTRIES, GAPS, LINKS}
-use Rattle.word.specs.ListLaws.{same-or-not}
+use Rattle.word.specs.Ceilings.{ENTRIES, PREFIX, COMPONENTS, GAPS, LINKS}
 use Rattle.cell.specs.Cell.{total}
 use Rattle.cell.specs.BuiltLaws.{getD-map}
 use Rattle.cell.specs.Binomial.{binomial}
-use Rattle.spacing.specs.Sizes.{NEAR, FAR}
+use Rattle.spacing.specs.Sizes.{NEAR, BLOCKS, FAR}
 use Rattle.spacing.specs.Following.{firstVector}
 use Rattle.spacing.specs.Rank.{rankOf}
 use Rattle.spacing.specs.SpacingOrder.{first-length, first-total}
@@ -26,7 +22,7 @@ use Rattle.count_step.specs.Task.{TaskFits, taskStep}
 use Rattle.count_step.specs.Step.{spacingsFrom, storedAt}
 use Rattle.count_step.specs.declared.cells.Task.{Task}
 use Rattle.count_plan.specs.Layout.{entryAt, prefixAt, lengthAt, placeAt, rowsOf, blockOf, HasCell}
-use Rattle.count_plan.specs.LayoutLaws.{prefix-length, count-few, entry-short, place-small}
+use Rattle.count_plan.specs.LayoutLaws.{prefix-length, count-few, entry-short, place-small, rows-few}
 use Rattle.count_plan.specs.Plan.{Planned}
 use Rattle.count_plan.specs.SheetRows.{fieldOf, linkAt, linksAt, itemOf, partsAt, RuleRow}
 use Rattle.count_plan.proofs.SheetRowLaws.{link-at, sheet-plan}
@@ -36,7 +32,7 @@ use Rattle.count_walk.specs.Walk.{countWalked}
 use Rattle.count_walk.specs.ReadLaws.{stored-walked}
 use Rattle.count_cursor.specs.Cursor.{spacingOf, cellOf}
 use Rattle.count_cursor.specs.declared.cursor.Cursor.{Cursor}
-use Rattle.count_entry.specs.Frames.{FrameFits, Framed, CellGiven, backOf, offsetOf, taskOf}
+use Rattle.count_entry.specs.Frames.{FrameFits, Framed, CellGiven, offsetOf, taskAt}
 use Rattle.count_entry.specs.declared.frame.Frame.{Frame}
 
 -- The links
@@ -50,7 +46,7 @@ links-counted sheet places e offset from long at =
     let l : a < LINKS = omega arith in
     at a l ∙ ap (λ n. offset + n) (sym (link-at sheet places e a l)) ∙ sym (getD-map (λ x. offset + x) (linksAt sheet places e) a l))
 
-shifted-near : (offset : ℕ) (links : List ℕ) → offset ≤ NEAR → ((a : ℕ) → getD links a 0 ≤ NEAR) →
+shifted-near : (offset : ℕ) (links : List ℕ) → offset ≤ BLOCKS → ((a : ℕ) → getD links a 0 ≤ NEAR) →
     (a : ℕ) → getD (map (λ x. offset + x) links) a 0 ≤ FAR
 shifted-near offset links h n a = go links a (λ (i : ℕ). n i)
   where
@@ -61,17 +57,22 @@ shifted-near offset links h n a = go links a (λ (i : ℕ). n i)
 
 -- The blocks
 
--- the first or the second of two blocks
-pub block-small : (x rows w : ℕ) → rows ≡ 2 → x % rows * w ≤ w
-block-small x rows w e =
-    let one : x % rows ≤ 1 = omega (arith, mod-lt x {m = rows} (omega arith)) in
-    omega (arith, mul-le-mul-right {m = x % rows} {n = 1} w one, one-mul w)
+-- a block begins behind at most PREFIX others
+pub block-small : (f : Frame) → FrameFits f → (x : ℕ) → x % f .rows * f .width ≤ BLOCKS
+block-small f h x =
+    let high : x % f .rows ≤ PREFIX = omega (arith, mod-lt x {m = f .rows} (h .some), h .few) in
+    omega (arith, mul-le-mul-right {m = x % f .rows} {n = PREFIX} (f .width) high, h .near)
+
+-- all blocks together
+pub blocks-small : (f : Frame) → FrameFits f → f .rows * f .width ≤ FAR
+blocks-small f h = omega (arith, mul-le-mul-right {m = f .rows} {n = COMPONENTS} (f .width) (h .few), h .near)
 
 module _ (sheet places : List ℕ) (f : Frame) (o : Framed sheet places f) where
   pub framed-fits : FrameFits f
   framed-fits =
       record {
-        kept = o .rows-are;
+        some = omega (arith, o .rows-are);
+        few = omega (arith, o .rows-are, rows-few (o .of .s) (o .of .proper));
         near = omega (
           arith,
           o .width-is,
@@ -115,56 +116,37 @@ module _ (sheet places : List ℕ) (f : Frame) (c : Cursor) (q : CellGiven sheet
       go : (rule : Does) → RuleRow (q .framed .of .P) (q .framed .of .s) (prefixAt (q .framed .of .s) (c .entry)) rule sheet (c .entry) →
           fieldOf sheet (c .entry) 1 ≤ lengthAt (q .framed .of .s) (c .entry)
       go expands (none, alone, short, names) = omega arith
-      go (deletes r) (value, low, high, names) = omega (arith, prefix-length (q .framed .of .s) (c .entry))
+      go (deletes R) (number, low, high, same, names) = omega (arith, prefix-length (q .framed .of .s) (c .entry))
 
-  -- a deleting entry has no cells in row 0
-  pub back-low : backOf (fieldOf sheet (c .entry) 1) ≤ c .row
-  back-low = go (same-or-not (fieldOf sheet (c .entry) 1) 0)
-    where
-      go : (fieldOf sheet (c .entry) 1 ≡ 0) ⊎ (fieldOf sheet (c .entry) 1 ≡ 0 → ⊥) → backOf (fieldOf sheet (c .entry) 1) ≤ c .row
-      go (inl e) = rw (eq-eqb (fieldOf sheet (c .entry) 1) 0 e) (omega arith)
-      go (inr n) = rw (ne-eqb (fieldOf sheet (c .entry) 1) 0 n) (omega (arith, deleted-high, size, reach))
+  -- an entry has no cells in rows that are shorter than its set of positions
+  pub back-low : fieldOf sheet (c .entry) 1 ≤ c .row
+  back-low = omega (arith, deleted-high, size, reach)
 
-  pub task-fits : TaskFits (taskOf f (itemOf sheet places (c .entry)) (fieldOf sheet (c .entry) 3) (c .row))
+  pub task-fits : TaskFits (taskAt sheet places f c)
   task-fits =
       record {
         short = omega (arith, size, entry-short (q .framed .of .s) (q .framed .of .proper) (c .entry) inside);
         sum = omega (arith, reach, q .low, q .framed .small);
         near = shifted-near (offsetOf f (itemOf sheet places (c .entry)) (c .row)) (linksAt sheet places (c .entry))
-            (omega (
-              arith,
-              block-small (c .row - backOf (fieldOf sheet (c .entry) 1)) (f .rows) (f .width) (framed-fits sheet places f
-                  (q .framed) .kept),
-              framed-fits sheet places f (q .framed) .near,
-            )) links-near;
+            (block-small f (framed-fits sheet places f (q .framed)) (c .row - fieldOf sheet (c .entry) 1)) links-near;
       }
 
   -- the row in which the links of the entry stand
-  offset-here : fieldOf sheet (c .entry) 1 ≡ 0 → offsetOf f (itemOf sheet places (c .entry)) (c .row) ≡
-      blockOf (rowsOf (schemeIn (q .framed .of .s))) (f .last) (q .framed .of .s) (c .row)
-  offset-here e =
-      let z : c .row - 0 ≡ c .row = omega arith in
-      ap (λ b. (c .row - cond b 0 1) % f .rows * f .width) (eq-eqb (fieldOf sheet (c .entry) 1) 0 e) ∙
-      ap (λ x. x % f .rows * f .width) z ∙ block-is sheet places f (q .framed) (c .row)
-
-  offset-back : (fieldOf sheet (c .entry) 1 ≡ 0 → ⊥) → offsetOf f (itemOf sheet places (c .entry)) (c .row) ≡
-      blockOf (rowsOf (schemeIn (q .framed .of .s))) (f .last) (q .framed .of .s) (c .row - 1)
-  offset-back n =
-      ap (λ b. (c .row - cond b 0 1) % f .rows * f .width) (ne-eqb (fieldOf sheet (c .entry) 1) 0 n) ∙
-      block-is sheet places f (q .framed) (c .row - 1)
+  offset-there : offsetOf f (itemOf sheet places (c .entry)) (c .row) ≡
+      blockOf (rowsOf (schemeIn (q .framed .of .s))) (f .last) (q .framed .of .s) (c .row - fieldOf sheet (c .entry) 1)
+  offset-there = block-is sheet places f (q .framed) (c .row - fieldOf sheet (c .entry) 1)
 
   -- steps at some spacings of the entry in this row are a part of the walk
   stored : (at : ℕ) → at ≡ blockOf (rowsOf (schemeIn (q .framed .of .s))) (f .last) (q .framed .of .s) (c .row) +
       placeAt (f .last) (q .framed .of .s) (c .entry) → (gs : List (List ℕ)) →
       ((g : List ℕ) → List·Memᴰ g gs → HasCell (f .last) (q .framed .of .s) (c .row) (c .entry) g) → (T : List ℕ) →
-      storedAt (taskStep (taskOf f (itemOf sheet places (c .entry)) (fieldOf sheet (c .entry) 3) (c .row)) (partsAt sheet
-      (c .entry))) at gs T ≡
+      storedAt (taskStep (taskAt sheet places f c) (partsAt sheet (c .entry))) at gs T ≡
       countWalked (q .framed .of .P) (f .last) (q .framed .of .s) (cellsAt (c .row) (c .entry) gs) T
   stored at is gs has T =
       stored-walked (rowsOf (schemeIn (q .framed .of .s))) (f .last) (q .framed .of .P) (q .framed .of .s) (q .framed .of .proper)
       (c .entry)
       (itemOf sheet places (c .entry)) (planned sheet places f (q .framed) (c .entry) inside) (c .row)
-      (offsetOf f (itemOf sheet places (c .entry)) (c .row)) offset-here offset-back at is gs has T
+      (offsetOf f (itemOf sheet places (c .entry)) (c .row)) offset-there at is gs has T
 
   -- where the cells of the entry begin
   begins : (at : ℕ) → at ≡ (c .row - 0) % f .rows * f .width + getD places (c .entry) 0 →
@@ -175,7 +157,7 @@ module _ (sheet places : List ℕ) (f : Frame) (c : Cursor) (q : CellGiven sheet
       e ∙ ap₂ _+_ (ap (λ x. x % f .rows * f .width) z ∙ block-is sheet places f (q .framed) (c .row))
       (q .framed .placed .at (c .entry) (omega (arith, inside)))
 
-  module _ (task : Task) (parts : List ℕ) (is : task ≡ taskOf f (itemOf sheet places (c .entry)) (fieldOf sheet (c .entry) 3) (c .row))
+  module _ (task : Task) (parts : List ℕ) (is : task ≡ taskAt sheet places f c)
       (gaps : parts ≡ partsAt sheet (c .entry)) (T : List ℕ) where
     -- all cells of the entry
     pub entry-walked : (at n : ℕ) → at ≡ (c .row - 0) % f .rows * f .width + getD places (c .entry) 0 →
@@ -187,8 +169,7 @@ module _ (sheet places : List ℕ) (f : Frame) (c : Cursor) (q : CellGiven sheet
         let t : task .total ≡ c .row - lengthAt (q .framed .of .s) (c .entry) = ap (λ (t : Task). t .total) is ∙ ap
         (λ m. c .row - m) size in
         ap₂ (λ (u : Task) (l : List ℕ). storedAt (taskStep u l) at (spacingsFrom n (firstVector (task .length) (task .total))) T) is gaps ∙
-        ap (λ (gs : List (List ℕ)). storedAt (taskStep (taskOf f (itemOf sheet places (c .entry)) (fieldOf sheet (c .entry) 3) (c .row))
-        (partsAt sheet (c .entry))) at gs T)
+        ap (λ (gs : List (List ℕ)). storedAt (taskStep (taskAt sheet places f c) (partsAt sheet (c .entry))) at gs T)
         (ap₂ (λ (m : ℕ) (g : List ℕ). spacingsFrom m g) (number ∙ ap (binomial (c .row)) k) (ap₂ firstVector k t)) ∙
         stored at (begins at begin)
         (spacingsFrom (binomial (c .row) (lengthAt (q .framed .of .s) (c .entry)))

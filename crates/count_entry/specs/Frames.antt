@@ -2,31 +2,30 @@
 -- only.
 use Prim.Native.Nat.{ℕ, _+_, _-_, _*_, _%_, _≤_}
 use mathlib.Core.Path.{_≡_}
-use mathlib.Core.Bool.{cond}
 use mathlib.Core.List.{List, [], _∷_, map}
 use lib.ListN.{length, getD}
-use lib.Dec.{eqb}
-use Rattle.word.specs.Ceilings.{LENGTH}
+use Rattle.word.specs.Ceilings.{COMPONENTS, LENGTH}
 use Rattle.cell.specs.Cell.{total}
 use Rattle.spacing.specs.Sizes.{NEAR}
 use Rattle.forms.specs.SchemeMemory.{schemeIn}
 use Rattle.count_step.specs.declared.cells.Task.{Task}
 use Rattle.count_plan.specs.Layout.{widthOf, rowsOf}
 use Rattle.count_plan.specs.Plan.{Item, Places}
-use Rattle.count_plan.specs.SheetRows.{Sheet}
+use Rattle.count_plan.specs.SheetRows.{fieldOf, flagsAt, itemOf, Sheet}
 use Rattle.count_walk.specs.Cells.{entryCells}
 use Rattle.count_walk.specs.Walk.{countWalked}
 use Rattle.count_cursor.specs.Cursor.{cellOf, AtCell}
 use Rattle.count_cursor.specs.declared.cursor.Cursor.{Cursor}
 use Rattle.count_entry.specs.declared.frame.Frame.{Frame}
 
--- the layout, by the places of the entries in a row
-abbrev pub frameOf : List ℕ → ℕ → ℕ → Frame
-frameOf places n entries = record { last = n; width = getD places entries 0; rows = 2; entries = entries }
+-- the layout that keeps so many rows, by the places of the entries in a row
+abbrev pub frameOf : List ℕ → ℕ → ℕ → ℕ → Frame
+frameOf places n entries rows = record { last = n; width = getD places entries 0; rows = rows; entries = entries }
 
--- two rows are kept, each of up to NEAR cells
+-- the row that is filled is kept, and up to PREFIX rows before it, each of up to NEAR cells
 pub record FrameFits (f : Frame) : Type 0 where
-  pub kept : f .rows ≡ 2
+  pub some : 1 ≤ f .rows
+  pub few : f .rows ≤ COMPONENTS
   pub near : f .width ≤ NEAR
 
 -- the sheet of a scheme, the places of its entries in a row, and the layout of the table
@@ -44,26 +43,28 @@ pub record CellGiven (sheet places : List ℕ) (f : Frame) (c : Cursor) : Type 0
   pub at : AtCell (framed .of .s) c
   pub low : c .row ≤ f .last
 
--- how many rows back the cells stand that an entry reads: its children in this row, its target in
--- the row before
-abbrev pub backOf : ℕ → ℕ
-backOf deleted = cond (eqb deleted 0) 0 1
-
--- where the row begins in which they stand
+-- where the row begins in which the cells stand that an entry reads: as many rows back as it
+-- deletes positions
 abbrev pub offsetOf : Frame → Item → ℕ → ℕ
-offsetOf f t j = (j - backOf (t .deleted)) % f .rows * f .width
+offsetOf f t j = (j - t .deleted) % f .rows * f .width
 
--- what the steps of an entry with the item t and n gap vectors are given in row j
-abbrev pub taskOf : Frame → Item → ℕ → ℕ → Task
-taskOf f t n j =
+-- what the steps of an entry with the item t, these flags and n gap vectors are given in row j
+abbrev pub taskOf : Frame → Item → List ℕ → ℕ → ℕ → Task
+taskOf f t gone n j =
     record {
       length = t .length;
       total = j - t .length;
       deleted = t .deleted;
+      gone = gone;
       alone = t .alone;
       links = map (λ x. offsetOf f t j + x) (t .links);
       «gap_count» = n;
     }
+
+-- the same for the cursor's entry in its row
+abbrev pub taskAt : List ℕ → List ℕ → Frame → Cursor → Task
+taskAt sheet places f c =
+    taskOf f (itemOf sheet places (c .entry)) (flagsAt sheet (c .entry)) (fieldOf sheet (c .entry) 3) (c .row)
 
 -- The table after steps, for every scheme whose sheet it is: at the cursor's cell, at all cells of
 -- its entry in its row

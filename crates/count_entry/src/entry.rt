@@ -5,6 +5,7 @@ use count_cursor::cursor::Cursor;
 use count_plan::places::place_at;
 use count_plan::reading::field;
 use count_plan::reading::gaps_of;
+use count_plan::reading::gone_of;
 use count_plan::reading::long;
 use count_plan::sheet::FIELDS;
 use count_step::cells::Task;
@@ -17,24 +18,16 @@ ghost use mathlib.Core.List.{map};
 ghost use Prim.Native.Nat.{ℕ, _+_, _≤_, _<_};
 ghost use lib.ListN.{length, getD};
 ghost use Rattle.word.specs.Ceilings.{ENTRIES};
-ghost use Rattle.spacing.specs.Sizes.{NEAR};
+ghost use Rattle.spacing.specs.Sizes.{NEAR, BLOCKS};
 ghost use Rattle.spacing.specs.Pascal.{Pascal};
 ghost use Rattle.count_plan.specs.SheetSizes.{SHEET};
-ghost use Rattle.count_plan.specs.SheetRows.{fieldOf, linksAt, itemOf};
-ghost use Rattle.count_entry.specs.Frames.{CellGiven, backOf, taskOf, CellWalked, EntryWalked};
-
-// How many rows back the cells stand that an entry reads: its children in this row, its target in
-// the row before.
-fn rows_back(deleted: usize) -> usize
-    ensures { λ r. ⌜ r ≡ backOf deleted ⌝ }
-{
-    if deleted == 0 { 0 } else { 1 }
-}
+ghost use Rattle.count_plan.specs.SheetRows.{linksAt};
+ghost use Rattle.count_entry.specs.Frames.{CellGiven, taskAt, CellWalked, EntryWalked};
 
 // Where the cells of each entry begin that the links of an entry name, in the row that begins at
 // `offset`.
 fn links_from(sheet: &[u8], places: &[usize], e: usize, offset: usize) -> [usize; LINKS]
-    requires { ⌜ (e < ENTRIES) × (length (now sheet) ≡ SHEET) × (offset ≤ NEAR) ×
+    requires { ⌜ (e < ENTRIES) × (length (now sheet) ≡ SHEET) × (offset ≤ BLOCKS) ×
         ((a : ℕ) → getD (linksAt (now sheet) (now places) e) a 0 ≤ NEAR) ⌝ }
     ensures { λ r. ⌜ r ≡ map (λ x. offset + x) (linksAt (now (sheet .entry)) (now (places .entry)) e) ⌝ }
 {
@@ -48,23 +41,25 @@ fn links_from(sheet: &[u8], places: &[usize], e: usize, offset: usize) -> [usize
     from
 }
 
-// What the steps of the cursor's entry are given in its row.
+// What the steps of the cursor's entry are given in its row. The cells that it reads stand as many
+// rows back as it deletes positions: its target's there, its children's in this row.
 fn task_of(sheet: &[u8], places: &[usize], f: Frame, c: Cursor) -> Task
     requires { ⌜ CellGiven (now sheet) (now places) f c ⌝ }
-    ensures { λ r. ⌜ r ≡ taskOf f (itemOf (now (sheet .entry)) (now (places .entry)) (c .entry))
-        (fieldOf (now (sheet .entry)) (c .entry) 3) (c .row) ⌝ }
+    ensures { λ r. ⌜ r ≡ taskAt (now (sheet .entry)) (now (places .entry)) f c ⌝ }
 {
     let e = c.entry;
     let k = field(sheet, e, 0);
     let deleted = field(sheet, e, 1);
+    let gone = gone_of(sheet, e);
     let alone = long(field(sheet, e, 2));
     let count = field(sheet, e, 3);
-    let offset = block_of(f, c.row, rows_back(deleted));
+    let offset = block_of(f, c.row, deleted);
     let links = links_from(sheet, places, e, offset);
     Task {
         length: k,
         total: c.row - k,
         deleted: deleted,
+        gone: gone,
         alone: alone,
         links: links,
         gap_count: count,

@@ -2,7 +2,7 @@
 use count_plan::places::place_at;
 ghost use mathlib.Core.Path.{_≡_};
 ghost use Prim.Native.Nat.{_-_, _*_, _%_, _≤_};
-ghost use Rattle.spacing.specs.Sizes.{NEAR};
+ghost use Rattle.spacing.specs.Sizes.{BLOCKS};
 ghost use Rattle.count_entry.specs.Frames.{FrameFits, frameOf};
 
 // The largest length, the number of cells of a row, how many rows are kept, and the number of
@@ -14,17 +14,15 @@ pub struct Frame {
     pub entries: usize,
 }
 
-// The row that is filled, and the row before it, in which the targets of deletions stand.
-const KEPT: usize = 2;
-
-// The layout of the table for the lengths up to n, by the places of the entries in a row.
-pub fn frame_of(places: &[usize], n: usize, entries: usize) -> Frame
-    ensures { λ r. ⌜ r ≡ frameOf (now (places .entry)) n entries ⌝ }
+// The layout of the table that keeps so many rows, for the lengths up to n, by the places of the
+// entries in a row.
+pub fn frame_of(places: &[usize], n: usize, entries: usize, rows: usize) -> Frame
+    ensures { λ r. ⌜ r ≡ frameOf (now (places .entry)) n entries rows ⌝ }
 {
     Frame {
         last: n,
         width: place_at(places, entries),
-        rows: KEPT,
+        rows: rows,
         entries: entries,
     }
 }
@@ -40,7 +38,7 @@ pub fn need(f: Frame) -> usize
 // Where the row begins that comes `back` rows before the row of length j.
 pub fn block_of(f: Frame, j: usize, back: usize) -> usize
     requires { ⌜ FrameFits f × (back ≤ j) ⌝ }
-    ensures { λ r. ⌜ (r ≡ (j - back) % f .rows * f .width) × (r ≤ NEAR) ⌝ }
+    ensures { λ r. ⌜ (r ≡ (j - back) % f .rows * f .width) × (r ≤ BLOCKS) ⌝ }
 {
     let row = (j - back) % f.rows;
     row * f.width

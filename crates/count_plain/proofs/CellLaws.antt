@@ -1,12 +1,12 @@
 -- Laws of the plain evaluation: the target, the sum over the next entries.
 -- Assumes nothing.
-use Prim.Native.Nat.{ℕ, zero, suc, _+_, _*_, _-_, _≤_, _<_}
+use Prim.Native.Nat.{ℕ, suc, _+_, _*_, _-_, _≤_, _<_}
 use native.Mathlib.Nat.{zero-add}
 use native.Mathlib.Numerals.{add-one}
 use native.Mathlib.Omega.{arith}
 use mathlib.Core.Path.{_≡_, refl, sym, ap, ap₂, _∙_}
 use mathlib.Core.Bool.{true, false, cond}
-use mathlib.Core.List.{List, [], _∷_}
+use mathlib.Core.List.{List, map}
 use lib.ListN.{length, take}
 use lib.Seq.{length-take-le}
 use borrow.Author.Tests.{eq-eqb, ne-eqb}
@@ -15,23 +15,25 @@ use Rattle.word.specs.Word.{avoids, entry}
 use Rattle.cell.specs.Cell.{total, free, deleted, merged, mergeValues}
 use Rattle.cell.specs.Child.{slot, childAt, split}
 use Rattle.cell.specs.ChildLaws.{split-total, child-length}
-use Rattle.cell.specs.MergeLaws.{merged-total}
+use Rattle.cell.specs.MergeLaws.{merged-length, merged-total}
+use Rattle.spacing.specs.Flagged.{flagged}
+use Rattle.spacing.specs.RankLaws.{merge-same}
 use Rattle.forms.specs.SchemeList.{Does, expands, deletes}
-use Rattle.scheme.proofs.PrefixLaws.{deleted-size}
+use Rattle.scheme.specs.WellFormed.{outside}
+use Rattle.scheme.specs.PositionLaws.{positions-inside, deleted-size}
 use Rattle.verdict.specs.Value.{ruleValue, entryValue}
 use Rattle.forms.specs.declared.memory.Scheme.{Scheme}
-use Rattle.forms.specs.SchemeMemory.{schemeIn}
-use Rattle.scheme.specs.Proper.{Proper}
 use Rattle.count_plan.specs.Layout.{entryAt, prefixAt, lengthAt}
 use Rattle.count_plan.specs.LayoutLaws.{prefix-length, entry-proper, entry-short, count-few}
 use Rattle.count_plan.specs.SheetSizes.{FIELDS}
-use Rattle.count_plan.specs.SheetRows.{fieldOf, gapsAt, Names, RuleRow, Row}
-use Rattle.count_plan.proofs.CardLaws.{position}
+use Rattle.count_plan.specs.Plan.{SameValues}
+use Rattle.count_plan.specs.SheetRows.{fieldOf, flagsAt, gapsAt, Names, RuleRow, Row}
+use Rattle.count_plan.proofs.CardLaws.{positions}
 use Rattle.count_step.specs.Step.{LARGEST, capped}
 use Rattle.count_step.specs.StepLaws.{below-cap}
 use Rattle.count_step.proofs.SumLaws.{cap-more, cap-end}
 use Rattle.count_walk.specs.Values.{Solves, sumFrom}
-use Rattle.count_plain.specs.Pieces.{splitAt, HeldAt}
+use Rattle.count_plain.specs.Pieces.{splitAt, Begins, HeldAt}
 use Rattle.count_plain.specs.Reading.{CellAt, Evaluates, Sums}
 
 -- twice the number that falls at each cell: "eight times the length less the prefix length falls at
@@ -41,25 +43,22 @@ measureOf sheet e t = 2 * (8 * (fieldOf sheet e 0 + t) - fieldOf sheet e 0)
 
 -- What the sheet says of a rule
 
--- the entry deletes position r + 1, with the value w
-record Deleting (s : Scheme) (e : ℕ) (sheet : List ℕ) (w : ℕ) : Type 0 where
-  r : ℕ
-  rule : (entryAt s e) .rule ≡ deletes (suc r)
-  value : w ≡ entry (prefixAt s e) (suc r)
-  low : 1 ≤ w
-  high : w ≤ length (prefixAt s e)
-  names : Names s (deleted (suc r ∷ []) (prefixAt s e)) (fieldOf sheet e FIELDS)
+-- the entry deletes the positions R, n of them
+record Deleting (s : Scheme) (e : ℕ) (sheet : List ℕ) (n : ℕ) : Type 0 where
+  R : List ℕ
+  rule : (entryAt s e) .rule ≡ deletes R
+  number : n ≡ length R
+  same : SameValues (length (prefixAt s e)) (flagged (flagsAt sheet e) (length (prefixAt s e))) (map (entry (prefixAt s e)) R)
+  names : Names s (deleted R (prefixAt s e)) (fieldOf sheet e FIELDS)
 
-module _ (P : List (List ℕ)) (s : Scheme) (sheet : List ℕ) (e : ℕ) (proper : Proper (schemeIn s))
-    (inside : e < s .count) (row-e : Row P s sheet e) where
-  deleting : (w : ℕ) → w ≡ fieldOf sheet e 1 → (w ≡ 0 → ⊥) → Deleting s e sheet w
-  deleting w q n = go ((entryAt s e) .rule) refl (row-e .rule)
+module _ (P : List (List ℕ)) (s : Scheme) (sheet : List ℕ) (e : ℕ) (row-e : Row P s sheet e) where
+  deleting : (n : ℕ) → n ≡ fieldOf sheet e 1 → (n ≡ 0 → ⊥) → Deleting s e sheet n
+  deleting n q z = go ((entryAt s e) .rule) refl (row-e .rule)
     where
-      go : (rule : Does) → (entryAt s e) .rule ≡ rule → RuleRow P s (prefixAt s e) rule sheet e → Deleting s e sheet w
-      go expands r (z, a, b, l) = absurd (n (q ∙ z))
-      go (deletes zero) r x = absurd (let o = position s proper e inside zero r in omega (arith, o .0))
-      go (deletes (suc m)) r (a, b, d, names) =
-          record { r = m; rule = r; value = q ∙ a; low = omega (arith, q ∙ a); high = omega (arith, q ∙ a); names = names }
+      go : (rule : Does) → (entryAt s e) .rule ≡ rule → RuleRow P s (prefixAt s e) rule sheet e → Deleting s e sheet n
+      go expands r (x, a, b, l) = absurd (z (q ∙ x))
+      go (deletes R) r (number, low, high, same, names) =
+          record { R = R; rule = r; number = q ∙ number; same = same; names = names }
 
   expanding : fieldOf sheet e 1 ≡ 0 → ((entryAt s e) .rule ≡ expands) × RuleRow P s (prefixAt s e) expands sheet e
   expanding q = go ((entryAt s e) .rule) refl (row-e .rule)
@@ -67,7 +66,7 @@ module _ (P : List (List ℕ)) (s : Scheme) (sheet : List ℕ) (e : ℕ) (proper
       go : (rule : Does) → (entryAt s e) .rule ≡ rule → RuleRow P s (prefixAt s e) rule sheet e →
           ((entryAt s e) .rule ≡ expands) × RuleRow P s (prefixAt s e) expands sheet e
       go expands r x = (r, x)
-      go (deletes m) r (a, b, d, names) = absurd (let z : entry (prefixAt s e) m ≡ 0 = sym a ∙ q in omega (arith, b))
+      go (deletes R) r (number, low, high, same, names) = absurd (omega (arith, number, q, low))
 
 -- One cell
 
@@ -130,7 +129,7 @@ module _ (sheet : List ℕ) (e : ℕ) (g : List ℕ) (t : ℕ) (c : CellAt sheet
       -- an expanding entry
       module _ (z : fieldOf sheet e 1 ≡ 0) (f : free (gapsAt sheet e k) (take (k + 1) g) ≡ true) where
         rest : ((entryAt (c .of .s) e) .rule ≡ expands) × RuleRow (c .of .P) (c .of .s) (prefixAt (c .of .s) e) expands sheet e
-        rest = expanding (c .of .P) (c .of .s) sheet e (c .of .proper) (c .inside) row-at z
+        rest = expanding (c .of .P) (c .of .s) sheet e row-at z
 
         pub alone-value : (x : ℕ) → x ≡ fieldOf sheet e 2 → t ≡ 0 → x ≡ v (prefixAt (c .of .s) e) (take (lengthAt (c .of .s) e + 1) g)
         unfolding ruleValue
@@ -161,34 +160,51 @@ module _ (sheet : List ℕ) (e : ℕ) (g : List ℕ) (t : ℕ) (c : CellAt sheet
             )) ∙ sym is
 
     -- the entry that deletes
-    module _ (w : ℕ) (q : w ≡ fieldOf sheet e 1) (n : w ≡ 0 → ⊥) where
-      del : Deleting (c .of .s) e sheet w
-      del = deleting (c .of .P) (c .of .s) sheet e (c .of .proper) (c .inside) row-at w q n
+    module _ (n : ℕ) (q : n ≡ fieldOf sheet e 1) (z : n ≡ 0 → ⊥) where
+      del : Deleting (c .of .s) e sheet n
+      del = deleting (c .of .P) (c .of .s) sheet e row-at n q z
 
-      pub deleted-low : 1 ≤ w
-      deleted-low = del .low
+      -- its positions pass the tests
+      placed : outside (length (prefixAt (c .of .s) e)) (deletes (del .R)) ≡ false
+      placed = positions (c .of .s) (c .of .proper) e (c .inside) (del .R) (del .rule)
 
-      pub deleted-high : w ≤ k
-      deleted-high = omega (arith, del .high, prefix-length (c .of .s) e, k-is)
-
-      target-length : lengthAt (c .of .s) (fieldOf sheet e FIELDS) + 1 ≡ k
+      target-length : lengthAt (c .of .s) (fieldOf sheet e FIELDS) + n ≡ k
       target-length =
-          let o = position (c .of .s) (c .of .proper) e (c .inside) (suc (del .r)) (del .rule) in
           omega (
             arith,
             sym (prefix-length (c .of .s) (fieldOf sheet e FIELDS)),
             ap length (del .names .named),
-            deleted-size (del .r) (prefixAt (c .of .s) e) (entry-proper (c .of .s) (c .of .proper) e (c .inside) .perm)
-                (omega (arith, o .1, prefix-length (c .of .s) e)),
+            deleted-size (del .R) (prefixAt (c .of .s) e) placed,
+            del .number,
             prefix-length (c .of .s) e,
             k-is,
           )
 
-      module _ (h : List ℕ) (long : length h ≡ COMPONENTS) (m : take k h ≡ mergeValues (w ∷ []) (take (k + 1) g)) where
-        target-spacing : take (lengthAt (c .of .s) (fieldOf sheet e FIELDS) + 1) h ≡
-            merged (suc (del .r) ∷ []) (prefixAt (c .of .s) e) (take (k + 1) g)
+      module _ (gone : List ℕ) (flags : gone ≡ flagsAt sheet e) (h : List ℕ) (long : length h ≡ COMPONENTS)
+          (m : Begins (mergeValues (flagged gone k) (take (k + 1) g)) h) where
+        spacing-size : length (take (k + 1) g) ≡ suc (length (prefixAt (c .of .s) e))
+        spacing-size =
+            length-take-le (k + 1) g (omega (arith, c .seven, k-is, entry-short (c .of .s) (c .of .proper) e (c .inside))) ∙
+            add-one k ∙ ap suc (k-is ∙ sym (prefix-length (c .of .s) e))
+
+        merged-is : mergeValues (flagged gone k) (take (k + 1) g) ≡ merged (del .R) (prefixAt (c .of .s) e) (take (k + 1) g)
         unfolding merged
-        target-spacing = ap (λ x. take x h) target-length ∙ m ∙ ap (λ (x : ℕ). mergeValues (x ∷ []) (take (k + 1) g)) (del .value)
+        merged-is =
+            ap₂ (λ (l : List ℕ) (n : ℕ). mergeValues (flagged l n) (take (k + 1) g)) flags
+            (k-is ∙ sym (prefix-length (c .of .s) e)) ∙
+            merge-same (flagged (flagsAt sheet e) (length (prefixAt (c .of .s) e))) (map (entry (prefixAt (c .of .s) e)) (del .R))
+            (take (k + 1) g) (length (prefixAt (c .of .s) e)) spacing-size (del .same)
+
+        target-spacing : take (lengthAt (c .of .s) (fieldOf sheet e FIELDS) + 1) h ≡
+            merged (del .R) (prefixAt (c .of .s) e) (take (k + 1) g)
+        target-spacing =
+            let size : length (mergeValues (flagged gone k) (take (k + 1) g)) ≡ suc (length (deleted (del .R) (prefixAt (c .of .s) e))) =
+            ap length merged-is ∙ merged-length (del .R) (prefixAt (c .of .s) e) (take (k + 1) g)
+            (entry-proper (c .of .s) (c .of .proper) e (c .inside) .perm) spacing-size
+            (positions-inside (length (prefixAt (c .of .s) e)) (del .R) placed) in
+            let long-is : lengthAt (c .of .s) (fieldOf sheet e FIELDS) + 1 ≡ length (mergeValues (flagged gone k) (take (k + 1) g)) =
+            omega (arith, prefix-length (c .of .s) (fieldOf sheet e FIELDS), ap length (del .names .named)) in
+            ap (λ x. take x h) long-is ∙ m ∙ merged-is
 
         pub target-at : CellAt sheet (fieldOf sheet e FIELDS) h t
         target-at =
@@ -196,13 +212,14 @@ module _ (sheet : List ℕ) (e : ℕ) (g : List ℕ) (t : ℕ) (c : CellAt sheet
               of = c .of;
               inside = del .names .inside;
               seven = long;
-              whole = ap total target-spacing ∙ merged-total (suc (del .r) ∷ []) (prefixAt (c .of .s) e) (take (k + 1) g) ∙ total-is;
+              whole = ap total target-spacing ∙ merged-total (del .R) (prefixAt (c .of .s) e) (take (k + 1) g) ∙ total-is;
               fits = omega (arith, target-length, k-is, c .fits);
             }
 
+        -- one position less is enough for the measure to fall
         pub target-falls : 2 * (8 * (fieldOf sheet (fieldOf sheet e FIELDS) 0 + t) - fieldOf sheet
             (fieldOf sheet e FIELDS) 0) < 2 * (8 * (fieldOf sheet e 0 + t) - fieldOf sheet e 0)
-        target-falls = omega (arith, c .of .rows (fieldOf sheet e FIELDS) (del .names .inside) .size, target-length, ke)
+        target-falls = omega (arith, c .of .rows (fieldOf sheet e FIELDS) (del .names .inside) .size, target-length, ke, z)
 
         target-value : (v : List ℕ → List ℕ → ℕ) → Solves v (c .of .P) (c .of .s) →
             free (gapsAt sheet e k) (take (k + 1) g) ≡ true → (x : ℕ) →
@@ -210,8 +227,8 @@ module _ (sheet : List ℕ) (e : ℕ) (g : List ℕ) (t : ℕ) (c : CellAt sheet
             x ≡ v (prefixAt (c .of .s) e) (take (lengthAt (c .of .s) e + 1) g)
         unfolding ruleValue
         target-value v solved f x y =
-            y ∙ ap₂ v (del .names .named) (target-spacing ∙ ap (merged (suc (del .r) ∷ []) (prefixAt (c .of .s) e)) spacing-is) ∙
-            sym (rule-value v solved f (deletes (suc (del .r))) (del .rule))
+            y ∙ ap₂ v (del .names .named) (target-spacing ∙ ap (merged (del .R) (prefixAt (c .of .s) e)) spacing-is) ∙
+            sym (rule-value v solved f (deletes (del .R)) (del .rule))
 
         pub target-evaluates : (v : List ℕ → List ℕ → ℕ) → Solves v (c .of .P) (c .of .s) →
             free (gapsAt sheet e k) (take (k + 1) g) ≡ true → (x : ℕ) →
@@ -222,7 +239,7 @@ module _ (sheet : List ℕ) (e : ℕ) (g : List ℕ) (t : ℕ) (c : CellAt sheet
     -- a child of an entry that expands
     module _ (z : fieldOf sheet e 1 ≡ 0) (q i l : ℕ) (one : 1 ≤ q) (reach : q ≤ t) (held : HeldAt (take (k + 1) g) k q i l) where
       row-child : RuleRow (c .of .P) (c .of .s) (prefixAt (c .of .s) e) expands sheet e
-      row-child = expanding (c .of .P) (c .of .s) sheet e (c .of .proper) (c .inside) row-at z .1
+      row-child = expanding (c .of .P) (c .of .s) sheet e row-at z .1
 
       pub length-less : k < PREFIX
       length-less = omega (arith, row-child .2, prefix-length (c .of .s) e, k-is)

@@ -1,19 +1,17 @@
--- Laws of the spacings of children and targets, piece by piece.
-use Prim.Native.Nat.{ℕ, zero, suc, _+_, _-_, _≤_, _<_}
+-- Laws of the spacings of children, piece by piece.
+use Prim.Native.Nat.{ℕ, suc, _+_, _-_, _≤_, _<_}
 use native.Mathlib.Numerals.{add-one}
 use native.Mathlib.Omega.{arith}
-use mathlib.Core.Path.{_≡_, refl, sym, ap, ap₂, _∙_}
+use mathlib.Core.Path.{_≡_, refl, sym, ap, _∙_}
 use mathlib.Core.Logic.{_⊎_, inl, inr}
-use mathlib.Core.List.{List, [], _∷_, _++_}
+use mathlib.Core.List.{List, _∷_, _++_}
 use lib.ListN.{length, getD, take, drop, set, length-append, length-drop, drop-of-length-le, List·getD-append}
 use lib.Seq.{append-snoc, drop-cons, take-suc, take-suc-set, length-take-le, getD-take, getD-drop, getD-append-add}
-use borrow.Author.Tests.{le-leb, lt-leb, eq-eqb, ne-eqb}
-use Rattle.word.specs.Word.{has}
+use borrow.Author.Tests.{le-leb, lt-leb}
 use Rattle.word.specs.ListLaws.{below-or-not, same-or-not}
-use Rattle.cell.specs.Cell.{total, mergeFrom, mergeValues}
+use Rattle.cell.specs.Cell.{total}
 use Rattle.cell.specs.Child.{slot, split}
-use Rattle.spacing.proofs.RankWalkLaws.{part-small}
-use Rattle.count_plain.specs.Pieces.{splitAt, mergeAt, HeldAt}
+use Rattle.count_plain.specs.Pieces.{splitAt, HeldAt}
 
 -- Which component holds the s-th value
 
@@ -124,65 +122,6 @@ pub more : (r u : List ℕ) (j x : ℕ) → j < length r → j < length u → x 
     take (j + 1) (set r j x) ≡ take (j + 1) u
 more r u j x a b e q = rw (add-one, take-suc-set r j x a, take-suc u j 0 b, q, e) refl
 
--- Merging
-
--- no later value is v
-merge-later : (v u x : ℕ) (g : List ℕ) → v < u → mergeFrom (v ∷ []) u x g ≡ x ∷ g
-unfolding mergeFrom has
-merge-later v u x [] h = refl
-merge-later v u x (y ∷ g) h = rw (ne-eqb u v (λ (e : u ≡ v). omega arith))
-    (ap (λ (l : List ℕ). x ∷ l) (merge-later v (suc u) y g (omega arith)))
-
-merge-from : (v u m x : ℕ) (g : List ℕ) → v ≡ u + m → m < length g →
-    mergeFrom (v ∷ []) u x g ≡ take m (x ∷ g) ++ ((getD (x ∷ g) m 0 + getD (x ∷ g) (suc m) 0) ∷ drop (suc (suc m)) (x ∷ g))
-unfolding mergeFrom has
-merge-from v u m x [] e h = absurd (omega arith)
-merge-from v u zero x (y ∷ g) e h = rw (eq-eqb u v (omega arith)) (merge-later v (suc u) (x + y) g (omega arith))
-merge-from v u (suc m) x (y ∷ g) e h =
-    rw (ne-eqb u v (λ (q : u ≡ v). omega arith)) (ap (λ (l : List ℕ). x ∷ l) (merge-from v (suc u) m y g (omega arith) (omega arith)))
-
-pub merge-at : (v : ℕ) (g : List ℕ) → 1 ≤ v → v < length g → mergeValues (v ∷ []) g ≡ mergeAt g v
-unfolding mergeValues
-merge-at v [] l h = absurd (omega arith)
-merge-at v (x ∷ g) l h =
-    let q : suc (v - 1) ≡ v = omega arith in
-    merge-from v 1 (v - 1) x g (omega arith) (omega arith) ∙
-    ap (λ n. take (v - 1) (x ∷ g) ++ ((getD (x ∷ g) (v - 1) 0 + getD (x ∷ g) n 0) ∷ drop (suc n) (x ∷ g))) q
-
-pub merge-length : (g : List ℕ) (v : ℕ) → 1 ≤ v → v < length g → length (mergeAt g v) + 1 ≡ length g
-merge-length g v l h =
-    omega (
-      arith,
-      length-append (take (v - 1) g) ((getD g (v - 1) 0 + getD g v 0) ∷ drop (suc v) g),
-      length-take-le (v - 1) g (omega arith),
-      length-drop (suc v) g,
-    )
-
-module _ (g : List ℕ) (v : ℕ) (l : 1 ≤ v) (h : v < length g) where
-  pub merge-before : (j : ℕ) → j + 1 < v → getD (mergeAt g v) j 0 ≡ getD g j 0
-  merge-before j k = front g (v - 1) (omega arith) ((getD g (v - 1) 0 + getD g v 0) ∷ drop (suc v) g) j (omega arith)
-
-  pub merge-here : (j : ℕ) → j + 1 ≡ v → getD (mergeAt g v) j 0 ≡ getD g j 0 + getD g (j + 1) 0
-  merge-here j q =
-      let z : j - (v - 1) ≡ 0 = omega arith in
-      let a : v - 1 ≡ j = omega arith in
-      back g (v - 1) (omega arith) ((getD g (v - 1) 0 + getD g v 0) ∷ drop (suc v) g) j (omega arith) ∙
-      rw z (ap₂ (λ m n. getD g m 0 + getD g n 0) a (sym q))
-
-  pub merge-after : (j : ℕ) → v < j + 1 → getD (mergeAt g v) j 0 ≡ getD g (j + 1) 0
-  merge-after j k =
-      let z : j - (v - 1) ≡ suc (j - v) = omega arith in
-      let m : suc v + (j - v) ≡ j + 1 = omega arith in
-      back g (v - 1) (omega arith) ((getD g (v - 1) 0 + getD g v 0) ∷ drop (suc v) g) j (omega arith) ∙
-      rw z (getD-drop (suc v) g (j - v) 0 ∙ ap (λ n. getD g n 0) m)
-
--- two components are at most the total
-parts-small : (l : List ℕ) (j : ℕ) → getD l j 0 + getD l (suc j) 0 ≤ total l
-unfolding total
-parts-small [] j = omega arith
-parts-small (x ∷ l) zero = omega (arith, part-small l 0)
-parts-small (x ∷ l) (suc j) = omega (arith, parts-small l j)
-
 -- the pieces of the first k + 1 components are those of the whole array
 
 module _ (g : List ℕ) (k : ℕ) (fits : k + 1 ≤ length g) where
@@ -207,28 +146,3 @@ module _ (g : List ℕ) (k : ℕ) (fits : k + 1 ≤ length g) where
           let d : suc i < j = omega arith in
           split-after g i l (omega arith) j d ∙ sym (part (j - 1) (omega arith)) ∙
           sym (split-after (take (k + 1) g) i l (omega (arith, long)) j d)
-
-  pub merge-take : (v j : ℕ) → 1 ≤ v → v ≤ k → j < k → getD (mergeAt g v) j 0 ≡ getD (mergeAt (take (k + 1) g) v) j 0
-  merge-take v j l h m = go (below-or-not (j + 1) v) (same-or-not (j + 1) v)
-    where
-      go : (j + 1 < v) ⊎ (v ≤ j + 1) → (j + 1 ≡ v) ⊎ (j + 1 ≡ v → ⊥) → getD (mergeAt g v) j 0 ≡ getD (mergeAt (take (k + 1) g) v) j 0
-      go (inl a) b = merge-before g v l (omega arith) j a ∙ sym (part j (omega arith)) ∙
-          sym (merge-before (take (k + 1) g) v l (omega (arith, long)) j a)
-      go (inr a) (inl b) =
-          merge-here g v l (omega arith) j b ∙ ap₂ _+_ (sym (part j (omega arith))) (sym (part (j + 1) (omega arith))) ∙
-          sym (merge-here (take (k + 1) g) v l (omega (arith, long)) j b)
-      go (inr a) (inr b) =
-          let d : v < j + 1 = omega arith in
-          merge-after g v l (omega arith) j d ∙ sym (part (j + 1) (omega arith)) ∙
-          sym (merge-after (take (k + 1) g) v l (omega (arith, long)) j d)
-
-  -- two components in turn are at most the total
-  pub two-small : (j : ℕ) → j < k → getD g j 0 + getD g (j + 1) 0 ≤ total (take (k + 1) g)
-  two-small j h =
-      omega (
-        arith,
-        parts-small (take (k + 1) g) j,
-        part j (omega arith),
-        part (j + 1) (omega arith),
-        ap (λ n. getD (take (k + 1) g) n 0) (add-one j),
-      )

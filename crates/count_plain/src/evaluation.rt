@@ -4,6 +4,7 @@ use crate::spacings::held;
 use crate::spacings::merged_spacing;
 use crate::spacings::split_spacing;
 use count_plan::reading::field;
+use count_plan::reading::gone_of;
 use count_plan::reading::long;
 use count_plan::sheet::FIELDS;
 use count_step::sums::capped_sum;
@@ -22,10 +23,11 @@ pub fn cell(sheet: &[u8], e: usize, g: [u8; COMPONENTS], t: usize) -> u64
     if !is_free_at(sheet, e, k, g) {
         return 0;
     }
-    let v = field(sheet, e, 1);
-    if v != 0 {
+    let n = field(sheet, e, 1);
+    if n != 0 {
         let target = field(sheet, e, FIELDS);
-        let h = merged_spacing(g, k, v);
+        let gone = gone_of(sheet, e);
+        let h = merged_spacing(g, k, gone);
         return cell(sheet, target, h, t);
     }
     if t == 0 {

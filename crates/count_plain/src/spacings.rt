@@ -2,12 +2,14 @@
 use word::bytes::wide;
 use word::limits::COMPONENTS;
 ghost use mathlib.Core.Path.{_≡_};
-ghost use mathlib.Core.List.{[], _∷_};
+ghost use mathlib.Core.Bool.{cond};
 ghost use Prim.Native.Nat.{_+_, _≤_, _<_};
 ghost use lib.ListN.{getD, take};
+ghost use lib.Dec.{eqb};
 ghost use Rattle.word.specs.Ceilings.{PREFIX, COMPONENTS, LENGTH};
 ghost use Rattle.cell.specs.Cell.{total, mergeValues};
-ghost use Rattle.count_plain.specs.Pieces.{splitAt, mergeAt, HeldAt};
+ghost use Rattle.spacing.specs.Flagged.{flagged};
+ghost use Rattle.count_plain.specs.Pieces.{splitAt, Begins, HeldAt};
 
 // The component that holds a value, and its number there, from 1.
 pub struct Place {
@@ -79,31 +81,29 @@ pub fn split_spacing(g: [u8; COMPONENTS], k: usize, i: usize, left: usize) -> [u
     r
 }
 
-// One component of the target's spacing.
-fn merged_piece(g: [u8; COMPONENTS], v: usize, j: usize) -> u8
-    requires { ⌜ (j < PREFIX) × (v < COMPONENTS) × (1 ≤ v) × (getD g j 0 + getD g (j + 1) 0 ≤ 255) ⌝ }
-    ensures { λ r. ⌜ r ≡ getD (mergeAt g v) j 0 ⌝ }
+// How many values are flagged, with one flag more.
+fn flagged_with(n: usize, flag: u8) -> usize
+    requires { ⌜ n < COMPONENTS ⌝ }
+    ensures { λ r. ⌜ r ≡ cond (eqb flag 0) n (n + 1) ⌝ }
 {
-    if j + 1 < v {
-        return g[j];
-    }
-    if j + 1 == v {
-        return g[j] + g[j + 1];
-    }
-    g[j + 1]
+    if flag == 0 { n } else { n + 1 }
 }
 
-// The spacing of the target: components v - 1 and v added into one.
-pub fn merged_spacing(g: [u8; COMPONENTS], k: usize, v: usize) -> [u8; COMPONENTS]
-    requires { ⌜ (k ≤ PREFIX) × (1 ≤ v) × (v ≤ k) × (total (take (k + 1) g) ≤ LENGTH) ⌝ }
-    ensures { λ r. ⌜ take k r ≡ mergeValues (v ∷ []) (take (k + 1) g) ⌝ }
+// The spacing of the target: the components around each flagged value are added into one. Behind v
+// values of which n are flagged, a component goes to place v - n.
+pub fn merged_spacing(g: [u8; COMPONENTS], k: usize, gone: [u8; COMPONENTS]) -> [u8; COMPONENTS]
+    requires { ⌜ (k ≤ PREFIX) × (total (take (k + 1) g) ≤ LENGTH) ⌝ }
+    ensures { λ r. ⌜ Begins (mergeValues (flagged gone k) (take (k + 1) g)) r ⌝ }
 {
-    let mut r = g;
-    let mut j: usize = 0;
-    while j < k {
-        let x = merged_piece(g, v, j);
-        r[j] = x;
-        j += 1;
+    let mut r = [0u8; COMPONENTS];
+    r[0] = g[0];
+    let mut n: usize = 0;
+    let mut v: usize = 1;
+    while v <= k {
+        n = flagged_with(n, gone[v]);
+        let at = v - n;
+        r[at] = r[at] + g[v];
+        v += 1;
     }
     r
 }

@@ -8,8 +8,6 @@ use mathlib.Core.Bool.{Bool, true, false, cond}
 use mathlib.Core.List.{List, map}
 use mathlib.Core.Option.{Option, none, some}
 use lib.ListN.{length, getD, set, take, length-set}
-use lib.Dec.{eqb, ltb}
-use borrow.Author.Tests.{eqb-false, ltb-false}
 use Rattle.word.specs.Ceilings.{PREFIX, LINKS}
 use Rattle.word.specs.Lists.{row}
 use Rattle.word.specs.Word.{isPerm}
@@ -18,15 +16,15 @@ use Rattle.cell.specs.Basis.{same}
 use Rattle.cell.specs.BuiltCells.{same-out}
 use Rattle.cell.specs.Child.{childAt}
 use Rattle.forms.specs.SchemeList.{expands, deletes}
-use Rattle.forms.specs.SchemeMemory.{noEntry, padded, doesOf, schemeIn}
+use Rattle.forms.specs.SchemeMemory.{noEntry, padded, positionsIn, doesOf, schemeIn}
 use Rattle.scheme.specs.WellFormed.{listed, outside}
 use Rattle.scheme.specs.Links.{findFrom, findIn, foundOf, present, prefixesIn, LinkedEntry}
 use Rattle.forms.specs.MemoryLaws.{padded-within, rows-more}
+use Rattle.forms.specs.declared.memory.Positions.{Positions}
 use Rattle.forms.specs.declared.memory.Rule.{Rule}
 use Rattle.forms.specs.declared.memory.Rule.the-variants.{Expand, Delete}
 use Rattle.forms.specs.declared.memory.Scheme.{Scheme}
 use Rattle.scheme.proofs.LookupLaws.{listed-found, prefixes-at}
-use Rattle.scheme.specs.TestLaws.{or-left, or-right}
 use Rattle.count_plan.specs.Layout.{entryAt, prefixAt, lengthAt}
 use Rattle.count_plan.specs.LayoutLaws.{prefix-length, entry-proper, entry-short}
 use Rattle.scheme.specs.Proper.{Proper}
@@ -88,13 +86,9 @@ module _ (s : Scheme) (proper : Proper (schemeIn s)) (i : ℕ) (h : i < s .count
   pub expands-short : (entryAt s i) .rule ≡ expands → lengthAt s i < PREFIX
   expands-short r = omega (arith, entry-proper s proper i h .shorter r, prefix-length s i)
 
-  pub position : (r : ℕ) → (entryAt s i) .rule ≡ deletes r → (1 ≤ r) × (r ≤ lengthAt s i)
-  position r e =
-      let o : outside (length (prefixAt s i)) (deletes r) ≡ false = ap (outside (length (prefixAt s i))) (sym e) ∙
-      entry-proper s proper i h .inside in
-      let n : r ≡ 0 → ⊥ = eqb-false r 0 (or-left (eqb r 0) (ltb (length (prefixAt s i)) r) o) in
-      let m : r ≤ length (prefixAt s i) = ltb-false (length (prefixAt s i)) r (or-right (eqb r 0) (ltb (length (prefixAt s i)) r) o) in
-      (omega arith, omega (arith, m, prefix-length s i))
+  -- the positions that it deletes rise inside its prefix
+  pub positions : (R : List ℕ) → (entryAt s i) .rule ≡ deletes R → outside (length (prefixAt s i)) (deletes R) ≡ false
+  positions R e = ap (outside (length (prefixAt s i))) (sym e) ∙ entry-proper s proper i h .inside
 
   -- what the tests say of the entry in memory
   pub entry-linked : LinkedEntry (getD (s .entries) i noEntry)
@@ -112,8 +106,9 @@ module _ (P ps : List (List ℕ)) (t : Card) (k : ℕ) (l : List ℕ) (rule : Ru
   pub rule-expands : rule ≡ Expand → Expands P ps (take k l) t → RuleCard P ps (padded k l) (doesOf rule) t
   rule-expands e x = rw (e, padded-within k l h) x
 
-  pub rule-deletes : (r : ℕ) → rule ≡ Delete r → Deletes ps (take k l) r t → RuleCard P ps (padded k l) (doesOf rule) t
-  rule-deletes r e x = rw (e, padded-within k l h) x
+  pub rule-deletes : (d : Positions) (R : List ℕ) → rule ≡ Delete d → positionsIn d ≡ R → Deletes ps (take k l) R t →
+      RuleCard P ps (padded k l) (doesOf rule) t
+  rule-deletes d R e q x = rw (e, q, padded-within k l h) x
 
 pub perm-memory : (k : ℕ) (l : List ℕ) → k ≤ length l → isPerm (padded k l) ≡ true → isPerm (take k l) ≡ true
 perm-memory k l h e = ap isPerm (sym (padded-within k l h)) ∙ e

@@ -5,35 +5,39 @@ use Prim.Native.Nat.{ℕ, zero, suc, _+_, _*_, _-_, _%_, _≤_, _<_}
 use native.Mathlib.Nat.{mod-eq-of-lt}
 use native.Mathlib.Omega.{arith}
 use mathlib.Core.Path.{_≡_, refl, sym, ap, ap₂, _∙_, subst}
-use mathlib.Core.Bool.{Bool, true, false, cond}
+use mathlib.Core.Bool.{Bool, true, false, not, cond}
 use mathlib.Core.List.{List, [], _∷_, map}
 use lib.ListN.{length, getD, drop, length-drop}
-use lib.Seq.{length-take-le, getD-take, getD-drop, ext-getD}
-use Rattle.word.specs.Ceilings.{ENTRIES, PREFIX, PARTS, LINKS}
+use lib.Seq.{take-all, length-take-le, getD-take, getD-drop, ext-getD}
+use lib.Dec.{eqb}
+use Rattle.word.specs.Ceilings.{ENTRIES, PREFIX, COMPONENTS, PARTS, LINKS}
 use Rattle.word.specs.Lists.{row}
-use Rattle.word.specs.Word.{avoids, entry}
-use Rattle.word.specs.ListLaws.{getD-mem}
-use Rattle.word.specs.PermLaws.{perm-bounds}
+use Rattle.word.specs.Word.{avoids, has, entry}
 use Rattle.cell.specs.Cell.{deleted}
 use Rattle.cell.specs.Child.{childAt}
 use Rattle.spacing.specs.Sizes.{NEAR}
+use Rattle.spacing.specs.Flagged.{flagged}
 use Rattle.forms.specs.SchemeList.{Does, expands, deletes}
 use Rattle.forms.specs.SchemeMemory.{noEntry, schemeIn}
+use Rattle.forms.specs.MemoryLaws.{take-row}
 use Rattle.forms.specs.GapRows.{gapsOf}
 use Rattle.forms.specs.GapRowLaws.{gaps-stand}
 use Rattle.forms.specs.declared.memory.Scheme.{Scheme}
 use Rattle.scheme.specs.Links.{prefixesIn}
+use Rattle.scheme.specs.PositionLaws.{positions-some, positions-few}
+use Rattle.placing.specs.Lookup.{VALUES, Flags}
+use Rattle.spacing.specs.FlaggedLaws.{flagged-has}
 use Rattle.verdict.specs.ValueLaws.{child-listed, target-listed}
 use Rattle.count_plan.specs.Layout.{entryAt, prefixAt, lengthAt, placeAt}
-use Rattle.count_plan.specs.LayoutLaws.{prefix-length, entry-member, entry-proper, entry-short, gaps-few, gap-width, count-few}
-use Rattle.count_plan.specs.Plan.{LeadsTo, RulePlan, Planned, Plan, Places}
+use Rattle.count_plan.specs.LayoutLaws.{prefix-length, entry-member, entry-short, gaps-few, gap-width, count-few}
+use Rattle.count_plan.specs.Plan.{LeadsTo, SameValues, RulePlan, Planned, Plan, Places}
 use Rattle.scheme.specs.Proper.{Proper}
 use Rattle.count_plan.specs.Cards.{indexIn, RuleCard}
-use Rattle.count_plan.specs.SheetSizes.{FIELDS, HEAD, CARD, SHEET}
+use Rattle.count_plan.specs.SheetSizes.{FLAGS, FIELDS, HEAD, CARD, SHEET}
 use Rattle.count_plan.specs.SheetForm.{headOf, CardFor, SheetTo}
-use Rattle.count_plan.specs.SheetRows.{fieldOf, partsAt, gapsAt, Names, RuleRow, Row, Sheet, linkAt, linksAt, itemOf}
+use Rattle.count_plan.specs.SheetRows.{fieldOf, partsAt, flagsAt, gapsAt, Names, RuleRow, Row, Sheet, linkAt, linksAt, itemOf}
 use Rattle.count_plan.specs.declared.cards.Card.{Card}
-use Rattle.count_plan.proofs.CardLaws.{found-names, expands-short, position}
+use Rattle.count_plan.proofs.CardLaws.{found-names, expands-short, positions}
 
 -- the links in the first bytes
 head-link : (t : Card) (n a : ℕ) → a < LINKS → getD (headOf t n) (FIELDS + a) 0 ≡ getD (t .links) a 0 % 256
@@ -46,6 +50,30 @@ head-link t n (suc (suc (suc (suc (suc zero))))) h = refl
 head-link t n (suc (suc (suc (suc (suc (suc zero)))))) h = refl
 head-link t n (suc (suc (suc (suc (suc (suc (suc zero))))))) h = refl
 head-link t n (suc (suc (suc (suc (suc (suc (suc (suc a)))))))) h = absurd (omega arith)
+
+-- the flags in the first bytes
+head-flag : (t : Card) (n v : ℕ) → v < COMPONENTS → getD (headOf t n) (FLAGS + v) 0 ≡ getD (t .gone) v 0
+head-flag t n zero h = refl
+head-flag t n (suc zero) h = refl
+head-flag t n (suc (suc zero)) h = refl
+head-flag t n (suc (suc (suc zero))) h = refl
+head-flag t n (suc (suc (suc (suc zero)))) h = refl
+head-flag t n (suc (suc (suc (suc (suc zero))))) h = refl
+head-flag t n (suc (suc (suc (suc (suc (suc zero)))))) h = refl
+head-flag t n (suc (suc (suc (suc (suc (suc (suc v))))))) h = absurd (omega arith)
+
+-- the part of the sheet that holds the flags of an entry
+pub flags-long : (sheet : List ℕ) (e : ℕ) → e < ENTRIES → length sheet ≡ SHEET → length (flagsAt sheet e) ≡ COMPONENTS
+flags-long sheet e h long =
+    length-take-le COMPONENTS (drop (CARD * e + FLAGS) sheet) (omega (arith, length-drop (CARD * e + FLAGS) sheet))
+
+-- one by one
+pub flags-listed : (sheet : List ℕ) (e : ℕ) → e < ENTRIES → length sheet ≡ SHEET →
+    getD (flagsAt sheet e) 0 0 ∷ getD (flagsAt sheet e) 1 0 ∷ getD (flagsAt sheet e) 2 0 ∷ getD (flagsAt sheet e) 3 0 ∷
+    getD (flagsAt sheet e) 4 0 ∷ getD (flagsAt sheet e) 5 0 ∷ getD (flagsAt sheet e) 6 0 ∷ [] ≡ flagsAt sheet e
+flags-listed sheet e h long =
+    let size = flags-long sheet e h long in
+    sym (take-row (flagsAt sheet e) 0 COMPONENTS (omega arith)) ∙ take-all COMPONENTS (flagsAt sheet e) (omega arith)
 
 -- the part of the sheet that holds the gap vectors of an entry
 pub parts-long : (sheet : List ℕ) (e : ℕ) → e < ENTRIES → length sheet ≡ SHEET → length (partsAt sheet e) ≡ PARTS
@@ -78,12 +106,28 @@ module _ (P : List (List ℕ)) (s : Scheme) (proper : Proper (schemeIn s)) (shee
       head-link (c .card) ((getD (s .entries) e noEntry) .«gap_count») a h ∙ ap (λ n. n % 256) q ∙
       mod-eq-of-lt (omega arith)
 
+  -- the flags are those of the card, so they are of the values at the deleted positions
+  flags-gone : (R : List ℕ) → Flags (c .card .gone) VALUES (λ v. has v (map (entry (prefixAt s e)) R)) →
+      length (prefixAt s e) ≤ PREFIX →
+      SameValues (length (prefixAt s e)) (flagged (flagsAt sheet e) (length (prefixAt s e))) (map (entry (prefixAt s e)) R)
+  flags-gone R x short v low high =
+      flagged-has (flagsAt sheet e) (length (prefixAt s e)) v low high ∙ ap (λ n. not (eqb n 0)) (at v (omega arith)) ∙
+      x v (omega arith)
+    where
+      moved : (v : ℕ) → CARD * e + FLAGS + v ≡ CARD * e + (FLAGS + v)
+      moved v = omega arith
+
+      at : (v : ℕ) → v < COMPONENTS → getD (flagsAt sheet e) v 0 ≡ getD (c .card .gone) v 0
+      at v h =
+          getD-take COMPONENTS (drop (CARD * e + FLAGS) sheet) v 0 h ∙ getD-drop (CARD * e + FLAGS) sheet v 0 ∙
+          ap (λ n. getD sheet n 0) (moved v) ∙ c .written .head (FLAGS + v) (omega arith) ∙
+          head-flag (c .card) ((getD (s .entries) e noEntry) .«gap_count») v h
+
   small : (x y : ℕ) → x ≡ y → y ≤ PREFIX → x % 256 ≡ y
   small x y q h = mod-eq-of-lt (omega arith) ∙ q
 
   rule-row : (rule : Does) → (entryAt s e) .rule ≡ rule → RuleCard P (prefixesIn s) (prefixAt s e) rule (c .card) →
       (fieldOf sheet e 0 ≡ lengthAt s e) × RuleRow P s (prefixAt s e) rule sheet e
-  unfolding entry
   rule-row expands r x =
       let short = expands-short s proper e inside r in
       let pl = prefix-length s e in (
@@ -108,23 +152,20 @@ module _ (P : List (List ℕ)) (s : Scheme) (proper : Proper (schemeIn s)) (shee
           subst (λ (d : ℕ). Names s (childAt (prefixAt s e) (suc a)) d)
           (sym (link-is a _ (omega (arith, prefix-length s e)) (x .links .at a (omega arith))
           (omega (arith, names .inside, count-few s proper)))) names
-  rule-row (deletes zero) r x = absurd (let o = position s proper e inside zero r in omega (arith, o .0))
-  rule-row (deletes (suc m)) r x =
+  rule-row (deletes R) r x =
       let short = entry-short s proper e inside in
       let pl = prefix-length s e in
-      let o = position s proper e inside (suc m) r in
-      let q : suc m - 1 ≡ m = omega arith in
-      let b = perm-bounds (prefixAt s e) (entry-proper s proper e inside .perm) (getD-mem (prefixAt s e) m 0 (omega (arith, o .1))) in
-      let names = found-names s (deleted (suc m ∷ []) (prefixAt s e))
-      (target-listed [] (schemeIn s) proper (entryAt s e) (entry-member s e inside) (suc m) r) in (
+      let o = positions s proper e inside R r in
+      let few = positions-few (length (prefixAt s e)) R o in
+      let names = found-names s (deleted R (prefixAt s e))
+      (target-listed [] (schemeIn s) proper (entryAt s e) (entry-member s e inside) R r) in (
         c .written .head 0 (omega arith) ∙ small (c .card .length) (lengthAt s e) (x .size ∙ pl) short,
         (
-          c .written .head 1 (omega arith) ∙
-              small (c .card .deleted) (getD (prefixAt s e) m 0) (x .value ∙ ap (λ n. getD (prefixAt s e) n 0) q)
-              (omega (arith, b .1)),
-          b .0,
-          b .1,
-          subst (λ (d : ℕ). Names s (deleted (suc m ∷ []) (prefixAt s e)) d) (sym
+          c .written .head 1 (omega arith) ∙ small (c .card .deleted) (length R) (x .number) (omega arith),
+          positions-some (length (prefixAt s e)) R o,
+          few,
+          flags-gone R (x .gone) (omega arith),
+          subst (λ (d : ℕ). Names s (deleted R (prefixAt s e)) d) (sym
               (link-is 0 _ (omega arith) (x .link) (omega (arith, names .inside, count-few s proper)))) names,
         ),
       )
@@ -182,23 +223,28 @@ module _ (sheet places : List ℕ) (e : ℕ) where
       go (x ∷ l) (suc a) = go l a
 
 module _ (n : ℕ) (P : List (List ℕ)) (s : Scheme) (sheet places : List ℕ) (e : ℕ) (inside : e < s .count) (p : Places n s places) where
-  rule-plan : (rule : Does) → RuleRow P s (prefixAt s e) rule sheet e → RulePlan n P s (prefixAt s e) rule (itemOf sheet places e)
-  rule-plan expands (none, alone, short, names) = (
+  rule-plan : (rule : Does) → fieldOf sheet e 0 ≡ length (prefixAt s e) → RuleRow P s (prefixAt s e) rule sheet e →
+      RulePlan n P s (prefixAt s e) rule (itemOf sheet places e)
+  rule-plan expands size (none, alone, short, names) = (
     none,
     alone,
     λ (a : ℕ) (h : a ≤ length (prefixAt s e)).
         subst (λ (x : ℕ). LeadsTo n s (childAt (prefixAt s e) (suc a)) x) (sym (link-at sheet places e a (omega arith)))
         (names-lead n s places (childAt (prefixAt s e) (suc a)) (fieldOf sheet e (FIELDS + a)) p (names a h)),
   )
-  rule-plan (deletes r) (value, low, high, names) =
-      (value, low, names-lead n s places (deleted (r ∷ []) (prefixAt s e)) (fieldOf sheet e FIELDS) p names)
+  rule-plan (deletes R) size (number, low, high, same, names) = (
+    number,
+    low,
+    subst (λ (k : ℕ). SameValues (length (prefixAt s e)) (flagged (flagsAt sheet e) k) (map (entry (prefixAt s e)) R)) (sym size) same,
+    names-lead n s places (deleted R (prefixAt s e)) (fieldOf sheet e FIELDS) p names,
+  )
 
   pub planned-row : Row P s sheet e → Planned n P s e (itemOf sheet places e)
   planned-row r =
       record {
         size = r .size;
         placed = p .at e (omega arith);
-        rule = rule-plan ((entryAt s e) .rule) (r .rule);
+        rule = rule-plan ((entryAt s e) .rule) (r .size ∙ sym (prefix-length s e)) (r .rule);
         near = links-near sheet places e (p .near);
         long = refl;
         gaps = ap (gapsAt sheet e) (r .size) ∙ r .gaps;

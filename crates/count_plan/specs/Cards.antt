@@ -1,14 +1,15 @@
 -- What is looked up for an entry: the indices of the entries of its children, or of its target.
 -- Definitions only.
-use Prim.Native.Nat.{ℕ, suc, _-_, _<_}
+use Prim.Native.Nat.{ℕ, suc, _<_}
 use mathlib.Core.Path.{_≡_}
 use mathlib.Core.Bool.{cond}
-use mathlib.Core.List.{List, [], _∷_}
+use mathlib.Core.List.{List, map}
 use lib.ListN.{length, getD}
 use Rattle.word.specs.Ceilings.{PREFIX, LINKS}
-use Rattle.word.specs.Word.{avoids}
+use Rattle.word.specs.Word.{avoids, has, entry}
 use Rattle.cell.specs.Cell.{deleted}
 use Rattle.cell.specs.Child.{childAt}
+use Rattle.placing.specs.Lookup.{VALUES, Flags}
 use Rattle.forms.specs.SchemeList.{Does, expands, deletes, EntryList}
 use Rattle.forms.specs.SchemeMemory.{doesOf}
 use Rattle.forms.specs.declared.memory.Entry.{Entry}
@@ -48,11 +49,12 @@ pub record Expands (P ps : List (List ℕ)) (p : List ℕ) (t : Card) : Type 0 w
   pub alone : t .alone ≡ cond (avoids P p) 1 0
   pub links : ChildLinks ps p (suc (length p)) (t .links)
 
--- the card of an entry that deletes position r
-pub record Deletes (ps : List (List ℕ)) (p : List ℕ) (r : ℕ) (t : Card) : Type 0 where
+-- the card of an entry that deletes the positions R: the values there are flagged
+pub record Deletes (ps : List (List ℕ)) (p R : List ℕ) (t : Card) : Type 0 where
   pub size : t .length ≡ length p
-  pub value : t .deleted ≡ getD p (r - 1) 0
-  pub link : getD (t .links) 0 0 ≡ indexIn ps (deleted (r ∷ []) p)
+  pub number : t .deleted ≡ length R
+  pub gone : Flags (t .gone) VALUES (λ v. has v (map (entry p) R))
+  pub link : getD (t .links) 0 0 ≡ indexIn ps (deleted R p)
 
 -- an expanding entry that has children is shorter than PREFIX
 abbrev pub Shorter : Entry → Type 0
@@ -61,7 +63,7 @@ Shorter e = doesOf (e .rule) ≡ expands → e .length < PREFIX
 -- the card of an entry, by its rule
 abbrev pub RuleCard : List (List ℕ) → List (List ℕ) → List ℕ → Does → Card → Type 0
 RuleCard P ps p expands t = Expands P ps p t
-RuleCard P ps p (deletes r) t = Deletes ps p r t
+RuleCard P ps p (deletes R) t = Deletes ps p R t
 
 abbrev pub EntryCard : List (List ℕ) → List (List ℕ) → EntryList → Card → Type 0
 EntryCard P ps e t = RuleCard P ps (e .prefix) (e .rule) t

@@ -1,12 +1,12 @@
 -- Which cell of the table holds what. Definitions only.
-use Prim.Native.Nat.{ℕ, zero, suc, _+_, _*_, _%_, _≤_, _<_}
+use Prim.Native.Nat.{ℕ, zero, suc, max, _+_, _*_, _%_, _≤_, _<_}
 use mathlib.Core.Path.{_≡_}
-use mathlib.Core.List.{List, map}
+use mathlib.Core.List.{List, [], _∷_, map}
 use lib.ListN.{length, getD}
 use Rattle.cell.specs.Cell.{total}
 use Rattle.cell.specs.Binomial.{binomial}
 use Rattle.spacing.specs.Rank.{rankOf}
-use Rattle.forms.specs.SchemeList.{EntryList}
+use Rattle.forms.specs.SchemeList.{Does, expands, deletes, EntryList}
 use Rattle.forms.specs.SchemeMemory.{noEntry, entryIn}
 use Rattle.forms.specs.declared.memory.Scheme.{Scheme}
 
@@ -32,17 +32,27 @@ placeAt n s (suc i) = placeAt n s i + binomial n (lengthAt s i)
 abbrev pub widthOf : ℕ → Scheme → ℕ
 widthOf n s = placeAt n s (s .count)
 
--- How many rows the table keeps at a time: the row that is filled, and the row before it, in which
--- the targets of deletions stand.
+-- how many positions a rule deletes
+abbrev pub deletedBy : Does → ℕ
+deletedBy expands = 0
+deletedBy (deletes R) = length R
+
+-- the size of the largest set of positions that an entry deletes, whether it is reached or not
+abbrev pub largestSet : List EntryList → ℕ
+largestSet [] = 0
+largestSet (e ∷ E) = max (deletedBy (e .rule)) (largestSet E)
+
+-- How many rows the table keeps at a time, "1 + the largest set" (02, order 4): the row that is
+-- filled, and as many rows before it as an entry deletes positions, in which the targets stand.
 abbrev pub rowsOf : List EntryList → ℕ
-rowsOf E = 2
+rowsOf E = suc (largestSet E)
 
 -- The numbers of 64 bits that a table needs which keeps so many rows, with so many numbers a cell
 abbrev pub needWith : ℕ → ℕ → ℕ → List EntryList → ℕ
 needWith rows numbers n E = numbers * (rows * total (map (λ e. binomial n (length (e .prefix))) E))
 
--- "It needs 2 times the sum of C(n, k) over all entries, k being the entry's length" (01); counting
--- has one number a cell
+-- "The table then needs (1 + the largest set) times the sum in 01" (02, order 4), which is "the sum
+-- of C(n, k) over all entries, k being the entry's length" (01); counting has one number a cell
 abbrev pub needOf : ℕ → List EntryList → ℕ
 needOf n E = needWith (rowsOf E) 1 n E
 

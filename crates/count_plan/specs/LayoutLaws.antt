@@ -1,13 +1,14 @@
--- Laws of a scheme in which the tests find nothing, and of the places of its entries.
-use Prim.Native.Nat.{ℕ, zero, suc, _+_, _*_, _-_, _≤_, _<_}
+-- Laws of a scheme in which the tests find nothing, of the places of its entries, and of the rows
+-- that the table keeps.
+use Prim.Native.Nat.{ℕ, zero, suc, max, _+_, _*_, _-_, _≤_, _<_}
 use native.Mathlib.Numerals.{add-one}
 use native.Mathlib.Omega.{arith}
-use mathlib.Core.Path.{_≡_, refl, sym, ap, _∙_, fun-ext}
+use mathlib.Core.Path.{_≡_, refl, sym, ap, ap₂, _∙_, fun-ext}
 use mathlib.Core.Logic.{_⊎_, inl, inr}
-use mathlib.Core.List.{List, [], _∷_, map, map-append, map-map, List·Memᴰ, Memᴰ·map}
+use mathlib.Core.List.{List, [], _∷_, map, map-append, map-map, List·Memᴰ, List·Memᴰ·head, List·Memᴰ·tail, Memᴰ·map}
 use lib.ListN.{length, getD, set, replicate, length-set, length-replicate}
 use lib.Seq.{getD-set-same, getD-set-other}
-use Rattle.word.specs.Ceilings.{ENTRIES, PREFIX, GAPS, LENGTH}
+use Rattle.word.specs.Ceilings.{ENTRIES, PREFIX, COMPONENTS, GAPS, LENGTH}
 use Rattle.word.specs.Lists.{row}
 use Rattle.word.specs.ListLaws.{same-or-not, row-in}
 use Rattle.cell.specs.Cell.{total}
@@ -15,14 +16,16 @@ use Rattle.cell.specs.Binomial.{binomial}
 use Rattle.spacing.specs.Sizes.{CHOICES, NEAR}
 use Rattle.spacing.specs.TotalLaws.{total-append, row-cut}
 use Rattle.spacing.specs.PascalLaws.{binomial-small}
-use Rattle.forms.specs.SchemeList.{EntryList}
+use Rattle.forms.specs.SchemeList.{Does, expands, deletes, EntryList}
 use Rattle.forms.specs.SchemeMemory.{noEntry, schemeIn}
 use Rattle.forms.specs.MemoryLaws.{length-padded}
 use Rattle.forms.specs.declared.memory.Scheme.{Scheme}
+use Rattle.scheme.specs.WellFormed.{outside}
+use Rattle.scheme.specs.PositionLaws.{positions-few}
 use Rattle.scheme.specs.Proper.{ProperEntry}
 use Rattle.scheme.specs.ProperLaws.{proper-count, proper-at}
 use Rattle.scheme.specs.EntryMemoryLaws.{entry-short as short-length, entry-few, gap-width as width-of}
-use Rattle.count_plan.specs.Layout.{entryAt, prefixAt, lengthAt, placeAt, widthOf}
+use Rattle.count_plan.specs.Layout.{entryAt, prefixAt, lengthAt, placeAt, widthOf, deletedBy, largestSet, rowsOf}
 use Rattle.count_plan.specs.Plan.{Places}
 use Rattle.scheme.specs.Proper.{Proper}
 
@@ -153,3 +156,52 @@ places-more n s i places at c p h m e =
 
 pub places-end : (n : ℕ) (s : Scheme) (i : ℕ) (places : List ℕ) (at : ℕ) → PlacesTo n s i places at → s .count ≤ i → Places n s places
 places-end n s i places at p h = record { at = λ (d : ℕ) (l : d ≤ s .count). p .upto d (omega arith); near = p .near }
+
+-- The rows that the table keeps
+
+-- no entry deletes more positions than the largest set has
+largest-over : {e : EntryList} {E : List EntryList} → List·Memᴰ e E → deletedBy (e .rule) ≤ largestSet E
+largest-over (List·Memᴰ·head {x = d} {xs = E} q) = omega (arith, ap (λ (x : EntryList). deletedBy (x .rule)) q)
+largest-over (List·Memᴰ·tail {x = d} {xs = E} m) = omega (arith, largest-over m)
+
+pub set-at-most : (E : List EntryList) (e : EntryList) → List·Memᴰ e E → deletedBy (e .rule) ≤ largestSet E
+set-at-most E e m = largest-over m
+
+-- the largest is as small as the bound of all
+pub sets-below : (k : ℕ) (E : List EntryList) → ((e : EntryList) → List·Memᴰ e E → deletedBy (e .rule) ≤ k) → largestSet E ≤ k
+sets-below k [] h = omega arith
+sets-below k (d ∷ E) h =
+    omega (arith, h d (List·Memᴰ·head refl), sets-below k E (λ (e : EntryList) (m : List·Memᴰ e E). h e (List·Memᴰ·tail m)))
+
+-- an entry deletes no more positions than its prefix has
+set-few : (e : EntryList) → ProperEntry e → deletedBy (e .rule) ≤ PREFIX
+set-few e p = go (e .rule) refl
+  where
+    go : (rule : Does) → e .rule ≡ rule → deletedBy rule ≤ PREFIX
+    go expands q = omega arith
+    go (deletes R) q =
+        omega (arith, positions-few (length (e .prefix)) R (ap (outside (length (e .prefix))) (sym q) ∙ p .inside), p .short)
+
+pub rows-few : (s : Scheme) → Proper (schemeIn s) → rowsOf (schemeIn s) ≤ COMPONENTS
+rows-few s proper =
+    let few : largestSet (schemeIn s) ≤ PREFIX = sets-below PREFIX (schemeIn s)
+    (λ (e : EntryList) (m : List·Memᴰ e (schemeIn s)). set-few e (proper .each e m)) in
+    omega arith
+
+-- the largest set by a walk from the last entry down: that of the entries from index i on
+abbrev pub LargestFrom : Scheme → ℕ → ℕ → Type 0
+LargestFrom s i most = most ≡ largestSet (map (entryAt s) (row i (s .count - i)))
+
+pub largest-start : (s : Scheme) → LargestFrom s (s .count) 0
+largest-start s = let e : s .count - s .count ≡ 0 = omega arith in rw e refl
+
+pub largest-more : (s : Scheme) (i most n : ℕ) → 0 < i → i ≤ s .count → n ≡ deletedBy ((entryAt s (i - 1)) .rule) →
+    LargestFrom s i most → LargestFrom s (i - 1) (max n most)
+largest-more s i most n low high e l =
+    let q : s .count - (i - 1) ≡ suc (s .count - i) = omega arith in
+    let r : i ≡ suc (i - 1) = omega arith in
+    ap₂ max e (l ∙ ap (λ (a : ℕ). largestSet (map (entryAt s) (row a (s .count - i)))) r) ∙
+    ap (λ (m : ℕ). largestSet (map (entryAt s) (row (i - 1) m))) (sym q)
+
+pub largest-end : (s : Scheme) (most : ℕ) → LargestFrom s 0 most → most ≡ largestSet (schemeIn s)
+largest-end s most l = let q : s .count - 0 ≡ s .count = omega arith in l ∙ ap (λ (m : ℕ). largestSet (map (entryAt s) (row 0 m))) q

@@ -2,6 +2,7 @@
 pub mod Layout
 pub mod Plan
 pub mod LayoutLaws
+pub mod SingleLaws
 pub mod ApartLaws
 pub mod Cards
 pub mod SheetSizes

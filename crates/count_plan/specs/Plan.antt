@@ -2,10 +2,10 @@
 use Prim.Native.Nat.{ℕ, suc, _≤_, _<_}
 use mathlib.Core.Path.{_≡_}
 use mathlib.Core.Bool.{cond}
-use mathlib.Core.List.{List, [], _∷_}
+use mathlib.Core.List.{List, map}
 use lib.ListN.{length, getD}
 use Rattle.word.specs.Ceilings.{LINKS}
-use Rattle.word.specs.Word.{avoids, entry}
+use Rattle.word.specs.Word.{avoids, has, entry}
 use Rattle.cell.specs.Cell.{deleted}
 use Rattle.cell.specs.Child.{childAt}
 use Rattle.spacing.specs.Sizes.{NEAR}
@@ -20,22 +20,30 @@ pub record LeadsTo (n : ℕ) (s : Scheme) (q : List ℕ) (x : ℕ) : Type 0 wher
   pub named : prefixAt s (indexOf s q) ≡ q
   pub placed : x ≡ placeAt n s (indexOf s q)
 
--- What a row has to know of an entry: its length; where in a row its cells begin; the value that it
--- deletes, or 0; what it has at total 0 where it expands; where in a row the cells of its children,
--- in the order of their last entries, or those of its target begin; its gap vectors.
+-- What a row has to know of an entry: its length; where in a row its cells begin; how many
+-- positions it deletes, 0 where it expands, and the values there; what it has at total 0 where it
+-- expands; where in a row the cells of its children, in the order of their last entries, or those
+-- of its target begin; its gap vectors.
 pub record Item : Type 0 where
   pub length : ℕ
   pub place : ℕ
   pub deleted : ℕ
+  pub values : List ℕ
   pub alone : ℕ
   pub links : List ℕ
   pub gaps : List (List ℕ)
+
+-- the two lists have the same values from 1 to k
+abbrev pub SameValues : ℕ → List ℕ → List ℕ → Type 0
+SameValues k vs ws = (v : ℕ) → 1 ≤ v → v ≤ k → has v vs ≡ has v ws
 
 -- what the plan says of a rule
 abbrev pub RulePlan : ℕ → List (List ℕ) → Scheme → List ℕ → Does → Item → Type 0
 RulePlan n P s p expands t =
     (t .deleted ≡ 0) × (t .alone ≡ cond (avoids P p) 1 0) × ((a : ℕ) → a ≤ length p → LeadsTo n s (childAt p (suc a)) (getD (t .links) a 0))
-RulePlan n P s p (deletes r) t = (t .deleted ≡ entry p r) × (1 ≤ entry p r) × LeadsTo n s (deleted (r ∷ []) p) (getD (t .links) 0 0)
+RulePlan n P s p (deletes R) t =
+    (t .deleted ≡ length R) × (1 ≤ length R) × SameValues (length p) (t .values) (map (entry p) R) ×
+    LeadsTo n s (deleted R p) (getD (t .links) 0 0)
 
 -- what it says of the entry with index i
 pub record Planned (n : ℕ) (P : List (List ℕ)) (s : Scheme) (i : ℕ) (t : Item) : Type 0 where

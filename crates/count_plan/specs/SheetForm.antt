@@ -20,15 +20,15 @@ pub record Put (at : ℕ) (part before after : List ℕ) : Type 0 where
   pub here : (f : ℕ) → f < length part → getD after (at + f) 0 ≡ getD part f 0
   pub other : (x : ℕ) → (x < at) ⊎ (at + length part ≤ x) → getD after x 0 ≡ getD before x 0
 
--- the bytes before the gap vectors: the entry's length, the value that it deletes or 0, what it has
--- at total 0, the number of its gap vectors, four zeros, and the indices of the entries of its
--- children or of its target
+-- the bytes before the gap vectors: the entry's length, how many positions it deletes, what it has
+-- at total 0, the number of its gap vectors, the flags of the deleted values, five zeros, and the
+-- indices of the entries of its children or of its target
 abbrev pub headOf : Card → ℕ → List ℕ
 headOf t n =
-    t .length % 256 ∷ t .deleted % 256 ∷ t .alone % 256 ∷ n % 256 ∷ 0 ∷ 0 ∷ 0 ∷ 0 ∷ getD (t .links) 0 0 % 256 ∷ getD (t .links) 1 0 % 256 ∷
-    getD (t .links) 2 0 % 256 ∷ getD (t .links) 3 0 % 256 ∷ getD (t .links) 4 0 % 256 ∷ getD (t .links) 5 0 %
-    256 ∷ getD (t .links) 6 0 % 256 ∷
-    getD (t .links) 7 0 % 256 ∷ []
+    t .length % 256 ∷ t .deleted % 256 ∷ t .alone % 256 ∷ n % 256 ∷ getD (t .gone) 0 0 ∷ getD (t .gone) 1 0 ∷ getD (t .gone) 2 0 ∷
+    getD (t .gone) 3 0 ∷ getD (t .gone) 4 0 ∷ getD (t .gone) 5 0 ∷ getD (t .gone) 6 0 ∷ 0 ∷ 0 ∷ 0 ∷ 0 ∷ 0 ∷
+    getD (t .links) 0 0 % 256 ∷ getD (t .links) 1 0 % 256 ∷ getD (t .links) 2 0 % 256 ∷ getD (t .links) 3 0 % 256 ∷
+    getD (t .links) 4 0 % 256 ∷ getD (t .links) 5 0 % 256 ∷ getD (t .links) 6 0 % 256 ∷ getD (t .links) 7 0 % 256 ∷ []
 
 -- the components of the gap vectors, one byte each, stand from `at` on, and nothing else is changed
 pub record GapsIn (e : Entry) (at : ℕ) (before after : List ℕ) : Type 0 where

@@ -2,22 +2,23 @@
 use Prim.Native.Nat.{ℕ, suc, _+_, _*_, _≤_, _<_}
 use mathlib.Core.Path.{_≡_}
 use mathlib.Core.Bool.{cond}
-use mathlib.Core.List.{List, [], _∷_, map}
+use mathlib.Core.List.{List, map}
 use lib.ListN.{length, getD, take, drop}
-use Rattle.word.specs.Ceilings.{PREFIX, GAPS, PARTS, LINKS}
+use Rattle.word.specs.Ceilings.{PREFIX, COMPONENTS, GAPS, PARTS, LINKS}
 use Rattle.word.specs.Lists.{row}
 use Rattle.word.specs.Word.{avoids, entry}
 use Rattle.cell.specs.Cell.{deleted}
 use Rattle.cell.specs.Child.{childAt}
+use Rattle.spacing.specs.Flagged.{flagged}
 use Rattle.forms.specs.GapRows.{gapsOf}
 use Rattle.forms.specs.SchemeList.{Does, expands, deletes}
 use Rattle.forms.specs.declared.memory.Scheme.{Scheme}
 use Rattle.count_plan.specs.Layout.{entryAt, prefixAt, lengthAt}
 use Rattle.count_plan.specs.Cards.{indexOf}
-use Rattle.count_plan.specs.Plan.{Item}
+use Rattle.count_plan.specs.Plan.{SameValues, Item}
 use Rattle.forms.specs.SchemeMemory.{schemeIn}
 use Rattle.scheme.specs.Proper.{Proper}
-use Rattle.count_plan.specs.SheetSizes.{FIELDS, HEAD, CARD, SHEET}
+use Rattle.count_plan.specs.SheetSizes.{FLAGS, FIELDS, HEAD, CARD, SHEET}
 
 -- byte f of the entry with index e
 abbrev pub fieldOf : List ℕ → ℕ → ℕ → ℕ
@@ -26,6 +27,10 @@ fieldOf sheet e f = getD sheet (CARD * e + f) 0
 -- the components of the gap vectors of an entry
 abbrev pub partsAt : List ℕ → ℕ → List ℕ
 partsAt sheet e = take PARTS (drop (CARD * e + HEAD) sheet)
+
+-- the flags of the values that an entry deletes
+abbrev pub flagsAt : List ℕ → ℕ → List ℕ
+flagsAt sheet e = take COMPONENTS (drop (CARD * e + FLAGS) sheet)
 
 -- its gap vectors, with k + 1 components each
 abbrev pub gapsAt : List ℕ → ℕ → ℕ → List (List ℕ)
@@ -42,8 +47,9 @@ abbrev pub RuleRow : List (List ℕ) → Scheme → List ℕ → Does → List �
 RuleRow P s p expands sheet e =
     (fieldOf sheet e 1 ≡ 0) × (fieldOf sheet e 2 ≡ cond (avoids P p) 1 0) × (length p < PREFIX) ×
     ((a : ℕ) → a ≤ length p → Names s (childAt p (suc a)) (fieldOf sheet e (FIELDS + a)))
-RuleRow P s p (deletes r) sheet e =
-    (fieldOf sheet e 1 ≡ entry p r) × (1 ≤ entry p r) × (entry p r ≤ length p) × Names s (deleted (r ∷ []) p) (fieldOf sheet e FIELDS)
+RuleRow P s p (deletes R) sheet e =
+    (fieldOf sheet e 1 ≡ length R) × (1 ≤ length R) × (length R ≤ length p) ×
+    SameValues (length p) (flagged (flagsAt sheet e) (length p)) (map (entry p) R) × Names s (deleted R p) (fieldOf sheet e FIELDS)
 
 -- what it says of the entry with index e
 pub record Row (P : List (List ℕ)) (s : Scheme) (sheet : List ℕ) (e : ℕ) : Type 0 where
@@ -74,6 +80,7 @@ itemOf sheet places e =
       length = fieldOf sheet e 0;
       place = getD places e 0;
       deleted = fieldOf sheet e 1;
+      values = flagged (flagsAt sheet e) (fieldOf sheet e 0);
       alone = fieldOf sheet e 2;
       links = linksAt sheet places e;
       gaps = gapsAt sheet e (fieldOf sheet e 0);

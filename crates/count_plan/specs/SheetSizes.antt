@@ -2,9 +2,13 @@
 use Prim.Native.Nat.{ℕ, _+_, _*_}
 use Rattle.word.specs.Ceilings.{ENTRIES, PARTS, LINKS}
 
--- bytes before the links: four numbers of an entry, and four zeros
+-- bytes before the flags of the values: four numbers of an entry
+abbrev pub FLAGS : ℕ
+FLAGS = 4
+
+-- bytes before the links: those, the flags, and zeros
 abbrev pub FIELDS : ℕ
-FIELDS = 8
+FIELDS = 16
 
 -- bytes before the gap vectors
 abbrev pub HEAD : ℕ

@@ -2,6 +2,9 @@
 use containment::any_in;
 use forms::memory::Entry;
 use forms::memory::Rule;
+use forms::positions::six_of;
+use placing::tables::VALUES;
+use placing::tables::deleted_values;
 use scheme::links::Found;
 use scheme::links::child;
 use scheme::links::find_prefix;
@@ -12,23 +15,27 @@ use word::limits::LINKS;
 use word::limits::PATTERNS;
 use word::limits::PREFIX;
 ghost use mathlib.Core.Path.{_≡_};
-ghost use mathlib.Core.Bool.{true, cond};
+ghost use mathlib.Core.Bool.{true, false, cond};
 ghost use Prim.Native.Nat.{_+_, _≤_, _<_};
 ghost use lib.ListN.{take};
 ghost use Rattle.word.specs.Ceilings.{PREFIX};
 ghost use Rattle.word.specs.Word.{avoids, isPerm};
 ghost use Rattle.word.specs.Patterns.{patternsOf};
 ghost use Rattle.cell.specs.Child.{childAt};
+ghost use Rattle.forms.specs.SchemeList.{deletes};
 ghost use Rattle.forms.specs.SchemeMemory.{entryIn};
 ghost use Rattle.scheme.specs.Links.{LinkedEntry};
+ghost use Rattle.scheme.specs.WellFormed.{outside};
 ghost use Rattle.count_plan.specs.Cards.{Coded, indexFound, indexIn, ChildLinks, Expands, Deletes, Shorter, EntryCard};
 
-// What counting has to know of an entry beside its gap vectors: its length; the value that it
-// deletes, or 0; what it has at total 0 where it expands; the indices of the entries of its
-// children, in the order of their last entries, or of its target.
+// What counting has to know of an entry beside its gap vectors: its length; how many positions it
+// deletes, 0 where it expands, and the values there, flagged; what it has at total 0 where it
+// expands; the indices of the entries of its children, in the order of their last entries, or of
+// its target.
 pub struct Card {
     pub length: usize,
     pub deleted: usize,
+    pub gone: [u8; VALUES],
     pub alone: u64,
     pub links: [usize; LINKS],
 }
@@ -111,24 +118,32 @@ fn expanding(
     Card {
         length: k,
         deleted: 0,
+        gone: [0u8; VALUES],
         alone: alone,
         links: links,
     }
 }
 
-// The card of an entry that deletes position r.
-fn deleting(codes: &[u64], prefix: [u8; PREFIX], k: usize, r: usize) -> Card
-    requires { ⌜ (1 ≤ r) × (r ≤ k) × (k ≤ PREFIX) × (isPerm (take k prefix) ≡ true) ⌝ }
-    ensures { λ t. ⌜ Coded (now (codes .entry)) (λ ps. Deletes ps (take k prefix) r t) ⌝ }
+// The card of an entry that deletes the first `count` of the positions.
+fn deleting(
+    codes: &[u64],
+    prefix: [u8; PREFIX],
+    k: usize,
+    positions: [u8; PREFIX],
+    count: usize,
+) -> Card
+    requires { ⌜ (k ≤ PREFIX) × (count ≤ k) × (isPerm (take k prefix) ≡ true) × (outside k (deletes (take count positions)) ≡ false) ⌝ }
+    ensures { λ t. ⌜ Coded (now (codes .entry)) (λ ps. Deletes ps (take k prefix) (take count positions) t) ⌝ }
 {
-    let value = wide(prefix[r - 1]);
-    let q = shorter(prefix, k, r);
-    let target = index_in(codes, q, k - 1);
+    let gone = deleted_values(prefix, k, positions, count);
+    let q = shorter(prefix, k, positions, count);
+    let target = index_in(codes, q, k - count);
     let mut links = [0usize; LINKS];
     links[0] = target;
     Card {
         length: k,
-        deleted: value,
+        deleted: count,
+        gone: gone,
         alone: 0,
         links: links,
     }
@@ -150,6 +165,6 @@ pub fn entry_card(
     let rule = e.rule;
     match rule {
         Rule::Expand => expanding(set, lengths, count, codes, prefix, k),
-        Rule::Delete(r) => deleting(codes, prefix, k, r),
+        Rule::Delete(d) => deleting(codes, prefix, k, six_of(d), wide(d.count)),
     }
 }

@@ -23,8 +23,10 @@ ghost use Rattle.forms.specs.SchemeMemory.{schemeIn};
 ghost use Rattle.scheme.specs.Proper.{Proper};
 ghost use Rattle.word.specs.Patterns.{patternsOf};
 
-// Bytes before the links: four numbers of an entry, and four zeros.
-pub const FIELDS: usize = 8;
+// Bytes before the flags of the values: four numbers of an entry.
+pub const FLAGS: usize = 4;
+// Bytes before the links: those, the flags, and zeros.
+pub const FIELDS: usize = 16;
 // Bytes before the gap vectors.
 pub const HEAD: usize = FIELDS + LINKS;
 // Bytes of an entry.
@@ -62,12 +64,21 @@ fn low_long(x: u64) -> u8
 fn head_of(card: Card, n: usize) -> [u8; HEAD]
     ensures { λ r. ⌜ r ≡ headOf card n ⌝ }
 {
+    let g = card.gone;
     let l = card.links;
     [
         low(card.length),
         low(card.deleted),
         low_long(card.alone),
         low(n),
+        g[0],
+        g[1],
+        g[2],
+        g[3],
+        g[4],
+        g[5],
+        g[6],
+        0,
         0,
         0,
         0,

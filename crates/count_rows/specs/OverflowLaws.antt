@@ -2,7 +2,7 @@
 -- entries one after the other: each sum that they make is a sum over n next entries from the q-th
 -- on. In an accepted scheme it is at most the size of the cell, so at most 20!, and 20! is below 2
 -- ^ 64: no sum meets its cap.
-use Prim.Native.Nat.{ℕ, zero, suc, _+_, _-_, _≤_, _<_}
+use Prim.Native.Nat.{ℕ, zero, suc, _+_, _*_, _-_, _≤_, _<_}
 use native.Mathlib.Omega.{arith}
 use mathlib.Core.Path.{_≡_, refl, sym, ap, _∙_, subst}
 use mathlib.Core.Bool.{true, cond}
@@ -128,7 +128,7 @@ module _ (P : List (List ℕ)) (s : Scheme) (formed : WellFormed P (schemeIn s))
           fed-value single single-sound (countMakes P) (rowsOf (schemeIn s)) n s (size P)
           (solution-of (size P) P s (sizes-solved P s formed truth)) (proper (schemeIn s) (formed .scheme)) small (omega arith)
           (omega arith)
-          k c l all T (omega (arith, room, width-sum n s))
+          k c l all T (omega (arith, room, ap (λ w. rowsOf (schemeIn s) * w) (width-sum n s)))
           (record { prefix = childAt (prefixAt s (c .entry)) (slot (c .spacing) i); spacing = split (c .spacing) i })
           (child-fed (entryAt s (c .entry)) (c .spacing) rule f i (omega arith) (omega arith))
 

@@ -47,7 +47,7 @@ module _ (P : List (List ℕ)) (s : Scheme) (formed : WellFormed P (schemeIn s))
   value-there j i d g low c here kept =
       row-value single single-sound (countMakes P) (rowsOf (schemeIn s)) n s (size P)
       (solution-of (size P) P s (sizes-solved P s formed truth)) (proper (schemeIn s) (formed .scheme)) small (omega arith)
-      (omega arith) j low T (omega (arith, room, width-sum n s)) i d g c here kept
+      (omega arith) j low T (omega (arith, room, ap (λ w. rowsOf (schemeIn s) * w) (width-sum n s))) i d g c here kept
 
   pub root-count : (root j : ℕ) → Names s [] root → j ≤ n → rootValue P n s root T j ≡ countOf P (schemeIn s) j
   root-count root j names low =

@@ -4,7 +4,7 @@ use count_entry::frame::block_of;
 use count_plan::places::place_at;
 use count_plan::reading::field;
 use count_step::cells::read;
-use spacing::walk::rank_without;
+use spacing::walk::rank_after;
 use word::limits::COMPONENTS;
 ghost use mathlib.Core.Path.{_≡_};
 ghost use mathlib.Core.List.{[], _∷_};
@@ -49,7 +49,7 @@ pub fn value_in(
 {
     let k = field(sheet, c.entry, 0);
     let g = c.spacing;
-    let rank = rank_without(g, k, 0, 0, b);
+    let rank = rank_after(g, k, 0, b);
     let at = block_of(f, c.row, 0) + place_at(places, c.entry);
     read(table, at + rank)
 }

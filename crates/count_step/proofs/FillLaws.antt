@@ -5,14 +5,14 @@ use native.Mathlib.Numerals.{add-one}
 use native.Mathlib.Omega.{arith}
 use mathlib.Core.Path.{_≡_, refl, sym, ap, _∙_}
 use mathlib.Core.Bool.{true, false}
-use mathlib.Core.List.{List, [], _∷_}
+use mathlib.Core.List.{List}
 use lib.ListN.{length, getD, set, length-set}
 use borrow.Author.Tests.{eq-eqb, ne-eqb}
 use Rattle.cell.specs.Cell.{total, free, mergeValues}
 use Rattle.cell.specs.Binomial.{binomial}
 use Rattle.spacing.specs.Following.{firstVector}
 use Rattle.spacing.specs.SpacingOrder.{first-length, first-total}
-use Rattle.spacing.specs.Rank.{rankAfter, rankOf, nextOf}
+use Rattle.spacing.specs.Rank.{rankOf, nextOf}
 use Rattle.spacing.specs.RankLaws.{next-rank, next-length, next-total, first-rank}
 use Rattle.count_step.specs.Feed.{readsOf}
 use Rattle.count_step.specs.Step.{capped, held, stepOf, spacingsFrom, storedAt}
@@ -21,23 +21,23 @@ use Rattle.count_step.specs.Sums.{childrenOf}
 
 -- The cases of a step
 
-module _ (T : List ℕ) (B : List (List ℕ)) (w one : ℕ) (links g : List ℕ) where
-  pub step-covered : free B g ≡ false → stepOf T B w one links g ≡ 0
+module _ (T : List ℕ) (B : List (List ℕ)) (n : ℕ) (vs : List ℕ) (one : ℕ) (links g : List ℕ) where
+  pub step-covered : free B g ≡ false → stepOf T B n vs one links g ≡ 0
   unfolding readsOf
   step-covered e = rw e refl
 
-  pub step-deletes : (rank : ℕ) → free B g ≡ true → (w ≡ 0 → ⊥) → rank ≡ rankAfter 0 0 (mergeValues (w ∷ []) g) →
-      held T (getD links 0 0 + rank) ≡ stepOf T B w one links g
-  unfolding readsOf rankOf
-  step-deletes rank e n r = rw (e, ne-eqb w 0 n, r) refl
-
-  pub step-alone : free B g ≡ true → w ≡ 0 → total g ≡ 0 → one ≡ stepOf T B w one links g
+  pub step-deletes : (rank : ℕ) → free B g ≡ true → (n ≡ 0 → ⊥) → rank ≡ rankOf (mergeValues vs g) →
+      held T (getD links 0 0 + rank) ≡ stepOf T B n vs one links g
   unfolding readsOf
-  step-alone e n t = rw (e, eq-eqb w 0 n, eq-eqb (total g) 0 t) refl
+  step-deletes rank e d r = rw (e, ne-eqb n 0 d, r) refl
 
-  pub step-sums : free B g ≡ true → w ≡ 0 → (total g ≡ 0 → ⊥) → capped (childrenOf T links g) ≡ stepOf T B w one links g
+  pub step-alone : free B g ≡ true → n ≡ 0 → total g ≡ 0 → one ≡ stepOf T B n vs one links g
   unfolding readsOf
-  step-sums e n t = rw (e, eq-eqb w 0 n, ne-eqb (total g) 0 t) (ap capped (children-sum T links g))
+  step-alone e d t = rw (e, eq-eqb n 0 d, eq-eqb (total g) 0 t) refl
+
+  pub step-sums : free B g ≡ true → n ≡ 0 → (total g ≡ 0 → ⊥) → capped (childrenOf T links g) ≡ stepOf T B n vs one links g
+  unfolding readsOf
+  step-sums e d t = rw (e, eq-eqb n 0 d, ne-eqb (total g) 0 t) (ap capped (children-sum T links g))
 
 -- Filling: g is the spacing of rank p, where p is below n, and the steps that are left give what
 -- all steps give.

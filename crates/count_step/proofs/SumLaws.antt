@@ -9,11 +9,11 @@ use mathlib.Core.List.{List, [], _∷_}
 use lib.ListN.{length, getD, drop, length-drop, drop-of-length-le}
 use lib.Seq.{drop-cons}
 use Rattle.word.specs.Ceilings.{LENGTH, COUNTS}
-use Rattle.cell.specs.Cell.{total, mergeValues}
+use Rattle.cell.specs.Cell.{total}
 use Rattle.cell.specs.Binomial.{binomial}
 use Rattle.spacing.specs.Sizes.{CHOICES, RANKS}
 use Rattle.spacing.specs.Rank.{rankFrom, rankAfter}
-use Rattle.spacing.specs.RankLaws.{after-head, merge-none}
+use Rattle.spacing.specs.RankLaws.{after-head}
 use Rattle.spacing.specs.PascalLaws.{binomial-small}
 use Rattle.count_step.specs.Sums.{partSum, childSum, childrenOf}
 
@@ -92,12 +92,12 @@ pub record Sums (M : ℕ) (T links G : List ℕ) (k above below z sum i : ℕ) :
   pub reach : i ≤ k
 
 module _ (M : ℕ) (T links G : List ℕ) (k : ℕ) (size : length G ≡ k + 1) where
-  pub sums-start : (a : ℕ) → a ≡ rankAfter 1 0 (mergeValues (0 ∷ []) G) → k + total G ≤ LENGTH → Sums M T links G k a 0 0 0 0
+  pub sums-start : (a : ℕ) → a ≡ rankAfter 1 0 G → k + total G ≤ LENGTH → Sums M T links G k a 0 0 0 0
   unfolding childrenOf
   sums-start a e h =
       record {
         whole = ap (λ m. min m M) (zero-add (childSum T links 0 0 0 G));
-        high = e ∙ ap (rankAfter 1 0) (merge-none G);
+        high = e;
         fits = omega arith;
         low = omega arith;
         reach = omega arith;

@@ -44,7 +44,7 @@ pub record CellOf : Type 0 where
 abbrev pub ruleFeed : List ℕ → List ℕ → Does → Feed CellOf
 ruleFeed p g expands =
     cond (eqb (total g) 0) alone (children (map (λ q. record { prefix = childAt p (slot g q); spacing = split g q }) (oneTo (total g))))
-ruleFeed p g (deletes r) = target (record { prefix = deleted (r ∷ []) p; spacing = merged (r ∷ []) p g })
+ruleFeed p g (deletes R) = target (record { prefix = deleted R p; spacing = merged R p g })
 
 -- what feeds the cell at the spacing g of an entry; "A spacing at or above a listed vector gives 0"
 -- (01)
@@ -56,11 +56,12 @@ feedOf e g = cond (free (e .gaps) g) (ruleFeed (e .prefix) g (e .rule)) covered
 abbrev pub childPlaces : List ℕ → List ℕ → List ℕ
 childPlaces links g = map (λ q. getD links (slot g q - 1) 0 + rankOf (split g q)) (oneTo (total g))
 
--- The places that a step reads for the spacing g of an entry with the gap vectors B: w is the value
--- that the entry deletes, or 0 where it expands; the target has its cells from `links` 0 on.
-unfoldable pub readsOf : List (List ℕ) → ℕ → List ℕ → List ℕ → Feed ℕ
-readsOf B w links g =
+-- The places that a step reads for the spacing g of an entry with the gap vectors B: n is the
+-- number of positions that the entry deletes, or 0 where it expands, and vs are the values there;
+-- the target has its cells from `links` 0 on.
+unfoldable pub readsOf : List (List ℕ) → ℕ → List ℕ → List ℕ → List ℕ → Feed ℕ
+readsOf B n vs links g =
     cond (free B g)
-    (cond (eqb w 0) (cond (eqb (total g) 0) alone (children (childPlaces links g)))
-    (target (getD links 0 0 + rankOf (mergeValues (w ∷ []) g))))
+    (cond (eqb n 0) (cond (eqb (total g) 0) alone (children (childPlaces links g)))
+    (target (getD links 0 0 + rankOf (mergeValues vs g))))
     covered

@@ -28,10 +28,11 @@ addedUp one alone = one
 addedUp one (target x) = x
 addedUp one (children l) = capped (total l)
 
--- What a step stores at the spacing g of an entry with the gap vectors B. w is the value that the
--- entry deletes, or 0 where it expands; `one` is the value at total 0 of an expanding entry.
-abbrev pub stepOf : List ℕ → List (List ℕ) → ℕ → ℕ → List ℕ → List ℕ → ℕ
-stepOf T B w one links g = addedUp one (mapFeed (held T) (readsOf B w links g))
+-- What a step stores at the spacing g of an entry with the gap vectors B. n is the number of
+-- positions that the entry deletes, or 0 where it expands, and vs are the values there; `one` is
+-- the value at total 0 of an expanding entry.
+abbrev pub stepOf : List ℕ → List (List ℕ) → ℕ → List ℕ → ℕ → List ℕ → List ℕ → ℕ
+stepOf T B n vs one links g = addedUp one (mapFeed (held T) (readsOf B n vs links g))
 
 -- the spacings from g on, m of them, each the next by rank after the one before it
 unfoldable pub spacingsFrom : ℕ → List ℕ → List (List ℕ)

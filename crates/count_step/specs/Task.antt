@@ -5,6 +5,7 @@ use lib.ListN.{getD, take}
 use Rattle.word.specs.Ceilings.{PREFIX, LENGTH}
 use Rattle.forms.specs.GapRows.{gapsOf, HasVectors}
 use Rattle.spacing.specs.Sizes.{RANKS, FAR}
+use Rattle.spacing.specs.Flagged.{flagged}
 use Rattle.count_step.specs.Step.{stepOf}
 use Rattle.count_step.specs.declared.cells.Task.{Task}
 
@@ -32,4 +33,5 @@ spacingIn k g = take (k + 1) g
 
 -- what the step of a task stores at a spacing
 abbrev pub taskStep : Task → List ℕ → List ℕ → List ℕ → ℕ
-taskStep t parts T g = stepOf T (gapsOf parts (t .length + 1) (t .«gap_count»)) (t .deleted) (t .alone) (t .links) g
+taskStep t parts T g =
+    stepOf T (gapsOf parts (t .length + 1) (t .«gap_count»)) (t .deleted) (flagged (t .gone) (t .length)) (t .alone) (t .links) g

@@ -2,6 +2,7 @@
 use crate::sums::capped_sum;
 use spacing::binomials::choose;
 use spacing::is_free;
+use spacing::walk::rank_after;
 use spacing::walk::rank_without;
 use word::bytes::wide;
 use word::limits::COMPONENTS;
@@ -17,12 +18,14 @@ ghost use Rattle.count_step.specs.Sums.{partSum, childrenOf};
 ghost use Rattle.count_step.specs.Task.{Near, TaskFits, TaskGaps, spacingIn, taskStep, REACH};
 
 // What the cells of one entry at one length share: the entry's length and the total of its
-// spacings; the value that the entry deletes, or 0; what an expanding entry has at total 0; where
-// in the table the cells of its children, or of its target, begin; the number of its gap vectors.
+// spacings; how many positions the entry deletes, 0 where it expands, and the flags of the values
+// there; what an expanding entry has at total 0; where in the table the cells of its children, or
+// of its target, begin; the number of its gap vectors.
 pub struct Task {
     pub length: usize,
     pub total: usize,
     pub deleted: usize,
+    pub gone: [u8; COMPONENTS],
     pub alone: u64,
     pub links: [usize; LINKS],
     pub gap_count: usize,
@@ -77,7 +80,7 @@ fn child_sum(
     requires { ⌜ (k ≤ PREFIX) × (k + total (take (k + 1) g) ≤ LENGTH) × Near links × Pascal (now b) ⌝ }
     ensures { λ r. ⌜ r ≡ capped (childrenOf (now (table .entry)) links (take (k + 1) g)) ⌝ }
 {
-    let mut above = rank_without(g, k, 0, 1, b);
+    let mut above = rank_after(g, k, 1, b);
     let mut below: usize = 0;
     let mut z: usize = 0;
     let mut sum: u64 = 0;
@@ -109,7 +112,8 @@ pub fn value_at(table: &[u64], task: Task, gaps: &[u8], g: [u8; COMPONENTS], b: 
     }
     let links = task.links;
     if task.deleted != 0 {
-        let rank = rank_without(g, k, task.deleted, 0, b);
+        let gone = task.gone;
+        let rank = rank_without(g, k, gone, b);
         return read(table, links[0] + rank);
     }
     if task.total == 0 {

@@ -1,17 +1,17 @@
 -- Which cells feed which: each has a place in the table, comes before the cell that it feeds, and
 -- is less rows back than the table keeps.
-use Prim.Native.Nat.{ℕ, zero, suc, _+_, _≤_, _<_}
+use Prim.Native.Nat.{ℕ, suc, _+_, _≤_, _<_}
 use native.Mathlib.Omega.{arith}
 use mathlib.Core.Path.{_≡_, refl, sym, ap, _∙_, subst}
 use mathlib.Core.Logic.{_⊎_, inl, inr}
 use mathlib.Core.Bool.{Bool, true, false, cond}
-use mathlib.Core.List.{List, [], _∷_, map, List·Memᴰ, List·Memᴰ·head, List·Memᴰ·not-nil, List·Memᴰ·eq-of-singleton}
+use mathlib.Core.List.{List, [], map, List·Memᴰ, List·Memᴰ·head, List·Memᴰ·not-nil, List·Memᴰ·eq-of-singleton}
 use mathlib.Core.List.{Memᴰ·map, Memᴰ·of-map}
 use lib.ListN.{length}
 use lib.Dec.{eqb}
 use borrow.Author.Tests.{ne-eqb}
 use Rattle.word.specs.Lists.{oneTo}
-use Rattle.word.specs.ListLaws.{true-not-false, row-out, row-in, map-same}
+use Rattle.word.specs.ListLaws.{row-out, row-in, map-same}
 use Rattle.cell.specs.Cell.{total, free, deleted, merged}
 use Rattle.cell.specs.Child.{slot, childAt, split}
 use Rattle.cell.specs.ChildLaws.{slot-bounds, split-length, split-total, child-length}
@@ -21,12 +21,11 @@ use Rattle.forms.specs.SchemeMemory.{schemeIn}
 use Rattle.forms.specs.declared.memory.Scheme.{Scheme}
 use Rattle.scheme.specs.WellFormed.{outside}
 use Rattle.scheme.specs.Proper.{Proper}
-use Rattle.scheme.specs.ProperLaws.{position-inside}
-use Rattle.scheme.proofs.PrefixLaws.{deleted-size}
-use Rattle.verdict.specs.ValueLaws.{position-high, child-listed, target-listed}
+use Rattle.scheme.specs.PositionLaws.{positions-inside, positions-some, deleted-size}
+use Rattle.verdict.specs.ValueLaws.{child-listed, target-listed}
 use Rattle.count_step.specs.Feed.{Feed, covered, alone, target, children, mapFeed, fed, CellOf, ruleFeed, feedOf}
-use Rattle.count_plan.specs.Layout.{entryAt, prefixAt, lengthAt, rowsOf, HasCell}
-use Rattle.count_plan.specs.LayoutLaws.{prefix-length, entry-member, entry-proper}
+use Rattle.count_plan.specs.Layout.{entryAt, prefixAt, lengthAt, deletedBy, largestSet, rowsOf, HasCell}
+use Rattle.count_plan.specs.LayoutLaws.{prefix-length, entry-member, entry-proper, set-at-most}
 use Rattle.count_plan.specs.Cards.{indexOf}
 use Rattle.count_plan.specs.SheetRows.{Names}
 use Rattle.count_plan.proofs.CardLaws.{found-names}
@@ -99,24 +98,26 @@ module _ (n : ℕ) (s : Scheme) (proper : Proper (schemeIn s)) (j d : ℕ) (g : 
         near = omega arith;
       }
 
-  target-feeds : (r : ℕ) → (entryAt s d) .rule ≡ deletes (suc r) →
-      Feeds n s j d (record { prefix = deleted (suc r ∷ []) (prefixAt s d); spacing = merged (suc r ∷ []) (prefixAt s d) g })
-  target-feeds r rule =
+  target-feeds : (R : List ℕ) → (entryAt s d) .rule ≡ deletes R →
+      Feeds n s j d (record { prefix = deleted R (prefixAt s d); spacing = merged R (prefixAt s d) g })
+  target-feeds R rule =
       let perm = entry-proper s proper d (c .inside) .perm in
-      let o : outside (length (prefixAt s d)) (deletes (suc r)) ≡ false = ap (outside (length (prefixAt s d))) (sym rule) ∙
+      let o : outside (length (prefixAt s d)) (deletes R) ≡ false = ap (outside (length (prefixAt s d))) (sym rule) ∙
       entry-proper s proper d (c .inside) .inside in
-      let cut = deleted-size r (prefixAt s d) perm (position-high (length (prefixAt s d)) (suc r) o) in
-      let names = found-names s (deleted (suc r ∷ []) (prefixAt s d))
-      (target-listed [] (schemeIn s) proper (entryAt s d) (entry-member s d (c .inside)) (suc r) rule) in
-      let back : length (deleted (suc r ∷ []) (prefixAt s d)) + total (merged (suc r ∷ []) (prefixAt s d) g) + 1 ≡ j =
-      omega (arith, merged-total (suc r ∷ []) (prefixAt s d) g, size, c .whole) in
+      let cut = deleted-size R (prefixAt s d) o in
+      let names = found-names s (deleted R (prefixAt s d))
+      (target-listed [] (schemeIn s) proper (entryAt s d) (entry-member s d (c .inside)) R rule) in
+      let back : length (deleted R (prefixAt s d)) + total (merged R (prefixAt s d) g) + length R ≡ j =
+      omega (arith, merged-total R (prefixAt s d) g, size, c .whole) in
+      let few : deletedBy ((entryAt s d) .rule) ≤ largestSet (schemeIn s) =
+      set-at-most (schemeIn s) (entryAt s d) (entry-member s d (c .inside)) in
       record {
-        cell = fed-cell (deleted (suc r ∷ []) (prefixAt s d)) (merged (suc r ∷ []) (prefixAt s d) g)
-            (length (deleted (suc r ∷ []) (prefixAt s d)) + total (merged (suc r ∷ []) (prefixAt s d) g)) names
-            (merged-length (suc r ∷ []) (prefixAt s d) g perm wide (position-inside (length (prefixAt s d)) (suc r) o)) refl (omega arith);
+        cell = fed-cell (deleted R (prefixAt s d)) (merged R (prefixAt s d) g)
+            (length (deleted R (prefixAt s d)) + total (merged R (prefixAt s d) g)) names
+            (merged-length R (prefixAt s d) g perm wide (positions-inside (length (prefixAt s d)) R o)) refl (omega arith);
         named = names .named;
-        before = inl (omega arith);
-        near = omega arith;
+        before = inl (omega (arith, positions-some (length (prefixAt s d)) R o));
+        near = omega (arith, few, ap deletedBy rule);
       }
 
   -- what feeds a cell of the table
@@ -138,7 +139,5 @@ module _ (n : ℕ) (s : Scheme) (proper : Proper (schemeIn s)) (j d : ℕ) (g : 
           Feeds n s j d f
       go false rule r m = absurd (List·Memᴰ·not-nil m)
       go true expands r m = summed (eqb (total g) 0) r m
-      go true (deletes zero) r m =
-          absurd (true-not-false (ap (outside (length (prefixAt s d))) (sym r) ∙ entry-proper s proper d (c .inside) .inside))
-      go true (deletes (suc k)) r m =
-          subst (λ (x : CellOf). Feeds n s j d x) (sym (List·Memᴰ·eq-of-singleton m)) (target-feeds k r)
+      go true (deletes R) r m =
+          subst (λ (x : CellOf). Feeds n s j d x) (sym (List·Memᴰ·eq-of-singleton m)) (target-feeds R r)

@@ -1,6 +1,6 @@
 -- A step reads exactly the places of the cells that feed its cell, so steps at the cells of an
 -- entry are a part of the walk.
-use Prim.Native.Nat.{ℕ, zero, suc, _+_, _-_, _≤_, _<_}
+use Prim.Native.Nat.{ℕ, suc, _+_, _-_, _≤_, _<_}
 use native.Mathlib.Omega.{arith}
 use mathlib.Core.Path.{_≡_, refl, sym, ap, _∙_}
 use mathlib.Core.Bool.{Bool, true, false, cond}
@@ -11,26 +11,26 @@ use borrow.Author.Tests.{eq-eqb, ne-eqb}
 use Rattle.word.specs.Ceilings.{LINKS}
 use Rattle.word.specs.Lists.{oneTo}
 use Rattle.word.specs.Word.{avoids, entry}
-use Rattle.word.specs.ListLaws.{true-not-false, map-same, row-out}
+use Rattle.word.specs.ListLaws.{map-same, row-out}
 use Rattle.cell.specs.Cell.{total, free, deleted, merged, mergeValues}
 use Rattle.cell.specs.Child.{slot, childAt, split}
 use Rattle.cell.specs.BuiltLaws.{getD-map}
 use Rattle.cell.specs.ChildLaws.{slot-bounds, split-total, child-length}
 use Rattle.cell.specs.MergeLaws.{merged-total}
 use Rattle.spacing.specs.Rank.{rankOf}
+use Rattle.spacing.specs.RankLaws.{merge-same}
 use Rattle.forms.specs.SchemeList.{Does, expands, deletes}
 use Rattle.forms.specs.SchemeMemory.{schemeIn}
 use Rattle.forms.specs.declared.memory.Scheme.{Scheme}
 use Rattle.scheme.specs.WellFormed.{outside}
 use Rattle.scheme.specs.Proper.{Proper}
-use Rattle.scheme.proofs.PrefixLaws.{deleted-size}
-use Rattle.verdict.specs.ValueLaws.{position-high}
+use Rattle.scheme.specs.PositionLaws.{deleted-size}
 use Rattle.count_step.specs.Feed.{Feed, covered, alone, target, children, mapFeed, CellOf, ruleFeed, feedOf, childPlaces, readsOf}
 use Rattle.count_step.specs.Step.{held, addedUp, stepOf, storedAt}
 use Rattle.count_plan.specs.Layout.{entryAt, prefixAt, lengthAt, placeAt, blockOf, HasCell}
 use Rattle.count_plan.specs.LayoutLaws.{prefix-length, entry-proper, entry-short}
 use Rattle.count_plan.specs.Cards.{indexOf}
-use Rattle.count_plan.specs.Plan.{LeadsTo, Item, RulePlan, Planned}
+use Rattle.count_plan.specs.Plan.{LeadsTo, Item, SameValues, RulePlan, Planned}
 use Rattle.count_walk.specs.Content.{single}
 use Rattle.count_walk.specs.Cells.{cellsAt}
 use Rattle.count_walk.specs.Walk.{placeOf, stepAt, walked, countMakes}
@@ -43,10 +43,10 @@ map-feed-map f h (target x) = refl
 map-feed-map f h (children l) = ap children (map-map f h l)
 
 -- The plan of the entry with index e, in the layout of n that keeps `rows` rows, at a spacing of a
--- cell of row j. Its links are counted from `offset`: the block of this row where it expands, and
--- where it deletes that of the row before.
+-- cell of row j. Its links are counted from `offset`: the block of the row that is as many rows
+-- back as the entry deletes positions, so that of this row where it expands.
 module _ (rows n : ℕ) (P : List (List ℕ)) (s : Scheme) (proper : Proper (schemeIn s)) (e : ℕ) (t : Item) (planned : Planned n P s e t)
-    (j offset : ℕ) (here : t .deleted ≡ 0 → offset ≡ blockOf rows n s j) (back : (t .deleted ≡ 0 → ⊥) → offset ≡ blockOf rows n s (j - 1))
+    (j offset : ℕ) (there : offset ≡ blockOf rows n s (j - t .deleted))
   where
     abbrev links : List ℕ
     links = map (λ x. offset + x) (t .links)
@@ -64,6 +64,7 @@ module _ (rows n : ℕ) (P : List (List ℕ)) (s : Scheme) (proper : Proper (sch
           placeOf rows n s (record { prefix = childAt (prefixAt s e) (slot g q); spacing = split g q })
       child-place zero-is leads q low high =
           let (a, b) = slot-bounds g q low high in
+          let this-row : j ≡ j - t .deleted = omega arith in
           let l = leads (slot g q - 1) (omega (arith, size, c .wide)) in
           let o : suc (slot g q - 1) ≡ slot g q = omega arith in
           let row : length (childAt (prefixAt s e) (slot g q)) + total (split g q) ≡ j =
@@ -78,41 +79,35 @@ module _ (rows n : ℕ) (P : List (List ℕ)) (s : Scheme) (proper : Proper (sch
             arith,
             link (slot g q - 1) (omega (arith, c .wide)),
             place,
-            here zero-is,
-            ap (blockOf rows n s) row,
+            there,
+            ap (blockOf rows n s) (row ∙ this-row),
           )
 
-      target-place : (r : ℕ) → (entryAt s e) .rule ≡ deletes (suc r) → t .deleted ≡ entry (prefixAt s e) (suc r) →
-          1 ≤ entry (prefixAt s e) (suc r) → LeadsTo n s (deleted (suc r ∷ []) (prefixAt s e)) (getD (t .links) 0 0) →
-          getD (map (λ x. offset + x) (t .links)) 0 0 + rankOf (mergeValues (t .deleted ∷ []) g) ≡
-          placeOf rows n s (record { prefix = deleted (suc r ∷ []) (prefixAt s e); spacing = merged (suc r ∷ []) (prefixAt s e) g })
+      target-place : (R : List ℕ) → (entryAt s e) .rule ≡ deletes R → t .deleted ≡ length R →
+          SameValues (length (prefixAt s e)) (t .values) (map (entry (prefixAt s e)) R) →
+          LeadsTo n s (deleted R (prefixAt s e)) (getD (t .links) 0 0) →
+          getD (map (λ x. offset + x) (t .links)) 0 0 + rankOf (mergeValues (t .values) g) ≡
+          placeOf rows n s (record { prefix = deleted R (prefixAt s e); spacing = merged R (prefixAt s e) g })
       unfolding merged
-      target-place r rule value low l =
-          let perm = entry-proper s proper e (c .inside) .perm in
-          let o : outside (length (prefixAt s e)) (deletes (suc r)) ≡ false = ap (outside (length (prefixAt s e))) (sym rule) ∙
+      target-place R rule number same l =
+          let o : outside (length (prefixAt s e)) (deletes R) ≡ false = ap (outside (length (prefixAt s e))) (sym rule) ∙
           entry-proper s proper e (c .inside) .inside in
-          let cut = deleted-size r (prefixAt s e) perm (position-high (length (prefixAt s e)) (suc r) o) in
-          let row : length (deleted (suc r ∷ []) (prefixAt s e)) + total (merged (suc r ∷ []) (prefixAt s e) g) ≡ j - 1 =
-          omega (arith, cut, merged-total (suc r ∷ []) (prefixAt s e) g, size, c .whole) in
-          let m : rankOf (mergeValues (t .deleted ∷ []) g) ≡ rankOf (merged (suc r ∷ []) (prefixAt s e) g) =
-          ap (λ (x : ℕ). rankOf (mergeValues (x ∷ []) g)) value in
-          omega (
-            arith,
-            link 0 (omega arith),
-            l .placed,
-            m,
-            back (λ (z : t .deleted ≡ 0). omega arith),
-            ap (blockOf rows n s) row,
-          )
+          let cut = deleted-size R (prefixAt s e) o in
+          let row : length (deleted R (prefixAt s e)) + total (merged R (prefixAt s e) g) ≡ j - t .deleted =
+          omega (arith, cut, number, merged-total R (prefixAt s e) g, size, c .whole) in
+          let m : rankOf (mergeValues (t .values) g) ≡ rankOf (merged R (prefixAt s e) g) =
+          ap rankOf (merge-same (t .values) (map (entry (prefixAt s e)) R) g (length (prefixAt s e))
+          (c .wide ∙ ap suc (sym size)) same) in
+          omega (arith, link 0 (omega arith), l .placed, m, there, ap (blockOf rows n s) row)
 
       -- where no gap vector covers the spacing
       rule-reads : (rule : Does) → (entryAt s e) .rule ≡ rule → RulePlan n P s (prefixAt s e) rule t →
           cond (eqb (t .deleted) 0) (cond (eqb (total g) 0) alone (children (childPlaces (map (λ x. offset + x) (t .links)) g)))
-          (target (getD (map (λ x. offset + x) (t .links)) 0 0 + rankOf (mergeValues (t .deleted ∷ []) g))) ≡
+          (target (getD (map (λ x. offset + x) (t .links)) 0 0 + rankOf (mergeValues (t .values) g))) ≡
           mapFeed (placeOf rows n s) (ruleFeed (prefixAt s e) g rule)
       rule-reads expands r (zero-is, alone-is, leads) =
           ap (λ b. cond b (cond (eqb (total g) 0) alone (children (childPlaces (map (λ x. offset + x) (t .links)) g)))
-          (target (getD (map (λ x. offset + x) (t .links)) 0 0 + rankOf (mergeValues (t .deleted ∷ []) g)))) (eq-eqb
+          (target (getD (map (λ x. offset + x) (t .links)) 0 0 + rankOf (mergeValues (t .values) g)))) (eq-eqb
           (t .deleted) 0 zero-is) ∙
           go (eqb (total g) 0)
         where
@@ -126,28 +121,26 @@ module _ (rows n : ℕ) (P : List (List ℕ)) (s : Scheme) (proper : Proper (sch
               (λ q m. let (low, high) = row-out 1 (total g) m in child-place zero-is leads q low (omega arith)) ∙
               sym (map-map (placeOf rows n s) (λ (q : ℕ). record { prefix = childAt (prefixAt s e) (slot g q); spacing = split g q })
               (oneTo (total g))))
-      rule-reads (deletes zero) r plan =
-          absurd (true-not-false (ap (outside (length (prefixAt s e))) (sym r) ∙ entry-proper s proper e (c .inside) .inside))
-      rule-reads (deletes (suc r)) q (value, low, leads) =
+      rule-reads (deletes R) q (number, low, same, leads) =
           ap (λ b. cond b (cond (eqb (total g) 0) alone (children (childPlaces (map (λ x. offset + x) (t .links)) g)))
-          (target (getD (map (λ x. offset + x) (t .links)) 0 0 + rankOf (mergeValues (t .deleted ∷ []) g))))
+          (target (getD (map (λ x. offset + x) (t .links)) 0 0 + rankOf (mergeValues (t .values) g))))
           (ne-eqb (t .deleted) 0 (λ (z : t .deleted ≡ 0). omega arith)) ∙
-          ap target (target-place r q value low leads)
+          ap target (target-place R q number same leads)
 
       -- a step reads exactly the places of the cells that feed its cell
-      pub step-reads : readsOf (t .gaps) (t .deleted) (map (λ x. offset + x) (t .links)) g ≡
+      pub step-reads : readsOf (t .gaps) (t .deleted) (t .values) (map (λ x. offset + x) (t .links)) g ≡
           mapFeed (placeOf rows n s) (feedOf (entryAt s e) g)
       unfolding readsOf feedOf
       step-reads =
-          ap (λ (B : List (List ℕ)). readsOf B (t .deleted) (map (λ x. offset + x) (t .links)) g) (planned .gaps) ∙
+          ap (λ (B : List (List ℕ)). readsOf B (t .deleted) (t .values) (map (λ x. offset + x) (t .links)) g) (planned .gaps) ∙
           go (free ((entryAt s e) .gaps) g) (rule-reads ((entryAt s e) .rule) refl (planned .rule))
         where
           go : (b : Bool) →
               cond (eqb (t .deleted) 0) (cond (eqb (total g) 0) alone (children (childPlaces (map (λ x. offset + x) (t .links)) g)))
-              (target (getD (map (λ x. offset + x) (t .links)) 0 0 + rankOf (mergeValues (t .deleted ∷ []) g))) ≡
+              (target (getD (map (λ x. offset + x) (t .links)) 0 0 + rankOf (mergeValues (t .values) g))) ≡
               mapFeed (placeOf rows n s) (ruleFeed (prefixAt s e) g ((entryAt s e) .rule)) →
               cond b (cond (eqb (t .deleted) 0) (cond (eqb (total g) 0) alone (children (childPlaces (map (λ x. offset + x) (t .links)) g)))
-              (target (getD (map (λ x. offset + x) (t .links)) 0 0 + rankOf (mergeValues (t .deleted ∷ []) g)))) covered ≡
+              (target (getD (map (λ x. offset + x) (t .links)) 0 0 + rankOf (mergeValues (t .values) g)))) covered ≡
               mapFeed (placeOf rows n s) (cond b (ruleFeed (prefixAt s e) g ((entryAt s e) .rule)) covered)
           go true q = q
           go false q = refl
@@ -164,10 +157,10 @@ module _ (rows n : ℕ) (P : List (List ℕ)) (s : Scheme) (proper : Proper (sch
           go false rule plan = refl
           go true expands (zero-is, alone-is, leads) =
               ap (λ x. addedUp x (mapFeed f (ruleFeed (prefixAt s e) g expands))) alone-is
-          go true (deletes r) plan = refl
+          go true (deletes R) plan = refl
 
       -- so the step is the walk's step at the cell
-      pub step-is : (T : List ℕ) → stepOf T (t .gaps) (t .deleted) (t .alone) (map (λ x. offset + x) (t .links)) g ≡
+      pub step-is : (T : List ℕ) → stepOf T (t .gaps) (t .deleted) (t .values) (t .alone) (map (λ x. offset + x) (t .links)) g ≡
           stepAt single (countMakes P) rows n s (record { row = j; entry = e; spacing = g }) T
       step-is T =
           ap (λ (F : Feed ℕ). addedUp (t .alone) (mapFeed (held T) F)) step-reads ∙
@@ -177,12 +170,12 @@ module _ (rows n : ℕ) (P : List (List ℕ)) (s : Scheme) (proper : Proper (sch
     -- steps at some spacings of the entry, in turn
     pub stored-walked : (at : ℕ) → at ≡ blockOf rows n s j + placeAt n s e → (gs : List (List ℕ)) →
         ((g : List ℕ) → List·Memᴰ g gs → HasCell n s j e g) → (T : List ℕ) →
-        storedAt (λ T g. stepOf T (t .gaps) (t .deleted) (t .alone) (map (λ x. offset + x) (t .links)) g) at gs T ≡
+        storedAt (λ T g. stepOf T (t .gaps) (t .deleted) (t .values) (t .alone) (map (λ x. offset + x) (t .links)) g) at gs T ≡
         walked single (countMakes P) rows n s (cellsAt j e gs) T
     unfolding storedAt walked
     stored-walked at is [] has T = refl
     stored-walked at is (g ∷ gs) has T =
-        ap (storedAt (λ T g. stepOf T (t .gaps) (t .deleted) (t .alone) (map (λ x. offset + x) (t .links)) g) at gs)
+        ap (storedAt (λ T g. stepOf T (t .gaps) (t .deleted) (t .values) (t .alone) (map (λ x. offset + x) (t .links)) g) at gs)
         (ap (λ x. set T (at + rankOf g) x) (step-is g (has g (List·Memᴰ·head refl)) T) ∙
         ap (λ m. set T (m + rankOf g) (stepAt single (countMakes P) rows n s (record { row = j; entry = e; spacing = g }) T)) is) ∙
         stored-walked at is gs (λ h m. has h (List·Memᴰ·tail m))

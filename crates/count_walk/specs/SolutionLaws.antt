@@ -70,7 +70,7 @@ value-fed v P e g small = go (free (e .gaps) g) (e .rule) small
         (e .prefix) g rule) covered))
     go false rule h = refl
     go true expands h = summed (eqb (total g) 0) h
-    go true (deletes r) h = refl
+    go true (deletes R) h = refl
 
 pub solution-of : (v : List ℕ → List ℕ → ℕ) (P : List (List ℕ)) (s : Scheme) → Solves v P s → Solution single (countMakes P) s v
 solution-of v P s solved =

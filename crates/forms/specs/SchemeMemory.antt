@@ -2,7 +2,7 @@
 -- only.
 use Prim.Native.Nat.{ℕ, _*_}
 use mathlib.Core.Bool.{Bool, true, false}
-use mathlib.Core.List.{List, [], map, _++_}
+use mathlib.Core.List.{List, [], _∷_, map, _++_}
 use lib.ListN.{getD, take, drop, replicate}
 use Rattle.word.specs.Ceilings.{COMPONENTS}
 use Rattle.word.specs.Lists.{row}
@@ -13,6 +13,7 @@ use Rattle.forms.specs.SchemeList.{Does, expands, deletes, EntryList}
 use Rattle.forms.specs.declared.memory.Pattern.{Pattern}
 use Rattle.forms.specs.declared.memory.Patterns.{Patterns}
 use Rattle.forms.specs.declared.memory.Gap.{Gap}
+use Rattle.forms.specs.declared.memory.Positions.{Positions}
 use Rattle.forms.specs.declared.memory.Rule.{Rule}
 use Rattle.forms.specs.declared.memory.Rule.the-variants.{Expand, Delete}
 use Rattle.forms.specs.declared.memory.Entry.{Entry}
@@ -49,9 +50,17 @@ partsAt l j = take COMPONENTS (drop (COMPONENTS * j) l)
 abbrev pub gapAt : Entry → ℕ → List ℕ
 gapAt e j = padded (getD (e .widths) j 0) (partsAt (e .gaps) j)
 
+-- the positions that have a name
+abbrev pub sixOf : Positions → List ℕ
+sixOf d = d .first ∷ d .second ∷ d .third ∷ d .fourth ∷ d .fifth ∷ d .sixth ∷ []
+
+-- the set of positions; of more than have a name the others are 0, which is no position
+abbrev pub positionsIn : Positions → List ℕ
+positionsIn d = padded (d .count) (sixOf d)
+
 abbrev pub doesOf : Rule → Does
 doesOf Expand = expands
-doesOf (Delete r) = deletes r
+doesOf (Delete d) = deletes (positionsIn d)
 
 abbrev pub entryIn : Entry → EntryList
 entryIn e =

@@ -5,4 +5,5 @@ pub mod gaps;
 pub mod lists;
 pub mod memory;
 pub mod order;
+pub mod positions;
 pub mod sets;

@@ -29,10 +29,23 @@ pub struct Gap {
     pub width: usize,
 }
 
-// What an entry does: "An entry either expands or deletes one position" (01).
+// The positions that an entry deletes together: the first PREFIX of them by name, since an enum
+// holds no array, and how many there are. 255 stands for every number beyond. Names that the count
+// does not reach are 0 where a text was read.
+pub struct Positions {
+    pub first: u8,
+    pub second: u8,
+    pub third: u8,
+    pub fourth: u8,
+    pub fifth: u8,
+    pub sixth: u8,
+    pub count: u8,
+}
+
+// What an entry does: it expands, or it deletes positions together (02, order 4).
 pub enum Rule {
     Expand,
-    Delete(usize),
+    Delete(Positions),
 }
 
 // An entry of a scheme: its prefix, its gap vectors, its rule. The components of all gap vectors

@@ -21,7 +21,7 @@ use Rattle.forms.specs.SchemeMemory.{schemeIn, entryAt, faultOf}
 use Rattle.forms.specs.declared.memory.Scheme.{Scheme}
 use Rattle.scheme.specs.WellFormed.{firstAt, outside}
 use Rattle.scheme.specs.Proper.{ProperEntry}
-use Rattle.scheme.specs.ProperLaws.{position-inside}
+use Rattle.scheme.specs.PositionLaws.{positions-inside}
 use Rattle.lost_word.specs.Shown.{ShowsWord}
 use Rattle.lost_word.specs.declared.least.LostWord.{LostWord}
 use Rattle.claims.specs.EntryMemory.{ruleCandidate}
@@ -63,7 +63,7 @@ module _ (m : ℕ) (P : List (List ℕ)) (perms : (β : List ℕ) → List·Mem�
       ruleWordUnder m P p B rule ≡ ruleCandidate m (basis P) p B rule
   unfolding ruleCandidate
   rule-word p B expands perm inside = refl
-  rule-word p B (deletes r) perm inside = shown-candidate m P perms p (r ∷ []) perm (position-inside (length p) r inside) B
+  rule-word p B (deletes R) perm inside = shown-candidate m P perms p R perm (positions-inside (length p) R inside) B
 
   module _ (E : List EntryList) (each : (e : EntryList) → List·Memᴰ e E → ProperEntry e) where
     entry-word : (i : ℕ) → entryWordUnder m P (indexedEntry E i) ≡ entryLoss m (basis P) (indexedEntry E i)

@@ -48,13 +48,13 @@ verdictOn n P E = answered (faultOf (firstFault (pageTests n P E))) (comparedCel
 abbrev pub pageAfter : List (List ℕ) → List EntryList → List ℕ → List ℕ
 pageAfter P E page = overlay 0 (bytesShown P E (faultOf (firstFault (pageTests (length page) P E)))) page
 
--- the page begins with a witness for the entry with index i, which deletes a position
+-- the page begins with a witness for the entry with index i, which deletes these positions
 pub record EntryWitness (P : List (List ℕ)) (E : List EntryList) (i : ℕ) (page : List ℕ) : Type 0 where
   pub entry : EntryList
-  pub position : ℕ
+  pub positions : List ℕ
   pub at-index : indexedEntry E i ≡ some entry
-  pub deleting : entry .rule ≡ deletes position
-  pub witness : Witnesses P (entry .prefix) (entry .gaps) (position ∷ []) page
+  pub deleting : entry .rule ≡ deletes positions
+  pub witness : Witnesses P (entry .prefix) (entry .gaps) positions page
 
 -- the answer r to the patterns P and the scheme E, with a page that holds `before`, and then
 -- `after`

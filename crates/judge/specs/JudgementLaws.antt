@@ -43,8 +43,8 @@ module _ (P : List (List ℕ)) (perms : (β : List ℕ) → List·Memᴰ β P �
   differs-basis : (m : ℕ) (p : List ℕ) (B : List (List ℕ)) (rule : Does) → differsUnder m (basis P) p B rule ≡ differsUnder m P p B rule
   unfolding differsUnder
   differs-basis m p B expands = refl
-  differs-basis m p B (deletes r) = ap (λ (f : List ℕ → Bool). any f (comparedTo m (length p) B))
-      (fun-ext (λ g. sizes-basis p (r ∷ []) g))
+  differs-basis m p B (deletes R) = ap (λ (f : List ℕ → Bool). any f (comparedTo m (length p) B))
+      (fun-ext (λ g. sizes-basis p R g))
 
   module _ (s : Scheme) where
     -- the tests on the basis are those on the set

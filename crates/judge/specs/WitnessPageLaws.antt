@@ -29,7 +29,8 @@ use Rattle.forms.specs.declared.memory.Fault.{Fault}
 use Rattle.forms.specs.declared.memory.Fault.the-variants.{Clean, At}
 use Rattle.scheme.specs.WellFormed.{firstAt, outside, patternTests, schemeTests}
 use Rattle.scheme.specs.Proper.{ProperEntry}
-use Rattle.scheme.specs.ProperLaws.{proper, proper-pattern, position-inside}
+use Rattle.scheme.specs.PositionLaws.{positions-inside}
+use Rattle.scheme.specs.ProperLaws.{proper, proper-pattern}
 use Rattle.scheme.specs.FindingLaws.{clean-append}
 use Rattle.scheme.specs.NumberLaws.{numberFound, at-number}
 use Rattle.text_page.specs.Page.{overlay}
@@ -136,14 +137,15 @@ module _ (P : List (List ℕ)) (formed : firstFault (patternTests P) ≡ clean) 
       omega (arith, length-append (half w) (half copy), half-length w h, half-length copy (omega arith))
 
   -- What a deleting entry some of whose compared sizes differ shows is a witness.
-  shown-witness : (p : List ℕ) (B : List (List ℕ)) (r : ℕ) → isPerm p ≡ true → length p ≤ PREFIX → outside (length p) (deletes r) ≡ false →
-      any (sizesDiffer P p (r ∷ [])) (compared P (length p) B) ≡ true → (page : List ℕ) → PAGE ≤ length page →
-      Witnesses P p B (r ∷ []) (overlay 0 (witnessBytes P (shownWord P p B (r ∷ []))) page)
-  shown-witness p B r perm short inside differ page long =
-      let (w, e) = shown-there (mOf P) P p (r ∷ []) perm (position-inside (length p) r inside) B differ in
-      let small = shown-length (mOf P) P p (r ∷ []) perm (position-inside (length p) r inside) B w e in
+  shown-witness : (p : List ℕ) (B : List (List ℕ)) (R : List ℕ) → isPerm p ≡ true → length p ≤ PREFIX →
+      outside (length p) (deletes R) ≡ false →
+      any (sizesDiffer P p R) (compared P (length p) B) ≡ true → (page : List ℕ) → PAGE ≤ length page →
+      Witnesses P p B R (overlay 0 (witnessBytes P (shownWord P p B R)) page)
+  shown-witness p B R perm short inside differ page long =
+      let (w, e) = shown-there (mOf P) P p R perm (positions-inside (length p) R inside) B differ in
+      let small = shown-length (mOf P) P p R perm (positions-inside (length p) R inside) B w e in
       let size = bytes-length w (omega (arith, m-small)) in
-      rw e (witnesses (mOf P) P p (r ∷ []) perm (position-inside (length p) r inside) B w (overlay 0 (witnessBytes P (some w)) page) e
+      rw e (witnesses (mOf P) P p R perm (positions-inside (length p) R inside) B w (overlay 0 (witnessBytes P (some w)) page) e
       (front (witnessBytes P (some w)) page size long))
     where
       front : (xs t : List ℕ) → length xs ≡ PAGE → PAGE ≤ length t → take PAGE (overlay 0 xs t) ≡ xs
@@ -180,7 +182,7 @@ module _ (P : List (List ℕ)) (E : List EntryList) (before after : List ℕ) (r
           deleting formed d q here (deletes s) u t long =
               record {
                 entry = d;
-                position = s;
+                positions = s;
                 at-index = here;
                 deleting = u;
                 witness = rw (page ∙ ap (λ (x : Finding). overlay 0 (bytesShown P E (faultOf x)) before) e ∙

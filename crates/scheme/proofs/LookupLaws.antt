@@ -10,7 +10,7 @@ use mathlib.Core.Option.{Option, none, some}
 use lib.ListN.{length, getD, take, drop, drop-of-length-le}
 use lib.Seq.{length-take-le, drop-cons}
 use lib.Dec.{ltb, eqb}
-use borrow.Author.Tests.{not-false, ltb-false, eqb-false, eq-eqb, ne-eqb}
+use borrow.Author.Tests.{not-false, ltb-false, eq-eqb, ne-eqb}
 use Rattle.word.specs.Ceilings.{ENTRIES, PREFIX}
 use Rattle.word.specs.Lists.{any, row}
 use Rattle.word.specs.Word.{isPerm}
@@ -19,16 +19,18 @@ use Rattle.word.specs.declared.refusal.Refusal.the-variants.{Oversize, NoPermut
 use Rattle.cell.specs.Basis.{same}
 use Rattle.cell.specs.Cell.{deleted, children}
 use Rattle.cell.specs.Child.{childAt}
-use Rattle.forms.specs.SchemeList.{EntryList}
-use Rattle.forms.specs.SchemeMemory.{padded, noEntry, entryIn, doesOf, schemeIn}
+use Rattle.forms.specs.SchemeList.{deletes, EntryList}
+use Rattle.forms.specs.SchemeMemory.{padded, noEntry, sixOf, positionsIn, entryIn, doesOf, schemeIn}
 use Rattle.scheme.specs.WellFormed.{firstAt, listed, largeEntry, outside, lacksChild, lacksTarget}
 use Rattle.scheme.specs.Links.{findFrom, findIn, findCodeFrom, findCode, foundOf, present, prefixesIn, FindsIn, Linked}
+use Rattle.forms.specs.declared.memory.Positions.{Positions}
 use Rattle.forms.specs.declared.memory.Rule.{Rule}
 use Rattle.forms.specs.declared.memory.Rule.the-variants.{Expand, Delete}
 use Rattle.forms.specs.declared.memory.Scheme.{Scheme}
 use Rattle.scheme.specs.declared.links.Found.{Found}
 use Rattle.scheme.specs.declared.links.Found.the-variants.{At, Nothing}
 use Rattle.scheme.specs.TestLaws.{first-clean, anyFrom, or-left}
+use Rattle.scheme.specs.PositionLaws.{positions-few}
 use Rattle.forms.specs.MemoryLaws.{padded-within, length-padded}
 use Rattle.forms.specs.Codes.{codeOf, Bytes, IsCode}
 use Rattle.forms.specs.CodeLaws.{code-same}
@@ -136,21 +138,21 @@ module _ (ps : List (List ℕ)) (l : List ℕ) (k : ℕ) (rule : Rule) where
       any (λ q. not (listed ps q)) (children (take k l))
   expand-child h e = rw (e, padded-within k l h) refl
 
-  pub delete-target : (r : ℕ) → k ≤ length l → rule ≡ Delete r →
-      lacksTarget ps (padded k l) (doesOf rule) ≡ not (listed ps (deleted (r ∷ []) (take k l)))
-  delete-target r h e = rw (e, padded-within k l h) refl
+  pub delete-target : (d : Positions) → k ≤ length l → rule ≡ Delete d →
+      lacksTarget ps (padded k l) (doesOf rule) ≡ not (listed ps (deleted (positionsIn d) (take k l)))
+  delete-target d h e = rw (e, padded-within k l h) refl
 
--- a position that passes test 7
-pub position-inside : (k r : ℕ) (rule : Rule) → outside k (doesOf rule) ≡ false → rule ≡ Delete r → (1 ≤ r) × (r ≤ k)
-position-inside k r rule h e = go (eqb r 0) (ltb k r) refl refl (sym (ap (λ (x : Rule). outside k (doesOf x)) e) ∙ h)
-  where
-    go : (a b : Bool) → eqb r 0 ≡ a → ltb k r ≡ b → a || b ≡ false → (1 ≤ r) × (r ≤ k)
-    go true b p q w = let z : _≡_ {A = ℕ} 0 1 = cc in absurd (omega arith)
-    go false true p q w = let z : _≡_ {A = ℕ} 0 1 = cc in absurd (omega arith)
-    go false false p q w =
-        let n : r ≡ 0 → ⊥ = eqb-false r 0 p in
-        let m : r ≤ k = ltb-false k r q in
-        (omega arith, omega arith)
+-- a set of positions that passes test 7
+pub set-inside : (k : ℕ) (d : Positions) (rule : Rule) → outside k (doesOf rule) ≡ false → rule ≡ Delete d →
+    outside k (deletes (positionsIn d)) ≡ false
+set-inside k d rule h e = sym (ap (λ (x : Rule). outside k (doesOf x)) e) ∙ h
+
+-- there are no more of them than have a name
+pub set-named : (k : ℕ) (d : Positions) → k ≤ PREFIX → outside k (deletes (positionsIn d)) ≡ false →
+    (d .count ≤ k) × (positionsIn d ≡ take (d .count) (sixOf d))
+set-named k d short h =
+    let few : d .count ≤ k = omega (arith, positions-few k (positionsIn d) h, length-padded (d .count) (sixOf d)) in
+    (few, padded-within (d .count) (sixOf d) (omega arith))
 
 -- What the tests 2, 3 and 7 leave
 

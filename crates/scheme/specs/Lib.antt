@@ -4,6 +4,7 @@ pub mod TestOrder
 pub mod Sized
 pub mod Links
 pub mod TestLaws
+pub mod PositionLaws
 pub mod FindingLaws
 pub mod NumberLaws
 pub mod Proper

@@ -7,12 +7,11 @@ use mathlib.Core.List.{List, [], _∷_, List·Memᴰ, List·Memᴰ·head, List·
 use mathlib.Core.Logic.{_⊎_, inl, inr}
 use lib.ListN.{length}
 use lib.Dec.{ltb, eqb}
-use borrow.Author.Tests.{ltb-false, eqb-true, eqb-false}
+use borrow.Author.Tests.{ltb-false, eqb-true}
 use Rattle.word.specs.Ceilings.{DIGITS, PATTERNS, ENTRIES, PREFIX, COMPONENTS, GAPS, TOTAL}
-use Rattle.word.specs.Lists.{all, any}
-use Rattle.word.specs.Word.{isPerm, within}
-use Rattle.word.specs.ListLaws.{true-not-false, and-in, any-in, row-in, below-or-not}
-use Rattle.word.specs.PermLaws.{within-in}
+use Rattle.word.specs.Lists.{any}
+use Rattle.word.specs.Word.{isPerm}
+use Rattle.word.specs.ListLaws.{true-not-false, any-in, row-in, below-or-not}
 use Rattle.word.specs.Patterns.{isPattern}
 use Rattle.word.specs.Finding.{clean, firstFault}
 use Rattle.word.specs.declared.refusal.Refusal.the-variants.{Oversize, NoPermutation, Rootless, Width, NoPosition, Childless, NoTarget}
@@ -21,7 +20,7 @@ use Rattle.cell.specs.Cell.{total, children}
 use Rattle.cell.specs.BuiltCells.{same-out}
 use Rattle.cell.specs.Child.{childAt}
 use Rattle.cell.specs.ChildLaws.{child-length, children-all}
-use Rattle.forms.specs.SchemeList.{expands, deletes, EntryList}
+use Rattle.forms.specs.SchemeList.{expands, EntryList}
 use Rattle.forms.specs.SchemeMemory.{entryAt, schemeIn}
 use Rattle.forms.specs.declared.memory.Scheme.{Scheme}
 use Rattle.scheme.specs.WellFormed.{listed, largeGap, largeEntry, wrongWidth, outside, lacksChild}
@@ -188,10 +187,3 @@ module _ (s : Scheme) (h : Proper (schemeIn s)) where
 
   pub proper-at : (i : ℕ) → i < s .count → ProperEntry (entryAt s i)
   proper-at i k = h .each (entryAt s i) (entry-in i k)
-
--- a position inside 1 to k
-pub position-inside : (k r : ℕ) → outside k (deletes r) ≡ false → all (within k) (r ∷ []) ≡ true
-position-inside k r e =
-    let n : r ≡ 0 → ⊥ = eqb-false r 0 (or-left (eqb r 0) (ltb k r) e) in
-    let m : r ≤ k = ltb-false k r (or-right (eqb r 0) (ltb k r) e) in
-    and-in (within k r) true (within-in k r (omega arith) m) refl

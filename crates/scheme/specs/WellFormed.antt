@@ -4,7 +4,7 @@ use Prim.Native.Nat.{ℕ, suc}
 use mathlib.Core.Bool.{Bool, false, not, cond, _||_}
 use mathlib.Core.List.{List, [], _∷_, map}
 use lib.ListN.{length}
-use lib.Dec.{ltb, eqb}
+use lib.Dec.{leb, ltb, eqb}
 use Rattle.word.specs.Ceilings.{DIGITS, PATTERNS, ENTRIES, PREFIX, COMPONENTS, GAPS, TOTAL}
 use Rattle.word.specs.Lists.{any}
 use Rattle.word.specs.Word.{isPerm}
@@ -61,20 +61,27 @@ twinEntry seen e = listed (map (λ d. d .prefix) seen) (e .prefix) || repeats (e
 abbrev pub wrongWidth : EntryList → Bool
 wrongWidth e = any (λ b. not (eqb (length b) (suc (length (e .prefix))))) (e .gaps)
 
--- "deletion outside 1 to k" (01)
+-- a position is not above the one before it, or is above k; the first is compared with 0, so that
+-- it is at least 1
+abbrev pub astray : ℕ → ℕ → List ℕ → Bool
+astray k a [] = false
+astray k a (r ∷ R) = (leb r a || ltb k r) || astray k r R
+
+-- "deletion outside 1 to k" (01), and of a set: "an empty set, or a repeated, falling or outside
+-- position, is refused 7" (02, order 4)
 abbrev pub outside : ℕ → Does → Bool
 outside k expands = false
-outside k (deletes r) = eqb r 0 || ltb k r
+outside k (deletes R) = eqb (length R) 0 || astray k 0 R
 
 -- "an expanding entry lacks a child" (01), among these prefixes
 abbrev pub lacksChild : List (List ℕ) → List ℕ → Does → Bool
 lacksChild ps p expands = any (λ q. not (listed ps q)) (children p)
-lacksChild ps p (deletes r) = false
+lacksChild ps p (deletes R) = false
 
 -- "the shorter prefix has no entry" (01)
 abbrev pub lacksTarget : List (List ℕ) → List ℕ → Does → Bool
 lacksTarget ps p expands = false
-lacksTarget ps p (deletes r) = not (listed ps (deleted (r ∷ []) p))
+lacksTarget ps p (deletes R) = not (listed ps (deleted R p))
 
 -- the tests 2 to 9 of a scheme list, each over the whole list
 abbrev pub countTest : List EntryList → Finding

@@ -5,10 +5,10 @@ use native.Mathlib.Numerals.{add-one}
 use native.Mathlib.Omega.{arith}
 use mathlib.Core.Path.{_≡_, refl, sym, ap, ap₂, _∙_}
 use mathlib.Core.Logic.{_⊎_, inl, inr}
+use mathlib.Core.Bool.{true, false}
 use mathlib.Core.List.{List, [], _∷_}
 use lib.ListN.{length, getD, take, drop, set, drop-of-length-le}
 use lib.Seq.{length-take-le, drop-cons, getD-take, take-set-lt}
-use borrow.Author.Tests.{eq-eqb, ne-eqb}
 use Rattle.word.specs.Ceilings.{LENGTH}
 use Rattle.word.specs.Word.{has}
 use Rattle.word.specs.ListLaws.{below-or-not}
@@ -19,26 +19,35 @@ use Rattle.spacing.specs.Rank.{rankAfter, carry, nextOf}
 use Rattle.spacing.specs.RankLaws.{leaveFrom, merge-rank}
 use Rattle.spacing.specs.PascalLaws.{binomial-small}
 
--- The walk: what is counted, and what is still to come. G is the spacing, z the next value, t its
--- number.
-pub record Walk (G : List ℕ) (k v start z count rank t : ℕ) : Type 0 where
-  pub whole : rankAfter start 0 (mergeValues (v ∷ []) G) ≡ rank + leaveFrom (v ∷ []) t count z (drop t G)
+-- The walk: what is counted, and what is still to come. G is the spacing, vs are the values that
+-- are left out, z is the next value, t its number.
+pub record Walk (G : List ℕ) (k : ℕ) (vs : List ℕ) (start z count rank t : ℕ) : Type 0 where
+  pub whole : rankAfter start 0 (mergeValues vs G) ≡ rank + leaveFrom vs t count z (drop t G)
   pub low : 1 ≤ t
   pub high : t ≤ k + 1
   pub counted : count < start + t
   pub fits : z + total (drop t G) + (k + 1 - t) ≤ LENGTH
   pub small : rank ≤ t * CHOICES
 
-module _ (G : List ℕ) (k v start : ℕ) (size : length G ≡ k + 1) where
-  pub walk-start : k + total G ≤ LENGTH → Walk G k v start (getD G 0 0) start 0 1
+-- where no value is left out
+pub none-left : (t : ℕ) → has t [] ≡ false
+unfolding has
+none-left t = refl
+
+-- the spacing is the first k + 1 components of an array
+module _ (g : List ℕ) (k : ℕ) (vs : List ℕ) (start : ℕ) (room : k < length g) where
+  wide : length (take (k + 1) g) ≡ k + 1
+  wide = length-take-le (k + 1) g (omega arith)
+
+  pub walk-start : (z : ℕ) → z ≡ getD g 0 0 → k + total (take (k + 1) g) ≤ LENGTH → Walk (take (k + 1) g) k vs start z start 0 1
   unfolding total
-  walk-start h = go G size h
+  walk-start z q h = rw (q ∙ sym (getD-take (k + 1) g 0 0 (omega arith))) (go (take (k + 1) g) wide h)
     where
-      go : (l : List ℕ) → length l ≡ k + 1 → k + total l ≤ LENGTH → Walk l k v start (getD l 0 0) start 0 1
+      go : (l : List ℕ) → length l ≡ k + 1 → k + total l ≤ LENGTH → Walk l k vs start (getD l 0 0) start 0 1
       go [] e h = absurd (omega arith)
       go (x ∷ l) e h =
           record {
-            whole = merge-rank (v ∷ []) start x l ∙ omega arith;
+            whole = merge-rank vs start x l ∙ omega arith;
             low = omega arith;
             high = omega arith;
             counted = omega arith;
@@ -46,20 +55,23 @@ module _ (G : List ℕ) (k v start : ℕ) (size : length G ≡ k + 1) where
             small = omega arith;
           }
 
-  module _ (z count rank t : ℕ) (w : Walk G k v start z count rank t) where
+  module _ (z count rank t : ℕ) (w : Walk (take (k + 1) g) k vs start z count rank t) where
     module _ (h : t ≤ k) where
-      cut : drop t G ≡ getD G t 0 ∷ drop (suc t) G
-      cut = drop-cons G t 0 (omega arith)
+      component : (y : ℕ) → y ≡ getD g t 0 → y ≡ getD (take (k + 1) g) t 0
+      component y q = q ∙ sym (getD-take (k + 1) g t 0 (omega arith))
 
-      rest : total (drop t G) ≡ getD G t 0 + total (drop (suc t) G)
+      cut : drop t (take (k + 1) g) ≡ getD (take (k + 1) g) t 0 ∷ drop (suc t) (take (k + 1) g)
+      cut = drop-cons (take (k + 1) g) t 0 (omega (arith, wide))
+
+      rest : total (drop t (take (k + 1) g)) ≡ getD (take (k + 1) g) t 0 + total (drop (suc t) (take (k + 1) g))
       unfolding total
       rest = ap total cut
 
-      leave : t ≡ v → Walk G k v start (z + getD G t 0) count rank (t + 1)
-      unfolding leaveFrom has
-      leave e =
+      leave : (y : ℕ) → y ≡ getD (take (k + 1) g) t 0 → has t vs ≡ true → Walk (take (k + 1) g) k vs start (z + y) count rank (t + 1)
+      unfolding leaveFrom
+      leave y q e =
           record {
-            whole = w .whole ∙ ap (λ n. rank + n) (ap (leaveFrom (v ∷ []) t count z) cut ∙ rw (eq-eqb t v e, add-one t) refl);
+            whole = w .whole ∙ ap (λ n. rank + n) (ap (leaveFrom vs t count z) cut ∙ rw (e, add-one t, q) refl);
             low = omega arith;
             high = omega arith;
             counted = omega (arith, w .counted);
@@ -67,24 +79,27 @@ module _ (G : List ℕ) (k v start : ℕ) (size : length G ≡ k + 1) where
             small = omega (arith, w .small);
           }
 
-      pub next-small : (y : ℕ) → y ≡ getD G t 0 → z + y ≤ LENGTH
-      next-small y q = omega (arith, w .fits, rest)
+      pub next-small : (y : ℕ) → y ≡ getD g t 0 → z + y ≤ LENGTH
+      next-small y q = omega (arith, w .fits, rest, component y q)
 
-      pub walk-leave : (y : ℕ) → y ≡ getD G t 0 → t ≡ v → Walk G k v start (z + y) count rank (t + 1)
-      walk-leave y q e = rw q (leave e)
+      pub walk-leave : (y : ℕ) → y ≡ getD g t 0 → has t vs ≡ true → Walk (take (k + 1) g) k vs start (z + y) count rank (t + 1)
+      walk-leave y q e = leave y (component y q) e
 
       pub value-small : z ≤ LENGTH
       value-small = omega (arith, w .fits)
 
-      keeps : (t ≡ v → ⊥) → Walk G k v start (z + 1 + getD G t 0) (count + 1) (rank + binomial z (count + 1)) (t + 1)
-      unfolding leaveFrom has
-      keeps e =
-          let m : suc z + getD G t 0 ≡ z + 1 + getD G t 0 = omega arith in
-          let step : leaveFrom (v ∷ []) t count z (getD G t 0 ∷ drop (suc t) G) ≡
-          binomial z (count + 1) + leaveFrom (v ∷ []) (t + 1) (count + 1) (z + 1 + getD G t 0) (drop (t + 1) G) =
-          rw (ne-eqb t v e, ← m, add-one t, add-one count) refl in
+      keeps : (y : ℕ) → y ≡ getD (take (k + 1) g) t 0 → has t vs ≡ false →
+          Walk (take (k + 1) g) k vs start (z + 1 + y) (count + 1) (rank + binomial z (count + 1)) (t + 1)
+      unfolding leaveFrom
+      keeps y q e =
+          let m : suc z + y ≡ z + 1 + y = omega arith in
+          let step : leaveFrom vs t count z (y ∷ drop (suc t) (take (k + 1) g)) ≡
+          binomial z (count + 1) + leaveFrom vs (t + 1) (count + 1) (z + 1 + y) (drop (t + 1) (take (k + 1) g)) =
+          rw (e, ← m, add-one t, add-one count) refl in
+          let shape : drop t (take (k + 1) g) ≡ y ∷ drop (suc t) (take (k + 1) g) =
+          cut ∙ ap (λ n. n ∷ drop (suc t) (take (k + 1) g)) (sym q) in
           record {
-            whole = w .whole ∙ ap (λ n. rank + n) (ap (leaveFrom (v ∷ []) t count z) cut ∙ step) ∙ omega arith;
+            whole = w .whole ∙ ap (λ n. rank + n) (ap (leaveFrom vs t count z) shape ∙ step) ∙ omega arith;
             low = omega arith;
             high = omega arith;
             counted = omega (arith, w .counted);
@@ -92,16 +107,16 @@ module _ (G : List ℕ) (k v start : ℕ) (size : length G ≡ k + 1) where
             small = omega (arith, w .small, binomial-small z (count + 1) value-small);
           }
 
-      pub walk-keep : (y n : ℕ) → y ≡ getD G t 0 → n ≡ binomial z (count + 1) → (t ≡ v → ⊥) →
-          Walk G k v start (z + 1 + y) (count + 1) (rank + n) (t + 1)
-      walk-keep y n q r e = rw (q, r) (keeps e)
+      pub walk-keep : (y n : ℕ) → y ≡ getD g t 0 → n ≡ binomial z (count + 1) → has t vs ≡ false →
+          Walk (take (k + 1) g) k vs start (z + 1 + y) (count + 1) (rank + n) (t + 1)
+      walk-keep y n q r e = rw r (keeps y (component y q) e)
 
-    pub walk-end : k < t → rank ≡ rankAfter start 0 (mergeValues (v ∷ []) G)
+    pub walk-end : k < t → rank ≡ rankAfter start 0 (mergeValues vs (take (k + 1) g))
     unfolding leaveFrom
     walk-end h = sym (w .whole ∙ rw ended (omega arith))
       where
-        ended : drop t G ≡ []
-        ended = let h : length G ≤ t = omega arith in drop-of-length-le G h
+        ended : drop t (take (k + 1) g) ≡ []
+        ended = let h : length (take (k + 1) g) ≤ t = omega (arith, wide) in drop-of-length-le (take (k + 1) g) h
 
 -- The next spacing: the first m components of h are 0.
 

@@ -2,6 +2,8 @@
 pub mod Following
 pub mod SpacingOrder
 pub mod LexLaws
+pub mod Flagged
+pub mod FlaggedLaws
 pub mod Rank
 pub mod Sizes
 pub mod Pascal

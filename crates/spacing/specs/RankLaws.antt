@@ -8,7 +8,6 @@ use mathlib.Core.Logic.{_⊎_, inl, inr}
 use mathlib.Core.Bool.{Bool, true, false, cond}
 use mathlib.Core.List.{List, [], _∷_}
 use lib.ListN.{length}
-use borrow.Author.Tests.{ne-eqb}
 use Rattle.word.specs.ListLaws.{below-or-not}
 use Rattle.word.specs.Word.{has}
 use Rattle.cell.specs.Cell.{total, mergeFrom, mergeValues}
@@ -254,14 +253,39 @@ pub merge-rank : (vs : List ℕ) (i x : ℕ) (g : List ℕ) → rankAfter i 0 (m
 unfolding mergeValues
 merge-rank vs i x g = merge-after vs 1 i 0 x g ∙ (let e : 0 + x ≡ x = omega arith in ap (λ z. leaveFrom vs 1 i z g) e)
 
--- no value is 0
-merge-after-none : (u x : ℕ) (g : List ℕ) → 0 < u → mergeFrom (0 ∷ []) u x g ≡ x ∷ g
-unfolding mergeFrom has
-merge-after-none u x [] h = refl
-merge-after-none u x (y ∷ g) h = rw (ne-eqb u 0 (λ (e : u ≡ 0). omega arith))
-    (ap (λ (l : List ℕ). x ∷ l) (merge-after-none (suc u) y g (omega arith)))
+-- the rank where nothing comes before
+pub after-nothing : (g : List ℕ) → rankAfter 0 0 g ≡ rankOf g
+unfolding rankOf
+after-nothing g = refl
 
-pub merge-none : (g : List ℕ) → mergeValues (0 ∷ []) g ≡ g
+-- no value merges nothing
+merge-after-none : (u x : ℕ) (g : List ℕ) → mergeFrom [] u x g ≡ x ∷ g
+unfolding mergeFrom has
+merge-after-none u x [] = refl
+merge-after-none u x (y ∷ g) = ap (λ (l : List ℕ). x ∷ l) (merge-after-none (suc u) y g)
+
+pub merge-none : (g : List ℕ) → mergeValues [] g ≡ g
 unfolding mergeValues
 merge-none [] = refl
-merge-none (x ∷ g) = merge-after-none 1 x g (omega arith)
+merge-none (x ∷ g) = merge-after-none 1 x g
+
+-- a merge depends only on which of the values 1 to k a list has
+merge-after-same : (vs ws : List ℕ) (u x : ℕ) (g : List ℕ) → ((v : ℕ) → u ≤ v → v < u + length g → has v vs ≡ has v ws) →
+    mergeFrom vs u x g ≡ mergeFrom ws u x g
+unfolding mergeFrom
+merge-after-same vs ws u x [] h = refl
+merge-after-same vs ws u x (y ∷ g) h =
+    let later : (v : ℕ) → suc u ≤ v → v < suc u + length g → has v vs ≡ has v ws =
+    λ (v : ℕ) (low : suc u ≤ v) (high : v < suc u + length g). h v (omega arith) (omega arith) in
+    rw (
+      h u (omega arith) (omega arith),
+      merge-after-same vs ws (suc u) (x + y) g later,
+      merge-after-same vs ws (suc u) y g later,
+    ) refl
+
+pub merge-same : (vs ws g : List ℕ) (k : ℕ) → length g ≡ suc k → ((v : ℕ) → 1 ≤ v → v ≤ k → has v vs ≡ has v ws) →
+    mergeValues vs g ≡ mergeValues ws g
+unfolding mergeValues
+merge-same vs ws [] k e h = refl
+merge-same vs ws (x ∷ g) k e h =
+    merge-after-same vs ws 1 x g (λ (v : ℕ) (low : 1 ≤ v) (high : v < 1 + length g). h v low (omega arith))

@@ -1,6 +1,6 @@
 -- How large binomials, ranks and the table can be, from the ceilings. Definitions only.
 use Prim.Native.Nat.{ℕ, _+_, _*_, _^_}
-use Rattle.word.specs.Ceilings.{ENTRIES, COMPONENTS, LENGTH, COUNTS, COLUMNS}
+use Rattle.word.specs.Ceilings.{ENTRIES, PREFIX, COMPONENTS, LENGTH, COUNTS, COLUMNS}
 
 -- the binomials in memory: a row for each length from 0 on, 21 * 8 = 168 of them
 abbrev pub BINOMIALS : ℕ
@@ -18,6 +18,11 @@ RANKS = COMPONENTS * CHOICES
 abbrev pub NEAR : ℕ
 NEAR = ENTRIES * CHOICES
 
--- the cells of the table: two rows, and a place in it is that of a row and one in the row
+-- where a row of the table begins: a table keeps a row more than an entry deletes positions, so up
+-- to PREFIX rows come before it
+abbrev pub BLOCKS : ℕ
+BLOCKS = PREFIX * NEAR
+
+-- the cells of the table; a place in it is that of a row and one in the row
 abbrev pub FAR : ℕ
-FAR = NEAR + NEAR
+FAR = BLOCKS + NEAR

@@ -3,21 +3,20 @@ use crate::binomials::choose;
 use word::bytes::wide;
 use word::limits::COMPONENTS;
 ghost use mathlib.Core.Path.{_≡_};
-ghost use mathlib.Core.List.{[], _∷_};
 ghost use Prim.Native.Nat.{_+_, _≤_, _<_};
 ghost use lib.ListN.{length, take};
 ghost use Rattle.word.specs.Ceilings.{PREFIX, COMPONENTS, LENGTH};
 ghost use Rattle.cell.specs.Cell.{total, mergeValues};
 ghost use Rattle.spacing.specs.Sizes.{RANKS};
-ghost use Rattle.spacing.specs.Rank.{rankAfter, nextOf};
+ghost use Rattle.spacing.specs.Flagged.{flagged};
+ghost use Rattle.spacing.specs.Rank.{rankAfter, rankOf, nextOf};
 ghost use Rattle.spacing.specs.Pascal.{Pascal};
 
-// The rank of the spacing without the value v: components v - 1 and v added into one. Where v is 0,
-// that of the spacing itself. With a `start` of 1 each value is counted as if one more came before
-// it.
-pub fn rank_without(g: [u8; COMPONENTS], k: usize, v: usize, start: usize, b: &[usize]) -> usize
+// The rank of the spacing, where `start` values more come before its values: each is then counted
+// as if so many came before it. With a `start` of 0 it is the rank itself.
+pub fn rank_after(g: [u8; COMPONENTS], k: usize, start: usize, b: &[usize]) -> usize
     requires { ⌜ (k ≤ PREFIX) × (start ≤ 1) × (k + total (take (k + 1) g) ≤ LENGTH) × Pascal (now b) ⌝ }
-    ensures { λ r. ⌜ (r ≡ rankAfter start 0 (mergeValues (v ∷ []) (take (k + 1) g))) × (r ≤ RANKS) ⌝ }
+    ensures { λ r. ⌜ (r ≡ rankAfter start 0 (take (k + 1) g)) × (r ≤ RANKS) ⌝ }
 {
     let mut z = wide(g[0]);
     let mut count = start;
@@ -25,14 +24,34 @@ pub fn rank_without(g: [u8; COMPONENTS], k: usize, v: usize, start: usize, b: &[
     let mut t: usize = 1;
     while t <= k {
         let y = wide(g[t]);
-        if t == v {
+        count += 1;
+        rank += choose(b, z, count);
+        z = z + 1 + y;
+        t += 1;
+    }
+    rank
+}
+
+// The rank of the spacing without the flagged values: for each such value v the components v - 1
+// and v are added into one.
+pub fn rank_without(g: [u8; COMPONENTS], k: usize, gone: [u8; COMPONENTS], b: &[usize]) -> usize
+    requires { ⌜ (k ≤ PREFIX) × (k + total (take (k + 1) g) ≤ LENGTH) × Pascal (now b) ⌝ }
+    ensures { λ r. ⌜ (r ≡ rankOf (mergeValues (flagged gone k) (take (k + 1) g))) × (r ≤ RANKS) ⌝ }
+{
+    let mut z = wide(g[0]);
+    let mut count: usize = 0;
+    let mut rank: usize = 0;
+    let mut v: usize = 1;
+    while v <= k {
+        let y = wide(g[v]);
+        if gone[v] != 0 {
             z += y;
-            t += 1;
+            v += 1;
         } else {
             count += 1;
             rank += choose(b, z, count);
             z = z + 1 + y;
-            t += 1;
+            v += 1;
         }
     }
     rank

@@ -15,7 +15,7 @@ use Rattle.word.specs.Earliest.{earliest, positionsOf}
 use Rattle.containment.specs.Containment.{containment}
 use Rattle.containment.specs.declared.Contained.{Contained}
 use Rattle.containment.specs.declared.Contained.the-variants.{Yes, No}
-use Rattle.word.specs.declared.refusal.Refusal.the-variants.{Rootless, LiveGap, Irreversible}
+use Rattle.word.specs.declared.refusal.Refusal.the-variants.{Rootless, NoPosition, LiveGap, Irreversible}
 use Rattle.cell.specs.Basis.{same, basis}
 use Rattle.cell.specs.Cell.{spacing, cell, deleted, merged, vectors, free, total, children, mOf, comparedTo}
 use Rattle.forms.specs.SchemeList.{Does, expands, deletes, EntryList}
@@ -135,8 +135,8 @@ set123 = (1 ∷ 2 ∷ 3 ∷ []) ∷ []
 
 abbrev scheme123 : ℕ → List EntryList
 scheme123 r =
-    entry [] [] expands ∷ entry (1 ∷ []) [] expands ∷ entry (1 ∷ 2 ∷ []) ((0 ∷ 0 ∷ 1 ∷ []) ∷ []) (deletes r) ∷ entry
-    (2 ∷ 1 ∷ []) [] (deletes 1) ∷ []
+    entry [] [] expands ∷ entry (1 ∷ []) [] expands ∷ entry (1 ∷ 2 ∷ []) ((0 ∷ 0 ∷ 1 ∷ []) ∷ []) (deletes (r ∷ [])) ∷ entry
+    (2 ∷ 1 ∷ []) [] (deletes (1 ∷ [])) ∷ []
 
 -- the set {12345}, which is superfluous beside {123}
 abbrev set12345 : List (List ℕ)
@@ -144,7 +144,16 @@ set12345 = (1 ∷ 2 ∷ 3 ∷ 4 ∷ 5 ∷ []) ∷ []
 
 -- `{(ε,∅,∅),(1,∅,{1})}` with these gap vectors on ε and on 1
 abbrev scheme1 : List (List ℕ) → List (List ℕ) → List EntryList
-scheme1 B C = entry [] B expands ∷ entry (1 ∷ []) C (deletes 1) ∷ []
+scheme1 B C = entry [] B expands ∷ entry (1 ∷ []) C (deletes (1 ∷ [])) ∷ []
+
+-- the set {132}, and a scheme for it with 12 deleting the positions R
+abbrev set132 : List (List ℕ)
+set132 = (1 ∷ 3 ∷ 2 ∷ []) ∷ []
+
+abbrev scheme132 : List ℕ → List EntryList
+scheme132 R =
+    entry [] [] expands ∷ entry (1 ∷ []) [] expands ∷ entry (1 ∷ 2 ∷ []) ((0 ∷ 1 ∷ 0 ∷ []) ∷ []) (deletes R) ∷ entry
+    (2 ∷ 1 ∷ []) [] (deletes (1 ∷ [])) ∷ []
 
 unfoldable pub starred : List Example
 starred =
@@ -223,6 +232,28 @@ starred =
     record { asked = judgingTexts "{123,12345}" "{(ε,∅,∅),(1,∅,∅),(12,{⟨0,0,1⟩},{2}),(21,∅,{1})}"; told = tells 0 (16 ∷ []) } ∷
     record { asked = judgingTexts "{12345,123}" "{(ε,∅,∅),(1,∅,∅),(12,{⟨0,0,1⟩},{2}),(21,∅,{1})}"; told = tells 0 (16 ∷ []) } ∷
     record { asked = comparingUnder 5 (scheme123 2); told = countIs 50 } ∷
+    -- order 4 of document 02: {132} with 12 and ⟨0,1,0⟩ deletes {1}, and deletes {2}, 16 compared
+    -- cells each, but not {1,2}: 1243 is shown, and the copy at 1, 3, 4
+    record { asked = judging set132 (scheme132 (1 ∷ [])); told = verdictIs (Accepted 16) } ∷
+    record { asked = judging set132 (scheme132 (2 ∷ [])); told = verdictIs (Accepted 16) } ∷
+    record { asked = judging set132 (scheme132 (1 ∷ 2 ∷ [])); told = verdictIs (Refused Irreversible 2) } ∷
+    record {
+      asked = showing set132 (1 ∷ 2 ∷ []) ((0 ∷ 1 ∷ 0 ∷ []) ∷ []) (1 ∷ 2 ∷ []);
+      told = shows (1 ∷ 2 ∷ 4 ∷ 3 ∷ []) (1 ∷ 3 ∷ 4 ∷ []);
+    } ∷
+    record { asked = judgingTexts "{132}" "{(ε,∅,∅),(1,∅,∅),(12,{⟨0,1,0⟩},{1}),(21,∅,{1})}"; told = tells 0 (16 ∷ []) } ∷
+    record { asked = judgingTexts "{132}" "{(ε,∅,∅),(1,∅,∅),(12,{⟨0,1,0⟩},{2}),(21,∅,{1})}"; told = tells 0 (16 ∷ []) } ∷
+    record { asked = judgingTexts "{132}" "{(ε,∅,∅),(1,∅,∅),(12,{⟨0,1,0⟩},{1,2}),(21,∅,{1})}"; told = tells 11 (2 ∷ []) } ∷
+    -- a deletion of two positions, and the spacing with both runs of components merged
+    record { asked = deletion (1 ∷ 2 ∷ []) (3 ∷ 1 ∷ 2 ∷ []) (1 ∷ 0 ∷ 3 ∷ 2 ∷ []); told = prefixAndSpacing (1 ∷ []) (1 ∷ 5 ∷ []) } ∷
+    -- "an empty set, or a repeated, falling or outside position, is refused 7"
+    record { asked = judging set132 (scheme132 []); told = verdictIs (Refused NoPosition 2) } ∷
+    record { asked = judging set132 (scheme132 (1 ∷ 1 ∷ [])); told = verdictIs (Refused NoPosition 2) } ∷
+    record { asked = judgingTexts "{132}" "{(ε,∅,∅),(1,∅,∅),(12,{⟨0,1,0⟩},{2,1}),(21,∅,{1})}"; told = tells 7 (2 ∷ []) } ∷
+    record { asked = judgingTexts "{132}" "{(ε,∅,∅),(1,∅,∅),(12,{⟨0,1,0⟩},{1,3}),(21,∅,{1})}"; told = tells 7 (2 ∷ []) } ∷
+    record { asked = judgingTexts "{132}" "{(ε,∅,∅),(1,∅,∅),(12,{⟨0,1,0⟩},{1,}),(21,∅,{1})}"; told = tells 1 (0 ∷ []) } ∷
+    -- ∅ with `(12,∅,{1,2}),(21,∅,{1,2})`: n = 4 gives 24
+    record { asked = countingTexts "∅" "{(ε,∅,∅),(1,∅,∅),(12,∅,{1,2}),(21,∅,{1,2})}" 4; told = countIs 24 } ∷
     []
 
 -- every row of the table holds

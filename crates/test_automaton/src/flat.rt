@@ -1,6 +1,7 @@
 // A list as numbers in a row, by which what two readers read is compared. A set: for each pattern
 // its digits and a stop. A scheme: for each entry its digits and a stop; for each gap vector its
-// components and a stop; a stop; then the position deleted, or a stop for an entry that expands.
+// components and a stop; a stop; then the positions deleted, none for an entry that expands, and a
+// stop.
 use test_support::counts::wide;
 use test_support::parts::byte_at;
 

@@ -172,27 +172,30 @@ const GAP_ROWS: [[u8; 5]; GAP_LISTS] = [
     [GAPS_PAST, b',', b',', RULE, CLOSE],
 ];
 // how many are the rows of the third part of an entry
-const RULES: usize = 18;
+const RULES: usize = 21;
 // the rows of the third part of an entry
 const RULE_ROWS: [[u8; 5]; RULES] = [
     [RULE, b' ', b' ', RULE, SKIP],
     [RULE, 0xE2, 0xE2, RULE_1, SKIP],
     [RULE_1, 0x88, 0x88, RULE_2, SKIP],
-    [RULE_2, 0x85, 0x85, RULE_PAST, CLOSE],
+    [RULE_2, 0x85, 0x85, RULE_PAST, SKIP],
     [RULE, b'{', b'{', PLACE, SKIP],
     [PLACE, b' ', b' ', PLACE, SKIP],
     [PLACE, b'0', b'0', PLACE_PAST, FIRST],
     [PLACE, b'1', b'9', PLACE_1, FIRST],
     [PLACE_1, b'0', b'9', PLACE_2, NEXT],
     [PLACE_1, b' ', b' ', PLACE_PAST, SKIP],
+    [PLACE_1, b',', b',', PLACE, PUT],
     [PLACE_1, b'}', b'}', RULE_PAST, PUT],
     [PLACE_2, b'0', b'9', PLACE_PAST, NEXT],
     [PLACE_2, b' ', b' ', PLACE_PAST, SKIP],
+    [PLACE_2, b',', b',', PLACE, PUT],
     [PLACE_2, b'}', b'}', RULE_PAST, PUT],
     [PLACE_PAST, b' ', b' ', PLACE_PAST, SKIP],
+    [PLACE_PAST, b',', b',', PLACE, PUT],
     [PLACE_PAST, b'}', b'}', RULE_PAST, PUT],
     [RULE_PAST, b' ', b' ', RULE_PAST, SKIP],
-    [RULE_PAST, b')', b')', ENTRY_PAST, SKIP],
+    [RULE_PAST, b')', b')', ENTRY_PAST, CLOSE],
 ];
 // how many rows there are in all
 pub const ROWS: usize = SETS + ENTRIES + GAP_LISTS + RULES;

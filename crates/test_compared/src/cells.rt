@@ -28,7 +28,7 @@ pub fn compared(scheme: &[u8], m: usize) -> u64 {
 
 // The compared cells of an entry: none for one that expands, and none behind the last entry.
 fn of_entry(entry: &[u8], m: usize) -> u64 {
-    if deleted(entry) == 0 {
+    if size(deleted(entry)) == 0 {
         return 0;
     }
     let parts = std::num::wrapping_add_usize(size(prefix(entry)), 1);

@@ -19,9 +19,12 @@ const IRREVERSIBLE: [u8; 62] =
 const SCHROEDER: [u8; 62] =
     *b"{(\xCE\xB5,\xE2\x88\x85,\xE2\x88\x85),(1,\xE2\x88\x85,\xE2\x88\x85),(12,{\xE2\x9F\xA80,2,0\xE2\x9F\xA9},{2}),(21,\xE2\x88\x85,{1})}";
 // no patterns: `∅`
-const EMPTY: [u8; 3] = *b"\xE2\x88\x85";
+pub const EMPTY: [u8; 3] = *b"\xE2\x88\x85";
 // the scheme of all permutations: `{(ε,∅,∅),(1,∅,{1})}`
-const ALL: [u8; 26] = *b"{(\xCE\xB5,\xE2\x88\x85,\xE2\x88\x85),(1,\xE2\x88\x85,{1})}";
+pub const ALL: [u8; 26] = *b"{(\xCE\xB5,\xE2\x88\x85,\xE2\x88\x85),(1,\xE2\x88\x85,{1})}";
+// the same by sets of two: `{(ε,∅,∅),(1,∅,∅),(12,∅,{1,2}),(21,∅,{1,2})}`
+const PAIRS: [u8; 56] =
+    *b"{(\xCE\xB5,\xE2\x88\x85,\xE2\x88\x85),(1,\xE2\x88\x85,\xE2\x88\x85),(12,\xE2\x88\x85,{1,2}),(21,\xE2\x88\x85,{1,2})}";
 
 // The lines of all examples, in the order of document 01.
 pub fn lines() {
@@ -29,6 +32,7 @@ pub fn lines() {
     tables();
     all_permutations();
     refused_scheme();
+    sets();
 }
 
 // "n = 20 is counted, 21 refused 2" (01).
@@ -57,6 +61,21 @@ fn refused_scheme() {
     line(b"refused-scheme", b"{123}", &IRREVERSIBLE, 6, CELLS);
 }
 
+// "The table then needs (1 + the largest set) times the sum in 01" (02, order 4): three times 17
+// cells at n = 4, three times one cell at n = 0.
+fn sets() {
+    pairs(b"three-rows-of-17-cells", 4, 51);
+    pairs(b"three-rows-one-cell-too-few", 4, 50);
+    pairs(b"three-rows-at-length-20", LENGTH, CELLS);
+    pairs(b"three-rows-at-length-0", 0, 3);
+    pairs(b"three-rows-two-cells", 0, 2);
+}
+
+// The line of no patterns by sets of two at the length n with so many cells.
+fn pairs(label: &[u8], n: usize, cells: usize) {
+    line(label, &EMPTY, &PAIRS, n, cells);
+}
+
 // The line of {123} at the length n with the whole page.
 fn catalan(label: &[u8], n: usize) {
     line(label, b"{123}", &CATALAN, n, CELLS);
@@ -83,13 +102,19 @@ fn line(label: &[u8], set: &[u8], text: &[u8], n: usize, cells: usize) {
     end_line(run(patterns, scheme, n, cells));
 }
 
-// The answer, and what became of the page.
+// The answer, and what became of the page, as a line.
 fn end_line(r: Left) {
+    outcome(r);
+    print::end();
+}
+
+// The answer, and what became of the page.
+pub fn outcome(r: Left) {
     let answer = r.answer;
     print_answer(answer);
     if r.kept {
-        print::text(b" kept\n");
+        print::text(b" kept");
     } else {
-        print::either(r.cleared, b" cleared\n", b" changed\n");
+        print::either(r.cleared, b" cleared", b" changed");
     }
 }

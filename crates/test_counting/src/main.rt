@@ -1,10 +1,12 @@
 // A test program: counts by pairs of lines, a set and a scheme, from standard input, and prints a
 // line a pair. Its input holds the accepted schemes of the published papers; the counts that it is
-// to print are theirs. Then come the examples of document 01 on lengths and tables.
+// to print are theirs. Then come the examples of document 01 on lengths and tables, and sets of
+// positions that no text gives.
 mod avoiders;
 mod examples;
 mod need;
 mod page;
+mod sets;
 mod tally;
 
 use test_support::lines::input;
@@ -17,6 +19,7 @@ fn main() {
     let n = input(&mut buffer);
     pairs(prefix(&buffer, n));
     examples::lines();
+    sets::lines();
 }
 
 // Counts by each pair of lines.

@@ -1,5 +1,6 @@
-// The cells that counting needs, found by addition: "2 times the sum of C(n, k) over all entries, k
-// being the entry's length" (01).
+// The cells that counting needs, found by addition: "(1 + the largest set) times the sum in 01"
+// (02, order 4), which is that of C(n, k) over all entries, k being the entry's length.
+use forms::memory::Rule;
 use forms::memory::Scheme;
 use word::limits::ENTRIES;
 use word::limits::PREFIX;
@@ -10,7 +11,49 @@ const ROW: usize = PREFIX + 1;
 // The cells that a scheme needs at the length n.
 pub fn need(s: Scheme, n: usize) -> usize {
     let once = over_entries(s, row_of(n));
-    sum(once, once)
+    sum(once, times(once, largest(s)))
+}
+
+// n times a, for a small n.
+fn times(a: usize, n: usize) -> usize {
+    let mut total: usize = 0;
+    let mut i: usize = 0;
+    while i < n {
+        let more = sum(total, a);
+        total = more;
+        i += 1;
+    }
+    total
+}
+
+// How many positions the entry deletes that deletes the most.
+fn largest(s: Scheme) -> usize {
+    let mut most: usize = 0;
+    let mut i: usize = 0;
+    while i < ENTRIES {
+        if s.count <= i {
+            return most;
+        }
+        let e = s.entries[i];
+        let rule = e.rule;
+        let more = larger(most, deleted_by(rule));
+        most = more;
+        i += 1;
+    }
+    most
+}
+
+// How many positions a rule deletes.
+fn deleted_by(rule: Rule) -> usize {
+    match rule {
+        Rule::Expand => 0,
+        Rule::Delete(d) => d.count as usize,
+    }
+}
+
+// The larger of two numbers.
+fn larger(a: usize, b: usize) -> usize {
+    if a < b { b } else { a }
 }
 
 // The sum of C(n, k) over all entries, from the row of n.

@@ -4,14 +4,17 @@ use forms::memory::Entry;
 use forms::memory::Gap;
 use forms::memory::Pattern;
 use forms::memory::Patterns;
+use forms::memory::Positions;
 use forms::memory::Rule;
 use forms::memory::Scheme;
+use forms::positions::six_of;
 use test_automaton::flat::Flat;
 use test_automaton::flat::STOP;
 use test_automaton::flat::nothing;
 use test_automaton::flat::with;
 use test_automaton::flat::with_bytes;
 use test_support::parts::prefix;
+use word::bytes::wide;
 use word::limits::ENTRIES;
 use word::limits::GAPS;
 use word::limits::PATTERNS;
@@ -70,7 +73,7 @@ fn with_field(f: Flat, e: Entry, field: usize) -> Flat {
     }
     if field == GAPS + 1 {
         let rule = e.rule;
-        return with(with(f, STOP), rule_number(rule));
+        return with_rule(with(f, STOP), rule);
     }
     if e.gap_count < field {
         return f;
@@ -92,10 +95,16 @@ fn with_gap(f: Flat, g: Gap) -> Flat {
     with_bytes(f, prefix(&parts, g.width))
 }
 
-// The number of a rule.
-fn rule_number(r: Rule) -> u64 {
+// The numbers and a rule.
+fn with_rule(f: Flat, r: Rule) -> Flat {
     match r {
-        Rule::Expand => STOP,
-        Rule::Delete(position) => position as u64,
+        Rule::Expand => with(f, STOP),
+        Rule::Delete(d) => with_positions(f, d),
     }
+}
+
+// The numbers and the deleted positions.
+fn with_positions(f: Flat, d: Positions) -> Flat {
+    let six = six_of(d);
+    with_bytes(f, prefix(&six, wide(d.count)))
 }

@@ -26,7 +26,7 @@ pub enum Finding {
     Prefix,
     // its spacing is not compared
     Spacing,
-    // without the deleted position it contains a pattern
+    // without the deleted positions it contains a pattern
     Deletion,
     // the second half is not the first copy of the earliest pattern that has one, or there is none
     Copy,

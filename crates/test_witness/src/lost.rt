@@ -1,6 +1,6 @@
 // Whether a permutation is lost by the deletion of an entry at a compared spacing, from the words
 // of document 01 and of orders 1 and 3: it begins with the prefix, its spacing is compared, it
-// contains a pattern, and without the deleted position it contains none.
+// contains a pattern, and without the deleted positions it contains none.
 use crate::copies::avoids_all;
 use crate::rows::ROW;
 use crate::rows::ascending;
@@ -50,7 +50,7 @@ pub fn is_compared(entry: &[u8], m: usize, w: [u8; ROW]) -> bool {
     !is_covered(entry, spacing(k, w))
 }
 
-// The permutation without the deleted position, reduced.
+// The permutation without the deleted positions, reduced.
 pub fn shorter(entry: &[u8], w: [u8; ROW]) -> [u8; ROW] {
     reduced(without(w, deleted(entry)))
 }

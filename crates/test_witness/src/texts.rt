@@ -3,8 +3,6 @@
 // number of an entry is one digit.
 use crate::rows::ROW;
 use crate::rows::empty;
-use crate::rows::number_at;
-use crate::rows::size;
 use crate::rows::with_if;
 use test_support::parts::before;
 use test_support::parts::suffix;
@@ -19,6 +17,9 @@ pub const VECTORS: usize = 8;
 const OPEN: u8 = 0xA8;
 
 const CLOSE: u8 = 0xE2;
+
+// the last of the bytes that ∅ is; no other mark has it
+const EMPTY: u8 = 0x85;
 
 // The pattern with an index, and an empty row behind the last.
 pub fn pattern(set: &[u8], index: usize) -> [u8; ROW] {
@@ -42,33 +43,30 @@ pub fn vector(entry: &[u8], index: usize) -> [u8; ROW] {
     digits(before(suffix(entry, place_behind(entry, OPEN, opened)), CLOSE))
 }
 
-// The position that an entry deletes: its last digit. One that expands has none behind its last
-// comma, and gives 0.
-pub fn deleted(entry: &[u8]) -> usize {
-    let rule = digits(suffix(entry, last_comma(entry)));
-    let place = size(rule);
-    if place == 0 {
-        0
-    } else {
-        number_at(rule, place) as usize
+// The positions that an entry deletes: the digits behind its last opening brace. One that expands
+// has ∅ behind all its braces, and an empty row.
+pub fn deleted(entry: &[u8]) -> [u8; ROW] {
+    if last_place(entry, b'}') < last_place(entry, EMPTY) {
+        return empty();
     }
+    digits(suffix(entry, last_place(entry, b'{')))
 }
 
-// Where the last comma of a text stands, or 0.
-fn last_comma(text: &[u8]) -> usize {
+// Where the last byte x of a text stands, or 0.
+fn last_place(text: &[u8], x: u8) -> usize {
     let mut found: usize = 0;
     let mut i: usize = 0;
     while i < text.len() {
-        let more = if_comma(text[i], i, found);
+        let more = if_same(text[i], x, i, found);
         found = more;
         i += 1;
     }
     found
 }
 
-// The index of a comma; of another byte what was found before.
-fn if_comma(x: u8, i: usize, found: usize) -> usize {
-    if x == b',' { i } else { found }
+// The index of a byte that is x; of another byte what was found before.
+fn if_same(y: u8, x: u8, i: usize, found: usize) -> usize {
+    if y == x { i } else { found }
 }
 
 // The index behind the n-th byte x of a text, 0 for none, or its length where there are fewer.

@@ -7,7 +7,7 @@ use native.Mathlib.Omega.{arith}
 use mathlib.Core.Path.{_≡_, refl, sym, ap, ap₂, _∙_, subst}
 use mathlib.Core.Bool.{Bool, true, false, true≢false, false≢true}
 use mathlib.Core.List.{List, [], _∷_, _++_, map, append-nil}
-use lib.ListN.{length, drop, set}
+use lib.ListN.{length, drop, getD, set}
 use lib.Seq.{set-out, sets}
 use lib.Dec.{leb}
 use borrow.Author.Tests.{ne-eqb}
@@ -26,16 +26,17 @@ use Rattle.text_gaps.specs.declared.parts.Gaps.{Gaps}
 use Rattle.text_gaps.specs.declared.parts.GapsRead.{GapsRead}
 use Rattle.text_grammar.specs.declared.items.Turn.{Turn}
 use Rattle.text_grammar.specs.declared.items.Turn.the-variants.{More, Wrong}
-use Rattle.text_grammar.specs.Spelling.{Token, digits, left, right, byte, numeral, vectorPieces, writableVector}
+use Rattle.text_grammar.specs.Spelling.{Token, digits, left, right, byte, comma, numeral, vectorPieces, writableVector}
 use Rattle.text_grammar.specs.Tokens.{tokens}
-use Rattle.text_grammar.specs.Grammar.{Read, misspelt, got, after, code, same, fail, pick, follow, items, readNumber, readVector}
+use Rattle.text_grammar.specs.Grammar.{Read, misspelt, got, after, code, same, fail, pick, either, follow, items, readNumber, readVector}
 use Rattle.text_grammar.specs.GrammarLaws.{items-step, number-read, vector-read}
 use Rattle.text_grammar.specs.Cursor.{Stepped, tokensBy, Beyond}
-use Rattle.text_gaps.specs.GapMemory.{partOf, partsOf, gapOf, partsOfAll, widthsOf}
-use Rattle.text_grammar.specs.ItemReading.{found, kept, turnInBraces, turnInVector, goesOn, isDone, Within, Ready, Advanced}
+use Rattle.text_gaps.specs.GapMemory.{partOf, partsOf, gapOf, positionsFrom, partsOfAll, widthsOf}
+use Rattle.text_grammar.specs.ItemReading.{found, kept, turnInBraces, goesOn, isDone, Within, Ready, Advanced}
 use Rattle.text_gaps.specs.PartReading.{loadedGaps, NumberAt, GapAt, GapsAt}
-use Rattle.text_gaps.specs.GapReading.{storedPart, storedGap, itself, goingGap, goingGaps, PartsAt, VectorsAt}
-use Rattle.text_grammar.proofs.TextItemLaws.{vector-turn, braces-turn, at-end, item-wrong, item-stored, from-first}
+use Rattle.text_gaps.specs.GapReading.{closing, turnAfter, storedPart, storedGap, itself, goingGap, goingGaps}
+use Rattle.text_gaps.specs.GapReading.{PartsAt, VectorsAt}
+use Rattle.text_grammar.proofs.TextItemLaws.{byTurn, vector-turn, braces-turn, at-end, item-wrong, item-stored, from-first}
 use Rattle.text_grammar.proofs.TextItemLaws.{gives-by, within-text, braces-empty, braces-none, braces-items}
 use Rattle.text_grammar.specs.Kinds.{isLeft, isEmpty, isByte}
 use Rattle.text_grammar.specs.KindLaws.{is-left, is-empty, is-byte}
@@ -52,6 +53,18 @@ part-kept m n b e = ap₂ (λ (x w : ℕ). gapMade (set (m .parts) (m .width) x)
 
 pub part-counted : (m : Gap) (n : ℕ) → length (m .parts) ≤ m .width → gapMade (m .parts) (m .width + 1) ≡ storedPart m n
 part-counted m n h = ap₂ gapMade (sym (set-out (m .parts) (m .width) (partOf n) h)) (add-one (m .width))
+
+pub positions-made : (g : Gap) (n : ℕ) → n ≡ partOf (g .width) →
+    record {
+      first = getD (g .parts) 0 0;
+      second = getD (g .parts) 1 0;
+      third = getD (g .parts) 2 0;
+      fourth = getD (g .parts) 3 0;
+      fifth = getD (g .parts) 4 0;
+      sixth = getD (g .parts) 5 0;
+      count = n;
+    } ≡ positionsFrom g
+positions-made g n e = rw e refl
 
 abbrev gapsMade : List ℕ → List ℕ → ℕ → Gaps
 gapsMade l w n = record { parts = l; widths = w; count = n }
@@ -75,31 +88,41 @@ kept-itself : (r : Read ℕ) → kept itself r ≡ r
 kept-itself misspelt = refl
 kept-itself (got n ts) = refl
 
-number-steps : (ts : List Token) → items readNumber right ts ≡ after (readNumber ts) (follow readNumber right (items readNumber right))
-number-steps ts = items-step readNumber (λ n. digits (numeral n) ∷ []) (λ n. leb n 999) number-read right refl refl ts
+-- numbers with either mark behind them
+
+number-steps : (b : Bool) (ts : List Token) → items readNumber (closing b) ts ≡
+    after (readNumber ts) (follow readNumber (closing b) (items readNumber (closing b)))
+number-steps true ts = items-step readNumber (λ n. digits (numeral n) ∷ []) (λ n. leb n 999) number-read (byte 0x7D) refl refl ts
+number-steps false ts = items-step readNumber (λ n. digits (numeral n) ∷ []) (λ n. leb n 999) number-read right refl refl ts
+
+number-turn : (b : Bool) (f g : List Token → Read (List ℕ)) (k : Kind) (t : List ℕ) (ts : List Token)
+    → either (closing b) f comma g (tokensBy k t ts) ≡ byTurn (turnAfter b k) (f ts) (g ts)
+number-turn true f g k t ts = braces-turn f g k t ts
+number-turn false f g k t ts = vector-turn f g k t ts
 
 vector-steps : (ts : List Token) → items readVector (byte 0x7D) ts ≡
     after (readVector ts) (follow readVector (byte 0x7D) (items readVector (byte 0x7D)))
 vector-steps ts = items-step readVector vectorPieces writableVector vector-read (byte 0x7D) refl refl ts
 
-module _ (s : List ℕ) (t : Turn) (m : Gap) (at : ℕ) (ready : Ready s t (m .width) at) (n : NumberRead) (number : NumberAt s at n) where
+module _ (b : Bool) (s : List ℕ) (t : Turn) (m : Gap) (at : ℕ) (ready : Ready s t (m .width) at) (n : NumberRead)
+    (number : NumberAt s at n) where
   kept-number : kept itself (readNumber (tokens (drop at s))) ≡ found (n .spelt) (n .value) (tokens (drop (n .next .at) s))
   kept-number = kept-itself (readNumber (tokens (drop at s))) ∙ number .gives
 
-  pub part-wrong : n .spelt ≡ false → Advanced goingGap s t m at Wrong m (m .width) at
+  pub part-wrong : n .spelt ≡ false → Advanced (goingGap b) s t m at Wrong m (m .width) at
   unfolding goingGap
   part-wrong h =
-      item-wrong readNumber right itself storedPart turnInVector vector-turn number-steps s at (n .spelt) (n .value) (n .next .at)
-      kept-number t m (m .width) ready (number .moved) h
+      item-wrong readNumber (closing b) itself storedPart (turnAfter b) (number-turn b) (number-steps b) s at (n .spelt) (n .value)
+      (n .next .at) kept-number t m (m .width) ready (number .moved) h
 
   pub part-stored : n .spelt ≡ true → (σ : Step) → Stepped s (n .next .at) σ → (u : Turn) (g : Gap) → u ≡
-      turnInVector (σ .kind) → g ≡ storedPart m (n .value)
-      → Advanced goingGap s t m at u g (g .width) (σ .next .at)
+      turnAfter b (σ .kind) → g ≡ storedPart m (n .value)
+      → Advanced (goingGap b) s t m at u g (g .width) (σ .next .at)
   unfolding goingGap
   part-stored h σ stepped u g e f =
       rw (e, f)
-      (item-stored readNumber right itself storedPart turnInVector vector-turn number-steps s at (n .spelt) (n .value) (n .next .at)
-      kept-number t m (m .width) ready (number .moved) h σ stepped)
+      (item-stored readNumber (closing b) itself storedPart (turnAfter b) (number-turn b) (number-steps b) s at (n .spelt) (n .value)
+      (n .next .at) kept-number t m (m .width) ready (number .moved) h σ stepped)
 
 module _ (s : List ℕ) (t : Turn) (m : Gaps) (at : ℕ) (ready : Ready s t (m .count) at) (n : GapRead) (vector : GapAt s at n) where
   pub gap-wrong : n .spelt ≡ false → Advanced goingGaps s t m at Wrong m (m .count) at
@@ -138,9 +161,10 @@ unfolding loadedGaps partsOfAll widthsOf
 gap-next l b =
     rw (parts-more l b, filled-more GAPS 0 (λ (d : List ℕ). partOf (length d)) l b, length-more l b) refl
 
-pub parts-start : (g : Gap) (ts : List Token) → g ≡ gapOf [] → goingGap More g ts ≡ kept gapOf (items readNumber right ts)
+pub parts-start : (b : Bool) (g : Gap) (ts : List Token) → g ≡ gapOf []
+    → goingGap b More g ts ≡ kept gapOf (items readNumber (closing b) ts)
 unfolding goingGap
-parts-start g ts e = from-first itself storedPart gapOf part-next readNumber right g ts e
+parts-start b g ts e = from-first itself storedPart gapOf part-next readNumber (closing b) g ts e
 
 pub vectors-start : (g : Gaps) (ts : List Token) → g ≡ loadedGaps [] → goingGaps More g ts ≡
     kept loadedGaps (items readVector (byte 0x7D) ts)
@@ -157,12 +181,13 @@ no-vectors g e = ap (λ (m : Gaps). m .count) e
 module _ (s : List ℕ) (at : ℕ) (t : Turn) (n : Cursor) (stop : goesOn t ≡ false) (count : ℕ)
     (within : Within s count (n .at)) (onward : at ≤ n .at)
     (b : Bool) (e : b ≡ isDone t) where
-  pub parts-end : (m : Gap) → goingGap t m (tokens (drop (n .at) s)) ≡ kept gapOf (items readNumber right (tokens (drop at s)))
-      → PartsAt s at (record { spelt = b; gap = m; next = n })
+  pub parts-end : (k : Bool) (m : Gap)
+      → goingGap k t m (tokens (drop (n .at) s)) ≡ kept gapOf (items readNumber (closing k) (tokens (drop at s)))
+      → PartsAt k s at (record { spelt = b; gap = m; next = n })
   unfolding goingGap
-  parts-end m h =
+  parts-end k m h =
       record {
-        gives = sym h ∙ at-end readNumber right itself storedPart t m (tokens (drop (n .at) s)) stop ∙
+        gives = sym h ∙ at-end readNumber (closing k) itself storedPart t m (tokens (drop (n .at) s)) stop ∙
             ap (λ (c : Bool). found c m (tokens (drop (n .at) s))) (sym e);
         onward = onward;
         inside = within .inside;
@@ -206,7 +231,7 @@ module _ (s : List ℕ) (at : ℕ) (t : Step) (stepped : Stepped s at t) where
         moved = record { onward = λ e. absurd (false≢true e); inside = stepped .inside };
       }
 
-  pub vector-parts : isLeft (t .kind) ≡ true → (r : GapRead) → PartsAt s (t .next .at) r → GapAt s at r
+  pub vector-parts : isLeft (t .kind) ≡ true → (r : GapRead) → PartsAt false s (t .next .at) r → GapAt s at r
   vector-parts h r parts =
       let l : at < t .next .at = subst (λ (k : Kind). Beyond k at (t .next .at)) (is-left (t .kind) h) (stepped .beyond) in
       let i : t .next .at ≤ r .next .at = parts .onward in

@@ -21,7 +21,9 @@ use Rattle.text_gaps.specs.declared.gap_reader.Numeral.{Numeral}
 use Rattle.text_grammar.specs.declared.items.Turn.{Turn}
 use Rattle.text_gaps.specs.declared.gap_reader.GapPart.{GapPart}
 use Rattle.text_gaps.specs.declared.gap_reader.GapsPart.{GapsPart}
-use Rattle.text_grammar.specs.ItemReading.{found, kept, going, Ready, Advanced}
+use Rattle.text_grammar.specs.declared.cursor.Kind.{Kind}
+use Rattle.text_grammar.specs.Kinds.{isRight, isByte}
+use Rattle.text_grammar.specs.ItemReading.{found, kept, turnOf, going, Ready, Advanced}
 
 -- numbers
 
@@ -42,6 +44,19 @@ pub record Numbered (u : List ℕ) (r : Numeral) : Type 0 where
   pub gives : numberOf u ≡ valued (r .spelt) (r .value)
   pub small : r .value ≤ 999
 
+-- the mark behind numbers: } behind a set of positions, ⟩ behind a gap vector
+
+abbrev pub closing : Bool → Token
+closing true = byte 0x7D
+closing false = right
+
+abbrev pub closes : Bool → Kind → Bool
+closes true k = isByte 0x7D k
+closes false k = isRight k
+
+abbrev pub turnAfter : Bool → Kind → Turn
+turnAfter b k = turnOf (closes b k) (isByte 0x2C k)
+
 -- one item more: it is kept where there is room
 
 abbrev pub storedPart : Gap → ℕ → Gap
@@ -60,8 +75,8 @@ storedGap m g =
 abbrev pub itself : ℕ → ℕ
 itself n = n
 
-unfoldable pub goingGap : Turn → Gap → List Token → Read Gap
-goingGap t m ts = going readNumber right itself storedPart t m ts
+unfoldable pub goingGap : Bool → Turn → Gap → List Token → Read Gap
+goingGap b t m ts = going readNumber (closing b) itself storedPart t m ts
 
 unfoldable pub goingGaps : Turn → Gaps → List Token → Read Gaps
 goingGaps t m ts = going readVector (byte 0x7D) gapOf storedGap t m ts
@@ -69,8 +84,8 @@ goingGaps t m ts = going readVector (byte 0x7D) gapOf storedGap t m ts
 abbrev pub GapReady : List ℕ → GapPart → Type 0
 GapReady s m = Ready s (m .turn) (m .gap .width) (m .next .at)
 
-abbrev pub GapAdvanced : List ℕ → GapPart → GapPart → Type 0
-GapAdvanced s m r = Advanced goingGap s (m .turn) (m .gap) (m .next .at) (r .turn) (r .gap) (r .gap .width) (r .next .at)
+abbrev pub GapAdvanced : Bool → List ℕ → GapPart → GapPart → Type 0
+GapAdvanced b s m r = Advanced (goingGap b) s (m .turn) (m .gap) (m .next .at) (r .turn) (r .gap) (r .gap .width) (r .next .at)
 
 abbrev pub GapsReady : List ℕ → GapsPart → Type 0
 GapsReady s m = Ready s (m .turn) (m .gaps .count) (m .next .at)
@@ -80,8 +95,8 @@ GapsAdvanced s m r = Advanced goingGaps s (m .turn) (m .gaps) (m .next .at) (r .
 
 -- the items of a list, and the mark behind them
 
-pub record PartsAt (s : List ℕ) (at : ℕ) (r : GapRead) : Type 0 where
-  pub gives : kept gapOf (items readNumber right (tokens (drop at s))) ≡ found (r .spelt) (r .gap) (tokens (drop (r .next .at) s))
+pub record PartsAt (b : Bool) (s : List ℕ) (at : ℕ) (r : GapRead) : Type 0 where
+  pub gives : kept gapOf (items readNumber (closing b) (tokens (drop at s))) ≡ found (r .spelt) (r .gap) (tokens (drop (r .next .at) s))
   pub onward : at ≤ r .next .at
   pub inside : r .next .at ≤ length s
 

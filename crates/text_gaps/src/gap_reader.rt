@@ -1,4 +1,4 @@
-// Numbers, gap vectors and lists of gap vectors, read from a text into memory.
+// Numbers, gap vectors, sets of positions and lists of gap vectors, read from a text into memory.
 use crate::parts::GapRead;
 use crate::parts::Gaps;
 use crate::parts::GapsRead;
@@ -6,6 +6,7 @@ use crate::parts::NumberRead;
 use forms::gaps::with_gap;
 use forms::memory::Gap;
 use text_grammar::cursor::Cursor;
+use text_grammar::cursor::Kind;
 use text_grammar::items::Turn;
 use text_grammar::items::goes_on;
 use text_grammar::items::is_done;
@@ -26,7 +27,7 @@ ghost use lib.ListN.{length, drop};
 ghost use Rattle.text_grammar.specs.Tokens.{run};
 ghost use Rattle.text_gaps.specs.GapMemory.{partOf, gapOf};
 ghost use Rattle.text_gaps.specs.PartReading.{NumberAt, GapAt, GapsAt, loadedGaps};
-ghost use Rattle.text_gaps.specs.GapReading.{noNumber, Numbered, DigitOf};
+ghost use Rattle.text_gaps.specs.GapReading.{noNumber, Numbered, DigitOf, closes};
 ghost use Rattle.text_gaps.specs.GapReading.{storedPart, storedGap, GapReady, GapAdvanced, PartsAt};
 ghost use Rattle.text_gaps.specs.GapReading.{GapsReady, GapsAdvanced, VectorsAt};
 
@@ -36,7 +37,8 @@ pub struct Numeral {
     pub value: usize,
 }
 
-// How far a gap vector is read: the components so far, and the cursor behind them.
+// How far the numbers of a gap vector or of a set of positions are read: those so far, and the
+// cursor behind them.
 pub struct GapPart {
     pub turn: Turn,
     pub gap: Gap,
@@ -51,7 +53,7 @@ pub struct GapsPart {
 }
 
 // The number from a cursor on.
-pub fn number_at(s: &[u8], c: Cursor) -> NumberRead
+fn number_at(s: &[u8], c: Cursor) -> NumberRead
     ensures { λ r. ⌜ NumberAt (now (s .entry)) (c .at) r ⌝ }
 {
     let t = c.step(s);
@@ -144,13 +146,14 @@ fn gap_at(s: &[u8], c: Cursor) -> GapRead
             next,
         };
     }
-    parts_at(s, next)
+    parts_at(s, next, false)
 }
 
-// The components of a gap vector and the mark behind them.
-fn parts_at(s: &[u8], c: Cursor) -> GapRead
+// The numbers of a gap vector and the mark behind them, or with `braces` those of a set of
+// positions and the brace behind them.
+pub fn parts_at(s: &[u8], c: Cursor, braces: bool) -> GapRead
     requires { ⌜ c .at ≤ length (now s) ⌝ }
-    ensures { λ r. ⌜ PartsAt (now (s .entry)) (c .at) r ⌝ }
+    ensures { λ r. ⌜ PartsAt braces (now (s .entry)) (c .at) r ⌝ }
 {
     let gap = no_gap();
     let mut m = GapPart {
@@ -169,15 +172,15 @@ fn parts_at(s: &[u8], c: Cursor) -> GapRead
                 next,
             };
         }
-        let n = with_part(s, m);
+        let n = with_part(s, m, braces);
         m = n;
     }
 }
 
-// The components with one more.
-fn with_part(s: &[u8], m: GapPart) -> GapPart
+// The numbers with one more.
+fn with_part(s: &[u8], m: GapPart, braces: bool) -> GapPart
     requires { ⌜ GapReady (now s) m ⌝ }
-    ensures { λ r. ⌜ GapAdvanced (now (s .entry)) m r ⌝ }
+    ensures { λ r. ⌜ GapAdvanced braces (now (s .entry)) m r ⌝ }
 {
     let c = m.next;
     let before = m.gap;
@@ -196,10 +199,20 @@ fn with_part(s: &[u8], m: GapPart) -> GapPart
     let kind = t.kind;
     let next = t.next;
     GapPart {
-        turn: turn_of(is_right(kind), is_byte(kind, b',')),
+        turn: turn_of(closes(kind, braces), is_byte(kind, b',')),
         gap,
         next,
     }
+}
+
+// Whether a token is the mark behind the numbers: a closing brace or ⟩.
+fn closes(kind: Kind, braces: bool) -> bool
+    ensures { λ r. ⌜ r ≡ closes braces kind ⌝ }
+{
+    if braces {
+        return is_byte(kind, b'}');
+    }
+    is_right(kind)
 }
 
 // The gap vector with one component more, which is kept where there is room.
@@ -224,7 +237,7 @@ fn stored_part(gap: Gap, n: usize) -> Gap
 }
 
 // A component, or a number of components, as a byte: 255 stands for every number beyond.
-fn part(n: usize) -> u8
+pub fn part(n: usize) -> u8
     ensures { λ r. ⌜ r ≡ partOf n ⌝ }
 {
     if n <= 255 {

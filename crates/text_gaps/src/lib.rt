@@ -1,3 +1,4 @@
-// Numbers and gap vectors read from a text into memory.
+// Numbers, gap vectors and sets of positions read from a text into memory.
 pub mod gap_reader;
 pub mod parts;
+pub mod positions;

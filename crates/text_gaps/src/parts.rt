@@ -12,7 +12,7 @@ pub struct NumberRead {
     pub next: Cursor,
 }
 
-// A gap vector.
+// A gap vector, or the numbers of a set of positions.
 pub struct GapRead {
     pub spelt: bool,
     pub gap: Gap,

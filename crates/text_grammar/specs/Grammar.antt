@@ -104,9 +104,9 @@ readNumber (byte b ∷ r) = misspelt
 abbrev pub readVector : List Token → Read (List ℕ)
 readVector ts = expect left (items readNumber right) ts
 
--- `{1}` or ∅
+-- ∅, or one or more positions in braces: `{1,2}`
 abbrev pub readRule : List Token → Read Does
-readRule ts = either empty (got expands) (byte 0x7B) (λ a. after (readNumber a) (λ n b. expect (byte 0x7D) (got (deletes n)) b)) ts
+readRule ts = either empty (got expands) (byte 0x7B) (λ a. after (items readNumber (byte 0x7D) a) (λ R b. got (deletes R) b)) ts
 
 -- `(1,{⟨0,1⟩},{1})`: what follows the prefix, what follows the vectors
 abbrev pub afterGaps : List ℕ → List (List ℕ) → List Token → Read EntryList

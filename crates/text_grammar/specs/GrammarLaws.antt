@@ -373,8 +373,10 @@ number-read = record { finds = λ n r h. ap (λ (o : Option ℕ). given o r) (nu
 
 -- vectors
 
-vector-items : Reads (items readNumber right) (listed numberPieces right) writableVector
-vector-items = items-reads readNumber numberPieces writableNumber number-read right refl refl
+-- numbers with commas between them, and a mark after them
+number-items : (close : Token) → isRun close ≡ false → same close comma ≡ false
+    → Reads (items readNumber close) (listed numberPieces close) writableVector
+number-items close mark other = items-reads readNumber numberPieces writableNumber number-read close mark other
 
 vector-sound : (ts r : List Token) (m : Read (List ℕ)) → Sound (listed numberPieces right) writableVector r m → ts ≡ left ∷ r
     → Sound vectorPieces writableVector ts m
@@ -383,24 +385,25 @@ vector-sound ts r (got b q) s e = (e ∙ ap (λ (m : List Token). left ∷ m) (s
 
 pub vector-read : Reads readVector vectorPieces writableVector
 vector-read = record {
-  finds = λ b r h. vector-items .finds b r h;
+  finds = λ b r h. number-items right refl refl .finds b r h;
   sound = λ ts. on-expect (Sound vectorPieces writableVector ts) tt left refl (items readNumber right) ts
-      (λ r e. vector-sound ts r (items readNumber right r) (vector-items .sound r) e);
+      (λ r e. vector-sound ts r (items readNumber right r) (number-items right refl refl .sound r) e);
 }
 
 -- rules
 
 rule-finds : (m : Does) (r : List Token) → writableRule m ≡ true → readRule (rulePieces m ++ r) ≡ got m r
 rule-finds expands r h = refl
-rule-finds (deletes n) r h = rw (number-finds n h) refl
+rule-finds (deletes R) r h =
+    ap (λ (m : Read (List ℕ)). after m (λ R b. got (deletes R) b)) (number-items (byte 0x7D) refl refl .finds R r h)
 
 pub rule-read : Reads readRule rulePieces writableRule
 rule-read = record {
   finds = rule-finds;
   sound = λ ts. on-either (Sound rulePieces writableRule ts) tt empty (byte 0x7B) refl refl (got expands) _ ts (λ r e. (e, refl))
-      (λ r e. on-after (Sound rulePieces writableRule ts) tt numberPieces writableNumber r (readNumber r) (number-sound r) _
-      (λ n q f g. on-expect (Sound rulePieces writableRule ts) tt (byte 0x7D) refl (got (deletes n)) q
-      (λ v k. (e ∙ ap (λ (m : List Token). byte 0x7B ∷ m) (f ∙ ap (λ (m : List Token). digits (numeral n) ∷ m) k), g))));
+      (λ r e. on-after (Sound rulePieces writableRule ts) tt (listed numberPieces (byte 0x7D)) writableVector r
+      (items readNumber (byte 0x7D) r) (number-items (byte 0x7D) refl refl .sound r) _
+      (λ R q f g. (e ∙ ap (λ (m : List Token). byte 0x7B ∷ m) f, g)));
 }
 
 -- entries

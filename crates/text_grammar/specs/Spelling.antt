@@ -63,10 +63,10 @@ numeral n = cond (ltb n 10) (n ∷ []) (cond (ltb n 100) (n / 10 ∷ (n % 10 ∷
 abbrev pub vectorPieces : List ℕ → List Token
 vectorPieces b = left ∷ (separated (map (λ n. digits (numeral n) ∷ []) b) ++ (right ∷ []))
 
--- "the third part is ∅ for expanding" (01)
+-- "the third part is ∅ for expanding" (01), and a set of positions "as `{1,2}`" (02, order 4)
 abbrev pub rulePieces : Does → List Token
 rulePieces expands = empty ∷ []
-rulePieces (deletes r) = byte 0x7B ∷ (digits (numeral r) ∷ (byte 0x7D ∷ []))
+rulePieces (deletes R) = byte 0x7B ∷ (separated (map (λ n. digits (numeral n) ∷ []) R) ++ (byte 0x7D ∷ []))
 
 -- `(1,{⟨0,1⟩},{1})`
 abbrev pub entryPieces : EntryList → List Token
@@ -80,7 +80,7 @@ abbrev pub schemePieces : List EntryList → List Token
 schemePieces E = braced (map entryPieces E)
 
 -- what can be written so: digits 0 to 9, numbers up to 999, vectors with a component ("`⟨⟩` ..
--- misspelt")
+-- misspelt") and sets with a position ("`{}`")
 abbrev pub digitRun : List ℕ → Bool
 digitRun u = all (λ d. leb d 9) u
 
@@ -89,7 +89,7 @@ writableVector b = not (eqb (length b) 0) && all (λ n. leb n 999) b
 
 abbrev pub writableRule : Does → Bool
 writableRule expands = true
-writableRule (deletes r) = leb r 999
+writableRule (deletes R) = writableVector R
 
 abbrev pub writableEntry : EntryList → Bool
 writableEntry e = digitRun (e .prefix) && (all writableVector (e .gaps) && writableRule (e .rule))

@@ -98,17 +98,20 @@ clear-number n h = clear-one (digits (numeral n)) (go (leb-true n 999 h) (below-
         let k : n % 10 ≤ 9 = omega arith in
         rw (numeral-three n q, le-leb (n / 100) 9 i, le-leb (n / 10 % 10) 9 j, le-leb (n % 10) 9 k) refl
 
-clear-vector : (b : List ℕ) → writableVector b ≡ true → Clear (vectorPieces b)
-clear-vector b h =
-    clear-mark left _ refl refl
-    (clear-join (separated (map (λ n. digits (numeral n) ∷ []) b)) right [] refl refl
+-- numbers with commas between them and a mark after them
+clear-numbers : (close : Token) (b : List ℕ) → isRun close ≡ false → proper close ≡ true → writableVector b ≡ true
+    → Clear (separated (map (λ n. digits (numeral n) ∷ []) b) ++ (close ∷ []))
+clear-numbers close b mark fit h =
+    clear-join (separated (map (λ n. digits (numeral n) ∷ []) b)) close [] mark fit
     (clear-separated (λ n. digits (numeral n) ∷ []) (λ n. leb n 999) clear-number b
-    (and-right (not (eqb (length b) 0)) (all (λ n. leb n 999) b) h)) clear-nil)
+    (and-right (not (eqb (length b) 0)) (all (λ n. leb n 999) b) h)) clear-nil
+
+clear-vector : (b : List ℕ) → writableVector b ≡ true → Clear (vectorPieces b)
+clear-vector b h = clear-mark left _ refl refl (clear-numbers right b refl refl h)
 
 clear-rule : (m : Does) → writableRule m ≡ true → Clear (rulePieces m)
 clear-rule expands h = clear-one empty refl
-clear-rule (deletes r) h =
-    clear-mark (byte 0x7B) _ refl refl (clear-join (digits (numeral r) ∷ []) (byte 0x7D) [] refl refl (clear-number r h) clear-nil)
+clear-rule (deletes R) h = clear-mark (byte 0x7B) _ refl refl (clear-numbers (byte 0x7D) R refl refl h)
 
 clear-entry : (e : EntryList) → writableEntry e ≡ true → Clear (entryPieces e)
 clear-entry e h =
@@ -218,3 +221,8 @@ patterns-written-read s P h = spaceless-holds (h .0) (clear-patterns P (h .1) .f
 
 pub scheme-written-read : (s : List ℕ) (E : List EntryList) → SpellsScheme s E → writtenScheme E ≡ spaceless s
 scheme-written-read s E h = spaceless-holds (h .0) (clear-scheme E (h .1) .fit)
+
+-- "Schemes with single positions keep their texts" (02, order 4): a set of one position is written
+-- as document 01 writes the position, `{1}`
+pub single-text : (r : ℕ) → rulePieces (deletes (r ∷ [])) ≡ byte 0x7B ∷ (digits (numeral r) ∷ (byte 0x7D ∷ []))
+single-text r = refl

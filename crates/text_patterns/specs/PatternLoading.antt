@@ -5,8 +5,8 @@ use Prim.Native.Nat.{ℕ, zero, suc, _≤_, _<_}
 use native.Mathlib.Omega.{arith}
 use mathlib.Core.Path.{_≡_, refl, sym, ap, ap₂, _∙_}
 use mathlib.Core.Logic.{_⊎_, inl, inr}
-use mathlib.Core.Bool.{Bool, true, false, not, cond}
-use mathlib.Core.List.{List, [], _∷_, _++_, map, map-map}
+use mathlib.Core.Bool.{Bool, false, not, cond}
+use mathlib.Core.List.{List, [], _∷_, _++_, map, map-map, List·Memᴰ, List·Memᴰ·head, List·Memᴰ·tail}
 use lib.ListN.{length, getD, take, replicate, length-map}
 use lib.Dec.{ltb}
 use borrow.Author.Tests.{ltb-false, lt-ltb, le-ltb}
@@ -17,6 +17,7 @@ use Rattle.word.specs.Patterns.{isPattern}
 use Rattle.word.specs.Finding.{Finding, clean, fault, test, firstFault}
 use Rattle.word.specs.declared.refusal.Refusal.{Refusal}
 use Rattle.word.specs.declared.refusal.Refusal.the-variants.{Oversize, NoPermutation}
+use Rattle.scheme.specs.FindingLaws.{first-out}
 use Rattle.scheme.specs.WellFormed.{firstAt, firstTwin, listed, patternTests}
 use Rattle.forms.specs.SchemeMemory.{noPattern, patternIn, patternsIn}
 use Rattle.text_patterns.specs.PatternMemory.{filled, patternOf, loadedPatterns}
@@ -61,65 +62,74 @@ module _ {A B C : Type 0} (put : A → B) (taken : B → C) (z d : B) (n : ℕ) 
 no-fault : (r : Refusal) (i : ℕ) → fault r i ≡ clean → ⊥
 no-fault r i e = let z : _≡_ {A = ℕ} 0 1 = cc in omega arith
 
--- a list whose elements are kept in part: a kept element is large where the element is, and one
--- that is not large is kept as it is
+-- a list whose elements are kept in part
 
+module _ {A : Type 0} (keeps : A → A) where
+  -- a test that each kept element passes where the element does finds the same index
+  pub first-kept : (r : Refusal) (f : A → Bool) (i : ℕ) (l : List A) → ((x : A) → List·Memᴰ x l → f (keeps x) ≡ f x)
+      → firstAt r f i (map keeps l) ≡ firstAt r f i l
+  first-kept r f i [] h = refl
+  first-kept r f i (x ∷ l) h =
+      ap₂ (λ (b : Bool) (g : Finding). cond b (fault r i) g) (h x (List·Memᴰ·head refl))
+      (first-kept r f (suc i) l (λ (y : A) (m : List·Memᴰ y l). h y (List·Memᴰ·tail m)))
+
+  pub all-kept : (l : List A) → ((x : A) → List·Memᴰ x l → keeps x ≡ x) → map keeps l ≡ l
+  all-kept [] h = refl
+  all-kept (x ∷ l) h =
+      ap₂ _∷_ (h x (List·Memᴰ·head refl)) (all-kept l (λ (y : A) (m : List·Memᴰ y l). h y (List·Memᴰ·tail m)))
+
+-- no element of the list is large
+abbrev pub NoneLarge : {A : Type 0} → (A → Bool) → List A → Type 0
+NoneLarge large l = (x : _) → List·Memᴰ x l → large x ≡ false
+
+-- a kept element is large where the element is: the test of the number of elements, the test of
+-- each, and further tests, which find in a list without large elements what they find in what is
+-- kept of it
 module _ {A : Type 0} (large : A → Bool) (keeps : A → A) (as-large : (x : A) → large (keeps x) ≡ large x)
-    (as-it-is : (x : A) → large x ≡ false → keeps x ≡ x)
+    (most : ℕ) (rest : List A → List Finding)
   where
-    -- the first large one has the same index
-    first-kept : (i : ℕ) (l : List A) → firstAt Oversize large i (map keeps l) ≡ firstAt Oversize large i l
-    first-kept i [] = refl
-    first-kept i (x ∷ l) = ap₂ (λ (b : Bool) (f : Finding). cond b (fault Oversize i) f) (as-large x) (first-kept (suc i) l)
+    abbrev sized : List A → List Finding
+    sized l = test Oversize (ltb most (length l)) ∷ firstAt Oversize large 0 l ∷ rest l
 
-    -- where none is large, all are kept as they are
-    none-large : (i : ℕ) (l : List A) → firstAt Oversize large i l ≡ clean → map keeps l ≡ l
-    none-large i [] h = refl
-    none-large i (x ∷ l) h = step (large x) refl (none-large (suc i) l)
-      where
-        turn : Bool → Finding
-        turn b = cond b (fault Oversize i) (firstAt Oversize large (suc i) l)
+    many-fault : (l : List A) → most < length l → firstFault (sized l) ≡ fault Oversize 0
+    many-fault l h = rw (lt-ltb most (length l) h) refl
 
-        step : (b : Bool) → large x ≡ b → (firstAt Oversize large (suc i) l ≡ clean → map keeps l ≡ l) → map keeps (x ∷ l) ≡ x ∷ l
-        step true e ih = absurd (no-fault Oversize i (sym (ap turn e) ∙ h))
-        step false e ih = ap₂ _∷_ (as-it-is x e) (ih (sym (ap turn e) ∙ h))
+    sized-fault : (l : List A) (f : Finding) → length l ≤ most → firstAt Oversize large 0 l ≡ f
+        → firstFault (sized l) ≡ firstFault (f ∷ rest l)
+    sized-fault l f h e = rw (le-ltb most (length l) h, e) refl
 
-    -- the test of the number of elements, the test of each, and further tests
-    module _ (most : ℕ) (rest : List A → List Finding) where
-      abbrev sized : List A → List Finding
-      sized l = test Oversize (ltb most (length l)) ∷ firstAt Oversize large 0 l ∷ rest l
+    -- m is what the memory has of l: as many elements, and those of l where there is room
+    module _ (l m : List A) (as-many : length m ≡ length l) (room : length l ≤ most → m ≡ map keeps l) where
+      first-large : length l ≤ most → firstAt Oversize large 0 m ≡ firstAt Oversize large 0 l
+      first-large h =
+          ap (firstAt Oversize large 0) (room h) ∙ first-kept keeps Oversize large 0 l (λ (x : A) (_ : List·Memᴰ x l). as-large x)
 
-      many-fault : (l : List A) → most < length l → firstFault (sized l) ≡ fault Oversize 0
-      many-fault l h = rw (lt-ltb most (length l) h) refl
+      pub sized-faults : (NoneLarge large l → firstFault (rest (map keeps l)) ≡ firstFault (rest l))
+          → firstFault (sized m) ≡ firstFault (sized l)
+      sized-faults same = step (below-or-not most (length l))
+        where
+          within : length l ≤ most → (f : Finding) → firstAt Oversize large 0 l ≡ f → firstFault (sized m) ≡ firstFault (sized l)
+          within h clean e =
+              sized-fault m clean (omega arith) (first-large h ∙ e) ∙ ap (λ (n : List A). firstFault (rest n)) (room h)
+              ∙ same (λ (x : A) (i : List·Memᴰ x l). first-out Oversize large 0 e i) ∙ sym (sized-fault l clean h e)
+          within h (fault r i) e =
+              sized-fault m (fault r i) (omega arith) (first-large h ∙ e) ∙ sym (sized-fault l (fault r i) h e)
 
-      large-fault : (l : List A) (r : Refusal) (i : ℕ) → length l ≤ most → firstAt Oversize large 0 l ≡ fault r i
-          → firstFault (sized l) ≡ fault r i
-      large-fault l r i h e = rw (le-ltb most (length l) h, e) refl
+          step : (most < length l) ⊎ (length l ≤ most) → firstFault (sized m) ≡ firstFault (sized l)
+          step (inl h) = many-fault m (omega arith) ∙ sym (many-fault l h)
+          step (inr h) = within h (firstAt Oversize large 0 l) refl
 
-      -- m is what the memory has of l: as many elements, and those of l where there is room
-      module _ (l m : List A) (as-many : length m ≡ length l) (room : length l ≤ most → m ≡ map keeps l) where
-        pub sized-faults : firstFault (sized m) ≡ firstFault (sized l)
-        sized-faults = step (below-or-not most (length l))
-          where
-            within : length l ≤ most → (f : Finding) → firstAt Oversize large 0 l ≡ f → firstFault (sized m) ≡ firstFault (sized l)
-            within h clean e = ap (λ (n : List A). firstFault (sized n)) (room h ∙ none-large 0 l e)
-            within h (fault r i) e =
-                large-fault m r i (omega arith) (ap (firstAt Oversize large 0) (room h) ∙ first-kept 0 l ∙ e) ∙ sym (large-fault l r i h e)
+      pub sized-same : (NoneLarge large l → firstFault (rest l) ≡ clean → map keeps l ≡ l) → firstFault (sized l) ≡ clean → m ≡ l
+      sized-same same c = step (below-or-not most (length l))
+        where
+          within : length l ≤ most → (f : Finding) → firstAt Oversize large 0 l ≡ f → m ≡ l
+          within h clean e =
+              room h ∙ same (λ (x : A) (i : List·Memᴰ x l). first-out Oversize large 0 e i) (sym (sized-fault l clean h e) ∙ c)
+          within h (fault r i) e = absurd (no-fault r i (sym (sized-fault l (fault r i) h e) ∙ c))
 
-            step : (most < length l) ⊎ (length l ≤ most) → firstFault (sized m) ≡ firstFault (sized l)
-            step (inl h) = many-fault m (omega arith) ∙ sym (many-fault l h)
-            step (inr h) = within h (firstAt Oversize large 0 l) refl
-
-        pub sized-same : firstFault (sized l) ≡ clean → m ≡ l
-        sized-same c = step (below-or-not most (length l))
-          where
-            within : length l ≤ most → (f : Finding) → firstAt Oversize large 0 l ≡ f → m ≡ l
-            within h clean e = room h ∙ none-large 0 l e
-            within h (fault r i) e = absurd (no-fault r i (sym (large-fault l r i h e) ∙ c))
-
-            step : (most < length l) ⊎ (length l ≤ most) → m ≡ l
-            step (inl h) = absurd (no-fault Oversize 0 (sym (many-fault l h) ∙ c))
-            step (inr h) = within h (firstAt Oversize large 0 l) refl
+          step : (most < length l) ⊎ (length l ≤ most) → m ≡ l
+          step (inl h) = absurd (no-fault Oversize 0 (sym (many-fault l h) ∙ c))
+          step (inr h) = within h (firstAt Oversize large 0 l) refl
 
 -- one pattern in memory: its length is true, and up to 8 digits all are there
 
@@ -162,12 +172,18 @@ short-kept u e = kept-same u (ltb-false DIGITS (length u) e)
 abbrev patternRest : List (List ℕ) → List Finding
 patternRest P = firstAt NoPermutation (λ β. not (isPattern β)) 0 P ∷ firstTwin listed 0 [] P ∷ []
 
+-- patterns that are not long are kept as they are
+none-long : (P : List (List ℕ)) → NoneLarge long P → map kept P ≡ P
+none-long P h = all-kept kept P (λ (β : List ℕ) (m : List·Memᴰ β P). short-kept β (h β m))
+
 -- the first fault of the patterns in memory is that of the list
 pub loaded-faults : (P : List (List ℕ)) → firstFault (patternTests (patternsIn (loadedPatterns P))) ≡ firstFault (patternTests P)
 loaded-faults P =
-    sized-faults long kept long-kept short-kept PATTERNS patternRest P (patternsIn (loadedPatterns P)) (loaded-length P) (loaded-kept P)
+    sized-faults long kept long-kept PATTERNS patternRest P (patternsIn (loadedPatterns P)) (loaded-length P) (loaded-kept P)
+    (λ h. ap (λ (Q : List (List ℕ)). firstFault (patternRest Q)) (none-long P h))
 
 -- a list with no fault is in memory as it is
 pub loaded-same : (P : List (List ℕ)) → firstFault (patternTests P) ≡ clean → patternsIn (loadedPatterns P) ≡ P
 loaded-same P =
-    sized-same long kept long-kept short-kept PATTERNS patternRest P (patternsIn (loadedPatterns P)) (loaded-length P) (loaded-kept P)
+    sized-same long kept long-kept PATTERNS patternRest P (patternsIn (loadedPatterns P)) (loaded-length P) (loaded-kept P)
+    (λ h _. none-long P h)

@@ -14,6 +14,8 @@ use borrow.Author.Tests.{ne-eqb}
 use Rattle.word.specs.Ceilings.{PREFIX}
 use Rattle.word.specs.ListLaws.{and-left, and-right}
 use Rattle.forms.specs.SchemeList.{Does, expands, deletes, EntryList}
+use Rattle.forms.specs.declared.memory.Gap.{Gap}
+use Rattle.forms.specs.declared.memory.Positions.{Positions}
 use Rattle.forms.specs.declared.memory.Rule.{Rule}
 use Rattle.forms.specs.declared.memory.Rule.the-variants.{Expand, Delete}
 use Rattle.forms.specs.declared.memory.Entry.{Entry}
@@ -21,7 +23,7 @@ use Rattle.forms.specs.declared.memory.Scheme.{Scheme}
 use Rattle.text_grammar.specs.declared.cursor.Kind.{Kind}
 use Rattle.text_grammar.specs.declared.cursor.Kind.the-variants.{End, Digits, Epsilon, Empty, Left, Right, Byte}
 use Rattle.text_grammar.specs.declared.cursor.Step.{Step}
-use Rattle.text_gaps.specs.declared.parts.NumberRead.{NumberRead}
+use Rattle.text_gaps.specs.declared.parts.GapRead.{GapRead}
 use Rattle.text_gaps.specs.declared.parts.Gaps.{Gaps}
 use Rattle.text_gaps.specs.declared.parts.GapsRead.{GapsRead}
 use Rattle.text_schemes.specs.declared.parts.RuleRead.{RuleRead}
@@ -32,12 +34,14 @@ use Rattle.text_schemes.specs.declared.scheme_reader.PrefixRead.{PrefixR
 use Rattle.text_grammar.specs.Spelling.{Token, digits, empty, byte, comma}
 use Rattle.text_grammar.specs.Tokens.{run, tokens}
 use Rattle.text_grammar.specs.Cursor.{Stepped, tokensBy}
-use Rattle.text_grammar.specs.Grammar.{Read, misspelt, got, after, same, fail, pick, expect, either, inBraces}
+use Rattle.text_grammar.specs.Grammar.{Read, misspelt, got, after, same, fail, pick, expect, either, items, inBraces}
 use Rattle.text_grammar.specs.Grammar.{readPerm, readNumber, readVector, readRule, afterGaps, readEntry}
 use Rattle.text_patterns.specs.PatternMemory.{filled}
+use Rattle.text_gaps.specs.GapMemory.{gapOf, positionsFrom}
 use Rattle.text_schemes.specs.SchemeLoaded.{ruleOf, entryOf}
 use Rattle.text_grammar.specs.ItemReading.{found, kept, Moved}
-use Rattle.text_gaps.specs.PartReading.{loadedGaps, NumberAt, GapsAt}
+use Rattle.text_gaps.specs.PartReading.{loadedGaps, GapsAt}
+use Rattle.text_gaps.specs.GapReading.{PartsAt}
 use Rattle.text_schemes.specs.SchemeReading.{RuleAt, EntryAt}
 use Rattle.text_schemes.specs.EntryReading.{MarkAt, ChoiceAt, prefixOf, readHead, readMiddle, readTail}
 use Rattle.text_schemes.specs.EntryReading.{PrefixAt, HeadAt, MiddleAt, TailAt, storedEntry}
@@ -331,7 +335,7 @@ tailed s at m c w mm mc e =
 -- rules
 
 abbrev deleted : List Token → Read Does
-deleted a = after (readNumber a) (λ n b. expect (byte 0x7D) (got (deletes n)) b)
+deleted a = after (items readNumber (byte 0x7D) a) (λ R b. got (deletes R) b)
 
 pub rule-first : (s : List ℕ) (at : ℕ) (o : Choice) → ChoiceAt empty (byte 0x7B) s at o → o .first ≡ true
     → RuleAt s at (record { spelt = o .spelt; rule = Expand; next = o .next })
@@ -342,33 +346,36 @@ rule-first s at o w h =
       moved = w .moved;
     }
 
-number-mark : (ts ts1 ts2 : List Token) (b c : Bool) (n : ℕ) → readNumber ts ≡ found b n ts1 →
-    expect {A = ℕ} (byte 0x7D) (got 0) ts1 ≡ found c 0 ts2
-    → kept ruleOf (deleted ts) ≡ found (b && c) (Delete n) ts2
-number-mark ts ts1 ts2 b c n e g = ap (λ (m : Read ℕ). kept ruleOf
-    (after m (λ n b. expect (byte 0x7D) (got (deletes n)) b))) e ∙ split b c g
+-- the positions are kept as the numbers are
+positions-kept : (r : Read (List ℕ)) (b : Bool) (g : Gap) (d : Positions) (ts : List Token) → kept gapOf r ≡ found b g ts →
+    d ≡ positionsFrom g → kept ruleOf (after r (λ R q. got (deletes R) q)) ≡ found b (Delete d) ts
+positions-kept r b g d ts e f = rw f (same r ∙ ap (kept made) e ∙ back b)
   where
-    split : (b c : Bool) → expect {A = ℕ} (byte 0x7D) (got 0) ts1 ≡ found c 0 ts2
-        → kept ruleOf (after (found b n ts1) (λ n b. expect (byte 0x7D) (got (deletes n)) b)) ≡ found (b && c) (Delete n) ts2
-    split false c g = refl
-    split true true g =
-        ap (kept ruleOf) (expect-post (byte 0x7D) (got 0) (λ (_ : ℕ) (q : List Token). got (deletes n) q) ts1
-        ∙ ap (λ (m : Read ℕ). after m (λ (_ : ℕ) (q : List Token). got (deletes n) q)) g)
-    split true false g =
-        ap (kept ruleOf) (expect-post (byte 0x7D) (got 0) (λ (_ : ℕ) (q : List Token). got (deletes n) q) ts1
-        ∙ ap (λ (m : Read ℕ). after m (λ (_ : ℕ) (q : List Token). got (deletes n) q)) g)
+    made : Gap → Rule
+    made h = Delete (positionsFrom h)
 
-pub rule-other : (s : List ℕ) (at : ℕ) (o : Choice) (n : NumberRead) (c : MarkRead) (v w : Bool)
-    → ChoiceAt empty (byte 0x7B) s at o → o .first ≡ false → NumberAt s (o .next .at) n → MarkAt 0x7D s (n .next .at) c
-    → v ≡ (n .spelt && c .spelt) → w ≡ (o .spelt && v) → RuleAt s at (record { spelt = w; rule = Delete (n .value); next = c .next })
-rule-other s at o n c v w mo h mn mc e f =
-    rw (f, e) (record {
+    same : (r : Read (List ℕ)) → kept ruleOf (after r (λ R q. got (deletes R) q)) ≡ kept made (kept gapOf r)
+    same misspelt = refl
+    same (got R q) = refl
+
+    back : (b : Bool) → kept made (found b g ts) ≡ found b (made g) ts
+    back true = refl
+    back false = refl
+
+pub rule-other : (s : List ℕ) (at : ℕ) (o : Choice) (n : GapRead) (d : Positions) (w : Bool)
+    → ChoiceAt empty (byte 0x7B) s at o → o .first ≡ false → PartsAt true s (o .next .at) n → d ≡ positionsFrom (n .gap)
+    → w ≡ (o .spelt && n .spelt) → RuleAt s at (record { spelt = w; rule = Delete d; next = n .next })
+rule-other s at o n d w mo h mn e f =
+    rw f (record {
       gives = choice-other ruleOf empty (byte 0x7B) (got expands) deleted (tokens (drop at s))
-          (tokens (drop (o .next .at) s)) _ (o .spelt) (n .spelt && c .spelt) (Delete (n .value))
+          (tokens (drop (o .next .at) s)) _ (o .spelt) (n .spelt) (Delete d)
           (mo .gives ∙ ap (λ (b : Bool). found (o .spelt) b (tokens (drop (o .next .at) s))) h)
-          (number-mark (tokens (drop (o .next .at) s)) _ _ (n .spelt) (c .spelt) (n .value) (mn .gives) (mc .gives));
-      moved = moved-twice s at (o .next .at) (c .next .at) (o .spelt) (n .spelt && c .spelt) (mo .moved)
-          (moved-twice s (o .next .at) (n .next .at) (c .next .at) (n .spelt) (c .spelt) (mn .moved) (mc .moved));
+          (positions-kept (items readNumber (byte 0x7D) (tokens (drop (o .next .at) s))) (n .spelt) (n .gap) d _ (mn .gives) e);
+      moved = record {
+        onward = λ t. let k : at < o .next .at = mo .moved .onward (and-left (o .spelt) (n .spelt) t) in
+            let l : o .next .at ≤ n .next .at = mn .onward in omega arith;
+        inside = λ _. mn .inside;
+      };
     })
 
 -- entries

@@ -2,4 +2,5 @@
 pub mod SchemeLoaded
 pub mod SchemeReading
 pub mod EntryReading
+pub mod RuleLoading
 pub mod SchemeLoading

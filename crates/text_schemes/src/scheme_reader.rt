@@ -5,8 +5,9 @@ use crate::parts::RuleRead;
 use forms::memory::Entry;
 use forms::memory::Rule;
 use text_gaps::gap_reader::gaps_at;
-use text_gaps::gap_reader::number_at;
+use text_gaps::gap_reader::parts_at;
 use text_gaps::parts::GapsRead;
+use text_gaps::positions::positions_of;
 use text_grammar::cursor::Cursor;
 use text_grammar::kinds::is_byte;
 use text_grammar::kinds::is_digits;
@@ -17,6 +18,7 @@ use text_patterns::digits::put_digits;
 use word::limits::GAPS;
 use word::limits::PARTS;
 use word::limits::PREFIX;
+ghost use Prim.Native.Nat.{_≤_};
 ghost use mathlib.Core.Path.{_≡_};
 ghost use mathlib.Core.Bool.{not, _&&_};
 ghost use lib.ListN.{length, drop};
@@ -207,8 +209,9 @@ fn middle_at(s: &[u8]) -> GapsRead
     GapsRead { spelt, gaps, next }
 }
 
-// The rule of an entry: ∅, or a number in braces.
+// The rule of an entry: ∅, or positions in braces.
 fn rule_at(s: &[u8], c: Cursor) -> RuleRead
+    requires { ⌜ c .at ≤ length (now s) ⌝ }
     ensures { λ r. ⌜ RuleAt (now (s .entry)) (c .at) r ⌝ }
 {
     let open = opening_at(s, c);
@@ -220,11 +223,12 @@ fn rule_at(s: &[u8], c: Cursor) -> RuleRead
             next: after,
         };
     }
-    let n = number_at(s, after);
-    let close = byte_at(s, n.next, b'}');
-    let spelt = both(open.spelt, both(n.spelt, close.spelt));
-    let rule = Rule::Delete(n.value);
-    let next = close.next;
+    let n = parts_at(s, after, true);
+    let spelt = both(open.spelt, n.spelt);
+    let gap = n.gap;
+    let positions = positions_of(gap);
+    let rule = Rule::Delete(positions);
+    let next = n.next;
     RuleRead { spelt, rule, next }
 }
 

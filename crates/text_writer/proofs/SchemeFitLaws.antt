@@ -7,32 +7,36 @@ use mathlib.Core.Path.{_≡_, refl, sym, subst}
 use mathlib.Core.Bool.{true, false, not}
 use mathlib.Core.List.{List, [], _∷_, map, List·Memᴰ, List·Memᴰ·head, List·Memᴰ·tail, Memᴰ·map}
 use lib.ListN.{length, getD, length-append}
-use lib.Dec.{ltb, leb, eqb}
-use borrow.Author.Tests.{ltb-false, le-leb, ne-eqb}
+use lib.Dec.{leb, eqb}
+use borrow.Author.Tests.{le-leb, ne-eqb}
 use Rattle.word.specs.Ceilings.{PREFIX, COMPONENTS, GAPS, TOTAL, SCHEME_TEXT}
 use Rattle.word.specs.Lists.{all}
-use Rattle.word.specs.ListLaws.{and-in, all-in, row-in}
+use Rattle.word.specs.ListLaws.{and-in, all-in, all-out, row-in}
+use Rattle.word.specs.Word.{within}
+use Rattle.word.specs.PermLaws.{within-out}
 use Rattle.word.specs.Finding.{clean, firstFault}
 use Rattle.cell.specs.Cell.{total}
 use Rattle.forms.specs.SchemeList.{Does, expands, deletes, EntryList}
 use Rattle.scheme.specs.WellFormed.{outside, schemeTests}
 use Rattle.scheme.specs.Proper.{ProperEntry}
 use Rattle.scheme.specs.ProperLaws.{proper}
-use Rattle.forms.specs.SchemeMemory.{noEntry, gapIn, entryIn, schemeIn}
+use Rattle.forms.specs.SchemeMemory.{noEntry, gapIn, sixOf, positionsIn, entryIn, schemeIn}
 use Rattle.forms.specs.MemoryLaws.{length-padded}
-use Rattle.scheme.specs.TestLaws.{or-right, length-items}
+use Rattle.scheme.specs.TestLaws.{length-items}
+use Rattle.forms.specs.declared.memory.Positions.{Positions}
 use Rattle.forms.specs.declared.memory.Rule.the-variants.{Delete}
 use Rattle.forms.specs.declared.memory.Entry.{Entry}
 use Rattle.forms.specs.declared.memory.Scheme.{Scheme}
 use Rattle.forms.specs.SchemeMemory.{gapAt, entryAt}
 use Rattle.forms.specs.GapForm.{entryGap}
-use Rattle.scheme.proofs.LookupLaws.{position-inside}
-use Rattle.text_grammar.specs.Spelling.{right, digits, numeral, separated, vectorPieces, entryPieces}
+use Rattle.scheme.specs.PositionLaws.{positions-inside, positions-some, positions-few}
+use Rattle.scheme.proofs.LookupLaws.{set-inside, set-named}
+use Rattle.text_grammar.specs.Spelling.{byte, right, digits, numeral, separated, vectorPieces, rulePieces, entryPieces}
 use Rattle.text_grammar.specs.Spelling.{digitRun, writableVector, writableRule, writableEntry, writtenScheme}
 use Rattle.text_grammar.specs.GrammarLaws.{numeral-one}
 use Rattle.text_writer.specs.Writable.{EntryFits, SchemeFits, text}
 use Rattle.text_writer.specs.WrittenLaws.{text-one, text-entry}
-use Rattle.text_writer.specs.RoomLaws.{component, text-append, bound-separated, bound-braced, bound-perm, bound-rule}
+use Rattle.text_writer.specs.RoomLaws.{component, text-append, bound-separated, bound-braced, bound-perm}
 use Rattle.text_writer.proofs.FitLaws.{perm-digits, perm-places}
 
 -- a component is at most the total
@@ -60,9 +64,13 @@ entry-fits e h =
           let n : b .width ≡ suc (e .length) = omega (arith, w, size, length-padded (b .width) (b .parts)) in
           record { some = omega arith; narrow = omega arith };
       rule = record {
-        short = λ (n : ℕ) (told : e .rule ≡ Delete n).
-            let (low, high) = position-inside (length ((entryIn e) .prefix)) n (e .rule) (h .inside) told in
-            omega (arith, a, high);
+        fit = λ (d : Positions) (told : e .rule ≡ Delete d).
+            let k = length ((entryIn e) .prefix) in
+            let inside = set-inside k d (e .rule) (h .inside) told in
+            record {
+              some = omega (arith, positions-some k (positionsIn d) inside, length-padded (d .count) (sixOf d));
+              few = omega (arith, a, set-named k d a inside .0);
+            };
       };
     }
 
@@ -80,6 +88,10 @@ scheme-fit s e =
 
 -- what can be written
 
+-- each position is at most k
+position-most : (k : ℕ) (R : List ℕ) → outside k (deletes R) ≡ false → {n : ℕ} → List·Memᴰ n R → n ≤ k
+position-most k R o {n} m = within-out k n (all-out (within k) m (positions-inside k R o)) .1
+
 vector-writable : (k : ℕ) (b : List ℕ) → length b ≡ suc k → total b ≤ TOTAL → writableVector b ≡ true
 vector-writable k b w l =
     and-in (not (eqb (length b) 0)) (all (λ (n : ℕ). leb n 999) b)
@@ -88,7 +100,10 @@ vector-writable k b w l =
 
 rule-writable : (k : ℕ) (r : Does) → k ≤ PREFIX → outside k r ≡ false → writableRule r ≡ true
 rule-writable k expands h o = refl
-rule-writable k (deletes r) h o = le-leb r 999 (omega (arith, ltb-false k r (or-right (eqb r 0) (ltb k r) o)))
+rule-writable k (deletes R) h o =
+    and-in (not (eqb (length R) 0)) (all (λ (n : ℕ). leb n 999) R)
+    (rw (ne-eqb (length R) 0 (λ (q : length R ≡ 0). omega (arith, positions-some k R o))) refl)
+    (all-in (λ (n : ℕ). leb n 999) R (λ (n : ℕ) (m : List·Memᴰ n R). le-leb n 999 (omega (arith, h, position-most k R o m))))
 
 entry-writable : (e : EntryList) → ProperEntry e → writableEntry e ≡ true
 entry-writable e h =
@@ -106,21 +121,30 @@ scheme-writable E e =
 
 -- the length of the text
 
--- how many bytes fewer than which a vector and an entry have: two for each component, and the marks
+-- how many bytes fewer than which a vector and an entry have: two for each component or position,
+-- and the marks
 abbrev VECTOR : ℕ
 VECTOR = 2 * COMPONENTS + 7
 
 abbrev ENTRY : ℕ
-ENTRY = VECTOR * GAPS + 21
+ENTRY = VECTOR * GAPS + 2 * PREFIX + 19
 
--- each component is one digit
+-- each component and each position is one digit
+numbers-short : (b : List ℕ) → ((n : ℕ) → List·Memᴰ n b → n < 10) → length (text (separated (map component b))) ≤ length b * 2
+numbers-short b small =
+    bound-separated component 2 b (λ (n : ℕ) (m : List·Memᴰ n b).
+    rw (text-one (digits (numeral n)), numeral-one n (small n m)) (omega arith))
+
 vector-short : (k : ℕ) (b : List ℕ) → k ≤ PREFIX → length b ≡ suc k → total b ≤ TOTAL → length (text (vectorPieces b)) < VECTOR
 vector-short k b short w l =
-    let parts = bound-separated component 2 b
-    (λ (n : ℕ) (m : List·Memᴰ n b).
-    let small : n < 10 = omega (arith, part-of-total m) in
-    rw (text-one (digits (numeral n)), numeral-one n small) (omega arith)) in
+    let parts = numbers-short b (λ (n : ℕ) (m : List·Memᴰ n b). omega (arith, part-of-total m)) in
     omega (arith, text-append (separated (map component b)) (right ∷ []))
+
+rule-short : (k : ℕ) (r : Does) → k ≤ PREFIX → outside k r ≡ false → length (text (rulePieces r)) ≤ 2 * PREFIX + 2
+rule-short k expands h o = omega arith
+rule-short k (deletes R) h o =
+    let parts = numbers-short R (λ (n : ℕ) (m : List·Memᴰ n R). omega (arith, h, position-most k R o m)) in
+    omega (arith, positions-few k R o, text-append (separated (map component R)) (byte 0x7D ∷ []))
 
 entry-short : (e : EntryList) → ProperEntry e → length (text (entryPieces e)) < ENTRY
 entry-short e h =
@@ -131,7 +155,7 @@ entry-short e h =
     subst
     (λ (t : List ℕ). length t < ENTRY)
     (sym (text-entry e))
-    (simp length-append (omega (arith, gaps, bound-perm (e .prefix), bound-rule (e .rule))))
+    (simp length-append (omega (arith, gaps, bound-perm (e .prefix), rule-short (length (e .prefix)) (e .rule) short (h .inside))))
 
 -- all entries with a comma for each, and two braces
 pub scheme-short : (E : List EntryList) → firstFault (schemeTests E) ≡ clean → length (writtenScheme E) ≤ SCHEME_TEXT

@@ -7,20 +7,22 @@ use mathlib.Core.Bool.{Bool, true, false, cond}
 use mathlib.Core.List.{List, [], _∷_, _++_, map, List·Memᴰ, List·Memᴰ·head, List·Memᴰ·tail}
 use lib.ListN.{length, getD, replicate, length-append, length-map, length-take}
 use lib.Dec.{ltb}
-use Rattle.word.specs.Ceilings.{COMPONENTS, GAPS}
+use Rattle.word.specs.Ceilings.{PREFIX, COMPONENTS, GAPS}
 use Rattle.word.specs.Lists.{row}
 use Rattle.word.specs.ListLaws.{each-append, length-row, row-out}
-use Rattle.forms.specs.SchemeList.{Does, expands, deletes}
-use Rattle.forms.specs.SchemeMemory.{padded, patternIn, patternsIn, gapIn, entryIn, schemeIn, noPattern, noEntry}
+use Rattle.forms.specs.SchemeMemory.{padded, patternIn, patternsIn, gapIn, sixOf, positionsIn, doesOf, entryIn, schemeIn}
+use Rattle.forms.specs.SchemeMemory.{noPattern, noEntry}
 use Rattle.forms.specs.GapForm.{entryGap}
 use Rattle.forms.specs.declared.memory.Patterns.{Patterns}
+use Rattle.forms.specs.declared.memory.Rule.{Rule}
+use Rattle.forms.specs.declared.memory.Rule.the-variants.{Expand, Delete}
 use Rattle.forms.specs.declared.memory.Entry.{Entry}
 use Rattle.forms.specs.declared.memory.Scheme.{Scheme}
 use Rattle.text_grammar.specs.Spelling.{Token, bytesOf, byte, digits, right, comma, separated, braced, permPiece}
 use Rattle.text_grammar.specs.Spelling.{numeral, vectorPieces, rulePieces}
 use Rattle.text_grammar.specs.Spelling.{entryPieces, writtenPatterns, writtenScheme}
 use Rattle.text_page.specs.Page.{Room}
-use Rattle.text_writer.specs.Writable.{PatternsFit, EntryFits, SchemeFits, text, patternAt, vectorAt, gapPieces, entryAt}
+use Rattle.text_writer.specs.Writable.{PatternsFit, RuleFits, EntryFits, SchemeFits, text, patternAt, vectorAt, gapPieces, entryAt}
 use Rattle.text_writer.specs.WrittenLaws.{text-one, text-entry, patterns-map, gaps-map, scheme-map}
 
 pub text-append : (a b : List Token) → length (text (a ++ b)) ≡ length (text a) + length (text b)
@@ -81,15 +83,24 @@ bound-number n = rw (length-map (numeral n) (λ (d : ℕ). 48 + d)) (go (ltb n 1
 abbrev pub component : ℕ → List Token
 component n = digits (numeral n) ∷ []
 
-bound-vector : (b : List ℕ) → length (text (vectorPieces b)) ≤ 6 + length b * 4
-bound-vector b =
-    let parts = bound-separated component 4 b (λ (n : ℕ) (m : List·Memᴰ n b). rw (text-one (digits (numeral n)))
-    (omega (arith, bound-number n))) in
-    omega (arith, text-append (separated (map component b)) (right ∷ []))
+-- bytes of a set of positions: four for each, and two braces
+abbrev ruleBytes : ℕ
+ruleBytes = 4 * PREFIX + 2
 
-pub bound-rule : (r : Does) → length (text (rulePieces r)) ≤ 5
-bound-rule expands = omega arith
-bound-rule (deletes n) = omega (arith, length-append (bytesOf (digits (numeral n))) (0x7D ∷ []), bound-number n)
+bound-numbers : (b : List ℕ) → length (text (separated (map component b))) ≤ length b * 4
+bound-numbers b =
+    bound-separated component 4 b (λ (n : ℕ) (m : List·Memᴰ n b). rw (text-one (digits (numeral n)))
+    (omega (arith, bound-number n)))
+
+bound-vector : (b : List ℕ) → length (text (vectorPieces b)) ≤ 6 + length b * 4
+bound-vector b = omega (arith, bound-numbers b, text-append (separated (map component b)) (right ∷ []))
+
+bound-rule : (r : Rule) → RuleFits r → length (text (rulePieces (doesOf r))) ≤ ruleBytes
+bound-rule Expand h = omega arith
+bound-rule (Delete d) h =
+    let R = positionsIn d in
+    let few : d .count ≤ PREFIX = h .fit d refl .few in
+    omega (arith, bound-numbers R, bound-padded (d .count) (sixOf d), text-append (separated (map component R)) (byte 0x7D ∷ []))
 
 -- bytes of a vector, of all vectors and of an entry, where a component may have three digits
 abbrev vectorBytes : ℕ
@@ -99,7 +110,7 @@ abbrev gapsBytes : ℕ
 gapsBytes = vectorBytes * GAPS + 3
 
 abbrev entryBytes : ℕ
-entryBytes = gapsBytes + 27
+entryBytes = gapsBytes + ruleBytes + 22
 
 bound-gaps : (e : Entry) → EntryFits e → length (text (gapPieces e)) ≤ gapsBytes
 bound-gaps e h =
@@ -121,7 +132,7 @@ bound-entry e h =
     (λ (t : List ℕ). length t < entryBytes)
     (sym (text-entry l))
     (simp length-append
-    (omega (arith, bound-perm (l .prefix), bound-padded (e .length) (e .prefix), bound-gaps e h, bound-rule (l .rule))))
+    (omega (arith, bound-perm (l .prefix), bound-padded (e .length) (e .prefix), bound-gaps e h, bound-rule (e .rule) (h .rule))))
 
 pub room-scheme : (s : Scheme) (at : ℕ) → SchemeFits s → at ≤ 1000000 → Room (writtenScheme (schemeIn s)) at
 room-scheme s at h k =

@@ -11,6 +11,7 @@ use Rattle.forms.specs.GapForm.{entryGap}
 use Rattle.forms.specs.declared.memory.Pattern.{Pattern}
 use Rattle.forms.specs.declared.memory.Patterns.{Patterns}
 use Rattle.forms.specs.declared.memory.Gap.{Gap}
+use Rattle.forms.specs.declared.memory.Positions.{Positions}
 use Rattle.forms.specs.declared.memory.Rule.{Rule}
 use Rattle.forms.specs.declared.memory.Rule.the-variants.{Delete}
 use Rattle.forms.specs.declared.memory.Entry.{Entry}
@@ -35,8 +36,13 @@ pub record GapFits (g : Gap) : Type 0 where
   pub some : 1 ≤ g .width
   pub narrow : g .width ≤ COMPONENTS
 
+-- a set has a position, and each has a name
+pub record PositionsFit (d : Positions) : Type 0 where
+  pub some : 1 ≤ d .count
+  pub few : d .count ≤ PREFIX
+
 pub record RuleFits (r : Rule) : Type 0 where
-  pub short : (n : ℕ) → r ≡ Delete n → n ≤ 999
+  pub fit : (d : Positions) → r ≡ Delete d → PositionsFit d
 
 pub record EntryFits (e : Entry) : Type 0 where
   pub short : e .length ≤ PREFIX

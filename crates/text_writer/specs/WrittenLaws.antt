@@ -10,9 +10,11 @@ use lib.ListN.{length, getD, take, drop, replicate}
 use lib.Seq.{drop-cons, take-append-le}
 use Rattle.word.specs.Lists.{row}
 use Rattle.word.specs.ListLaws.{below-or-not, each-append}
-use Rattle.forms.specs.SchemeMemory.{padded, patternIn, patternsIn, gapAt, entryIn, schemeIn, noPattern, noEntry}
+use Rattle.forms.specs.SchemeMemory.{padded, patternIn, patternsIn, gapAt, sixOf, positionsIn, entryIn, schemeIn}
+use Rattle.forms.specs.SchemeMemory.{noPattern, noEntry}
 use Rattle.forms.specs.SchemeList.{EntryList, deletes}
 use Rattle.forms.specs.declared.memory.Patterns.{Patterns}
+use Rattle.forms.specs.declared.memory.Positions.{Positions}
 use Rattle.forms.specs.declared.memory.Entry.{Entry}
 use Rattle.forms.specs.declared.memory.Scheme.{Scheme}
 use Rattle.scheme.specs.TestLaws.{row-next, row-end}
@@ -25,7 +27,7 @@ use Rattle.text_page.specs.Page.{Writes, Room}
 use Rattle.text_page.specs.PageLaws.{ToCome, step, again, finish, room-next, writes-join}
 use Rattle.text_page.specs.Decimal.{decimal}
 use Rattle.text_page.specs.DecimalLaws.{decimal-one, decimal-more}
-use Rattle.text_writer.specs.Writable.{text, next, further, number, patternAt, vectorAt, gapPieces, entryAt}
+use Rattle.text_writer.specs.Writable.{PositionsFit, text, next, further, number, patternAt, vectorAt, gapPieces, entryAt}
 
 -- the first items, by their places
 
@@ -125,13 +127,25 @@ pub text-braced : (f : ℕ → List Token) (n : ℕ) → 0 < n →
 text-braced f zero h = absurd (omega arith)
 text-braced f (suc n) h = text-between f (byte 0x7B) (byte 0x7D) (suc n) h
 
--- a vector's text, by the components in memory
-pub text-vector : (n : ℕ) (l : List ℕ) → 0 < n → n ≤ length l →
-    text (vectorPieces (padded n l)) ≡
-    bytesOf left ++ (text (number l 0) ++ (further (number l) 1 (n - 1) ++ bytesOf right))
-text-vector n l h k =
+-- numbers between two marks, by the numbers in memory
+text-numbers : (before after : Token) (n : ℕ) (l : List ℕ) → 0 < n → n ≤ length l →
+    text (before ∷ (separated (map (λ (m : ℕ). digits (numeral m) ∷ []) (padded n l)) ++ (after ∷ []))) ≡
+    bytesOf before ++ (text (number l 0) ++ (further (number l) 1 (n - 1) ++ bytesOf after))
+text-numbers before after n l h k =
     rw (padded-row n l k, map-map (λ (m : ℕ). digits (numeral m) ∷ []) (λ (j : ℕ). getD l j 0) (row 0 n))
-    (text-between (number l) left right n h)
+    (text-between (number l) before after n h)
+
+pub text-vector : (n : ℕ) (l : List ℕ) → 0 < n → n ≤ length l →
+    text (vectorPieces (padded n l)) ≡ bytesOf left ++ (text (number l 0) ++ (further (number l) 1 (n - 1) ++ bytesOf right))
+text-vector n l h k = text-numbers left right n l h k
+
+pub text-deletes : (d : Positions) (l : List ℕ) (n : ℕ) → l ≡ sixOf d → n ≡ d .count → PositionsFit d →
+    text (rulePieces (deletes (positionsIn d))) ≡
+    (0x7B ∷ []) ++ (text (number l 0) ++ (further (number l) 1 (n - 1) ++ (0x7D ∷ [])))
+text-deletes d l n e f h =
+    let some = h .some in
+    let few = h .few in
+    rw (e, f) (text-numbers (byte 0x7B) (byte 0x7D) (d .count) (sixOf d) (omega arith) few)
 
 -- a number of up to three digits: its bytes are those of the number in base ten
 pub numeral-decimal : (n : ℕ) → n ≤ 999 → bytesOf (digits (numeral n)) ≡ decimal n
@@ -180,7 +194,7 @@ text-gaps e h = gaps-map e ∙ text-braced (vectorAt e) (e .«gap_count») (omeg
 pub text-no-gaps : (e : Entry) → e .«gap_count» ≡ 0 → text (gapPieces e) ≡ bytesOf empty
 text-no-gaps e z = gaps-map e ∙ rw z refl
 
--- an entry and its rule
+-- an entry
 
 pub text-entry : (e : EntryList) →
     text (entryPieces e) ≡
@@ -191,9 +205,6 @@ text-entry e =
     (each-append bytesOf (braced (map vectorPieces (e .gaps))) (comma ∷ (rulePieces (e .rule) ++ (byte 0x29 ∷ []))) ∙
     ap (λ (r : List ℕ). text (braced (map vectorPieces (e .gaps))) ++ (0x2C ∷ r))
     (each-append bytesOf (rulePieces (e .rule)) (byte 0x29 ∷ [])))
-
-pub text-deletes : (n : ℕ) → text (rulePieces (deletes n)) ≡ (0x7B ∷ []) ++ (bytesOf (digits (numeral n)) ++ (0x7D ∷ []))
-text-deletes n = refl
 
 -- a scheme, by the entries in memory
 

@@ -5,8 +5,10 @@ use forms::memory::Entry;
 use forms::memory::Gap;
 use forms::memory::Pattern;
 use forms::memory::Patterns;
+use forms::memory::Positions;
 use forms::memory::Rule;
 use forms::memory::Scheme;
+use forms::positions::six_of;
 use text_grammar::marks::EMPTY;
 use text_grammar::marks::EPSILON;
 use text_grammar::marks::LEFT;
@@ -17,12 +19,14 @@ use text_page::bytes::put_decimal;
 use word::bytes::wide;
 ghost use mathlib.Core.List.{[], _∷_};
 ghost use Prim.Native.Nat.{_-_, _≤_, _<_};
+ghost use lib.ListN.{length};
 ghost use Rattle.forms.specs.SchemeList.{deletes};
-ghost use Rattle.forms.specs.SchemeMemory.{padded, patternIn, patternsIn, gapIn, doesOf, entryIn, schemeIn};
+ghost use Rattle.forms.specs.SchemeMemory.{padded, patternIn, patternsIn, gapIn, positionsIn, doesOf, entryIn, schemeIn};
 ghost use Rattle.text_grammar.specs.Spelling.{bytesOf, permPiece, digits, numeral, vectorPieces, rulePieces, entryPieces};
 ghost use Rattle.text_grammar.specs.Spelling.{writtenPatterns, writtenScheme};
 ghost use Rattle.text_page.specs.Page.{Writes, Room};
-ghost use Rattle.text_writer.specs.Writable.{DigitsFit, PatternFits, PatternsFit, GapFits, RuleFits, EntryFits, SchemeFits};
+ghost use Rattle.text_writer.specs.Writable.{DigitsFit, PatternFits, PatternsFit, GapFits, PositionsFit};
+ghost use Rattle.text_writer.specs.Writable.{RuleFits, EntryFits, SchemeFits};
 ghost use Rattle.text_writer.specs.Writable.{text, further, number, patternAt, vectorAt, gapPieces, entryAt};
 
 // Writes the first n digits.
@@ -100,7 +104,7 @@ fn put_number(page: &mut [u8], at: usize, n: usize) -> usize
     put_decimal(page, at, n as u64)
 }
 
-// Writes a component of a gap vector.
+// Writes a component of a gap vector, or a position.
 fn put_part(page: &mut [u8], at: usize, x: u8) -> usize
     requires { ⌜ Room (text (digits (numeral x) ∷ [])) at ⌝ }
     ensures { λ r. ⌜ Writes (text (digits (numeral x) ∷ [])) at (now (page .entry)) (now (page .exit)) r ⌝ }
@@ -108,19 +112,18 @@ fn put_part(page: &mut [u8], at: usize, x: u8) -> usize
     put_number(page, at, wide(x))
 }
 
-// Writes the components after the first, a comma before each.
-fn put_further_parts(page: &mut [u8], at: usize, g: Gap) -> usize
-    requires { ⌜ GapFits g × Room (further (number (g .parts)) 1 (g .width - 1)) at ⌝ }
-    ensures { λ r. ⌜ Writes (further (number (g .parts)) 1 (g .width - 1)) at (now (page .entry)) (now (page .exit)) r ⌝ }
+// Writes the first n numbers of an array but for the first of them, a comma before each.
+fn put_further_parts(page: &mut [u8], at: usize, parts: &[u8], n: usize) -> usize
+    requires { ⌜ (1 ≤ n) × (n ≤ length (now parts)) × Room (further (number (now parts)) 1 (n - 1)) at ⌝ }
+    ensures { λ r. ⌜ Writes (further (number (now (parts .entry))) 1 (n - 1)) at (now (page .entry)) (now (page .exit)) r ⌝ }
 {
-    let parts = g.parts;
-    let n = g.width;
+    let last_part = n - 1;
     let mut next = at;
-    let mut i: usize = 1;
-    while i < n {
+    let mut k: usize = 1;
+    while k <= last_part {
         let from = put(page, next, b',');
-        next = put_part(page, from, parts[i]);
-        i += 1;
+        next = put_part(page, from, parts[k]);
+        k += 1;
     }
     next
 }
@@ -131,9 +134,10 @@ fn put_vector(page: &mut [u8], at: usize, g: Gap) -> usize
     ensures { λ r. ⌜ Writes (text (vectorPieces (gapIn g))) at (now (page .entry)) (now (page .exit)) r ⌝ }
 {
     let parts = g.parts;
+    let n = g.width;
     let first = put_bytes(page, at, &LEFT);
     let second = put_part(page, first, parts[0]);
-    let last = put_further_parts(page, second, g);
+    let last = put_further_parts(page, second, &parts, n);
     put_bytes(page, last, &RIGHT)
 }
 
@@ -176,13 +180,16 @@ fn put_gaps(page: &mut [u8], at: usize, e: Entry) -> usize
     put(page, last, b'}')
 }
 
-// Writes a deleted position.
-fn put_deleted(page: &mut [u8], at: usize, n: usize) -> usize
-    requires { ⌜ (n ≤ 999) × Room (text (rulePieces (deletes n))) at ⌝ }
-    ensures { λ r. ⌜ Writes (text (rulePieces (deletes n))) at (now (page .entry)) (now (page .exit)) r ⌝ }
+// Writes the deleted positions.
+fn put_deleted(page: &mut [u8], at: usize, d: Positions) -> usize
+    requires { ⌜ PositionsFit d × Room (text (rulePieces (deletes (positionsIn d)))) at ⌝ }
+    ensures { λ r. ⌜ Writes (text (rulePieces (deletes (positionsIn d)))) at (now (page .entry)) (now (page .exit)) r ⌝ }
 {
+    let six = six_of(d);
+    let n = wide(d.count);
     let first = put(page, at, b'{');
-    let last = put_number(page, first, n);
+    let second = put_part(page, first, six[0]);
+    let last = put_further_parts(page, second, &six, n);
     put(page, last, b'}')
 }
 
@@ -193,7 +200,7 @@ fn put_rule(page: &mut [u8], at: usize, rule: Rule) -> usize
 {
     match rule {
         Rule::Expand => put_bytes(page, at, &EMPTY),
-        Rule::Delete(n) => put_deleted(page, at, n),
+        Rule::Delete(d) => put_deleted(page, at, d),
     }
 }
 

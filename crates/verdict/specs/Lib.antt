@@ -8,4 +8,5 @@ pub mod SameVerdictLaws
 pub mod Value
 pub mod Size
 pub mod ValueLaws
+pub mod SingleLaws
 pub mod ListedCountLaws

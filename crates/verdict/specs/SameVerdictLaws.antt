@@ -27,7 +27,8 @@ use Rattle.forms.specs.SchemeMemory.{faultOf}
 use Rattle.forms.specs.declared.memory.Fault.{Fault}
 use Rattle.forms.specs.declared.memory.Fault.the-variants.{Clean, At}
 use Rattle.scheme.specs.WellFormed.{firstAt, outside, patternTests, schemeTests}
-use Rattle.scheme.specs.ProperLaws.{proper, proper-pattern, position-inside}
+use Rattle.scheme.specs.PositionLaws.{positions-inside}
+use Rattle.scheme.specs.ProperLaws.{proper, proper-pattern}
 use Rattle.scheme.specs.FindingLaws.{clean-append, fault-append, same-failure, none-in, first-same}
 use Rattle.scheme.specs.NumberLaws.{numberFound, patterns-nine, scheme-nine, rest-found}
 use Rattle.verdict.specs.Verdict.{liveGap, sizesDiffer, differsUnder, claimTestsUnder, comparedWithUnder, comparedCellsUnder}
@@ -112,9 +113,9 @@ module _ (m n : ℕ) (P : List (List ℕ)) (reach : longest (basis P) ≤ m) (fu
   rule-alike : WellFormed P E → (e : EntryList) → List·Memᴰ e E → (rule : Does) → outside (length (e .prefix)) rule ≡ false →
       ruleWordUnder m P (e .prefix) (e .gaps) rule ≡ ruleWordUnder n P (e .prefix) (e .gaps) rule
   rule-alike formed e d expands inside = refl
-  rule-alike formed e d (deletes r) inside =
-      word-alike P (λ β i. proper-pattern P (formed .patterns) β i .perm) (e .prefix) (r ∷ []) (proper E (formed .scheme) .each e d .perm)
-      (position-inside (length (e .prefix)) r inside) (e .gaps) m n reach further
+  rule-alike formed e d (deletes R) inside =
+      word-alike P (λ β i. proper-pattern P (formed .patterns) β i .perm) (e .prefix) R (proper E (formed .scheme) .each e d .perm)
+      (positions-inside (length (e .prefix)) R inside) (e .gaps) m n reach further
 
   entry-alike : WellFormed P E → (i : ℕ) → entryWordUnder m P (indexedEntry E i) ≡ entryWordUnder n P (indexedEntry E i)
   entry-alike formed i = go (indexedEntry E i) refl
@@ -145,7 +146,7 @@ finding-answered (At r i) n = refl
 with-most : (m n : ℕ) → m ≤ n → (p : List ℕ) (B : List (List ℕ)) (rule : Does) → comparedWithUnder m p B rule ≤ comparedWithUnder n p B rule
 unfolding comparedWithUnder
 with-most m n h p B expands = omega arith
-with-most m n h p B (deletes r) =
+with-most m n h p B (deletes R) =
     let (l, q) = compared-more m n (length p) B h in
     omega (arith, ap length q, length-append (comparedTo m (length p) B) l)
 
@@ -175,19 +176,19 @@ module _ (P : List (List ℕ)) (E : List EntryList) where
       ap (bytesShownUnder (longest P) P E) same-verdict
 
   -- Of an entry that is refused 11 the same spacing is shown, and the same permutation.
-  pub same-shown : (i r : ℕ) (e : EntryList) → findingOf (verdictOf P E) ≡ At Irreversible i → indexedEntry E i ≡ some e →
-      e .rule ≡ deletes r →
-      (shownSpacing P (e .prefix) (e .gaps) (r ∷ []) ≡ shownSpacingUnder (longest P) P (e .prefix) (e .gaps) (r ∷ [])) ×
-      (shownWord P (e .prefix) (e .gaps) (r ∷ []) ≡ shownWordUnder (longest P) P (e .prefix) (e .gaps) (r ∷ []))
-  same-shown i r e found at deleting =
+  pub same-shown : (i : ℕ) (R : List ℕ) (e : EntryList) → findingOf (verdictOf P E) ≡ At Irreversible i → indexedEntry E i ≡ some e →
+      e .rule ≡ deletes R →
+      (shownSpacing P (e .prefix) (e .gaps) R ≡ shownSpacingUnder (longest P) P (e .prefix) (e .gaps) R) ×
+      (shownWord P (e .prefix) (e .gaps) R ≡ shownWordUnder (longest P) P (e .prefix) (e .gaps) R)
+  same-shown i R e found at deleting =
       let number = eleven-found (firstFault (judgeTestsUnder (mOf P) P E))
       (sym (finding-answered (faultOf (firstFault (judgeTestsUnder (mOf P) P E))) (comparedCells P E)) ∙ found) in
       let formed = formed-behind (mOf P) P E (omega arith) in
       let q = proper E (formed .scheme) .each e (indexed-member E i e at) in
-      let inside = position-inside (length (e .prefix)) r (ap (outside (length (e .prefix))) (sym deleting) ∙ q .inside) in
+      let inside = positions-inside (length (e .prefix)) R (ap (outside (length (e .prefix))) (sym deleting) ∙ q .inside) in
       let perms : (β : List ℕ) → List·Memᴰ β P → isPerm β ≡ true = λ β d. proper-pattern P (formed .patterns) β d .perm in (
-        spacing-alike P perms (e .prefix) (r ∷ []) (q .perm) inside (e .gaps) (mOf P) (longest P) (m-reaches P) (longest-basis P),
-        word-alike P perms (e .prefix) (r ∷ []) (q .perm) inside (e .gaps) (mOf P) (longest P) (m-reaches P) (longest-basis P),
+        spacing-alike P perms (e .prefix) R (q .perm) inside (e .gaps) (mOf P) (longest P) (m-reaches P) (longest-basis P),
+        word-alike P perms (e .prefix) R (q .perm) inside (e .gaps) (mOf P) (longest P) (m-reaches P) (longest-basis P),
       )
     where
       numberIn : Fault → ℕ

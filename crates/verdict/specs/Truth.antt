@@ -2,7 +2,7 @@
 -- only.
 use Prim.Native.Nat.{ℕ}
 use mathlib.Core.Path.{_≡_}
-use mathlib.Core.List.{List, [], _∷_, List·Memᴰ}
+use mathlib.Core.List.{List, List·Memᴰ}
 use Rattle.word.specs.Finding.{clean, firstFault}
 use Rattle.cell.specs.Claim.{GapClaim, DeletionClaim}
 use Rattle.forms.specs.SchemeList.{Does, expands, deletes, EntryList}
@@ -17,7 +17,7 @@ pub record WellFormed (P : List (List ℕ)) (E : List EntryList) : Type 0 where
 -- what a rule claims, with no bound on the totals of spacings: an expanding entry claims nothing
 abbrev pub RuleClaim : List (List ℕ) → List ℕ → List (List ℕ) → Does → Type 0
 RuleClaim P p B expands = Unit {0}
-RuleClaim P p B (deletes r) = DeletionClaim P p B (r ∷ [])
+RuleClaim P p B (deletes R) = DeletionClaim P p B R
 
 -- the claims of an entry are true at every length: "A claim is true at every length if it holds for
 -- all the spacings it speaks of, with no bound on their totals" (01)

@@ -23,7 +23,7 @@ unfoldable pub ruleValue : (List ℕ → List ℕ → ℕ) → List (List ℕ) �
 unfolding avoids total slot childAt split deleted merged
 ruleValue v P p g expands =
     cond (eqb (total g) 0) (cond (avoids P p) 1 0) (total (map (λ s. v (childAt p (slot g s)) (split g s)) (oneTo (total g))))
-ruleValue v P p g (deletes r) = v (deleted (r ∷ []) p) (merged (r ∷ []) p g)
+ruleValue v P p g (deletes R) = v (deleted R p) (merged R p g)
 
 -- "A spacing at or above a listed vector gives 0" (01); a prefix without an entry is never asked
 -- for in a well-formed scheme

@@ -8,8 +8,8 @@ use mathlib.Core.Bool.{Bool, true, false, not, _||_, cond}
 use mathlib.Core.List.{List, [], _∷_, map, map-id, List·Memᴰ, List·Memᴰ·head, List·Memᴰ·tail}
 use mathlib.Core.Option.{some}
 use lib.ListN.{length}
-use lib.Dec.{eqb, ltb}
-use borrow.Author.Tests.{eq-eqb, ne-eqb, ltb-true, ltb-false, not-false}
+use lib.Dec.{eqb}
+use borrow.Author.Tests.{eq-eqb, ne-eqb, ltb-true, not-false}
 use Rattle.word.specs.Ceilings.{LENGTH}
 use Rattle.word.specs.Lists.{keep, oneTo}
 use Rattle.word.specs.Word.{avoids, isPerm, perms, avoiders}
@@ -28,13 +28,12 @@ use Rattle.cell.specs.ChildLaws.{slot-bounds, split-length, split-total, child-
 use Rattle.cell.specs.MergeLaws.{merged-length, merged-total}
 use Rattle.cell.specs.Theorems.{agrees-of-claim, sizes-of-agrees}
 use Rattle.forms.specs.SchemeList.{Does, expands, deletes, EntryList}
-use Rattle.scheme.proofs.PrefixLaws.{deleted-size}
 use Rattle.scheme.specs.WellFormed.{listed, outside, lacksChild, lacksTarget, prefixes}
-use Rattle.scheme.specs.TestLaws.{or-right}
+use Rattle.scheme.specs.PositionLaws.{positions-inside, positions-some, deleted-size}
 use Rattle.verdict.specs.Truth.{WellFormed, RuleClaim, AllTrue}
 use Rattle.scheme.specs.FindingLaws.{none-out}
 use Rattle.scheme.specs.Proper.{Proper}
-use Rattle.scheme.specs.ProperLaws.{proper as left, position-inside}
+use Rattle.scheme.specs.ProperLaws.{proper as left}
 use Rattle.verdict.specs.Size.{size, Listed, measure, HIGHEST, VALUES}
 use Rattle.verdict.specs.Value.{entryFor, ruleValue, entryValue, value, countOf}
 
@@ -51,10 +50,6 @@ entry-found (d ∷ E) p h = go (same p (d .prefix)) refl h (entry-found E p)
     go true q h ih = (d, List·Memᴰ·head refl, rw q refl, sym (same-out p (d .prefix) q))
     go false q h ih = let (e, m, f, s) = ih h in (e, List·Memᴰ·tail m, rw q f, s)
 
--- a position inside 1 to k
-pub position-high : (k r : ℕ) → outside k (deletes r) ≡ false → r ≤ k
-position-high k r e = ltb-false k r (or-right (eqb r 0) (ltb k r) e)
-
 -- One step of the recursion, where two functions agree on the listed prefixes of a smaller measure
 
 module _ (P : List (List ℕ)) (E : List EntryList) (proper : Proper E) where
@@ -67,9 +62,9 @@ module _ (P : List (List ℕ)) (E : List EntryList) (proper : Proper E) where
       (children-all (e .prefix) a (proper .each e m .perm) low high))
 
   -- the target of a deleting entry is listed
-  pub target-listed : (e : EntryList) → List·Memᴰ e E → (r : ℕ) → e .rule ≡ deletes r → Listed E (deleted (r ∷ []) (e .prefix))
-  target-listed e m r q =
-      not-false (listed (prefixes E) (deleted (r ∷ []) (e .prefix)))
+  pub target-listed : (e : EntryList) → List·Memᴰ e E → (R : List ℕ) → e .rule ≡ deletes R → Listed E (deleted R (e .prefix))
+  target-listed e m R q =
+      not-false (listed (prefixes E) (deleted R (e .prefix)))
       (sym (ap (lacksTarget (prefixes E) (e .prefix)) q) ∙ proper .target e m)
 
   -- one step at an entry of E
@@ -90,16 +85,14 @@ module _ (P : List (List ℕ)) (E : List EntryList) (proper : Proper E) where
             let n = split-length g s low (omega arith) in
             let t = split-total g s low (omega arith) in
             agree (childAt (e .prefix) (slot g s)) (split g s) (child-listed e m r (slot g s) a (omega arith)) (omega arith) (omega arith)
-    rule-agrees (deletes zero) r = absurd (true-not-false (sym (ap (outside (length (e .prefix))) r) ∙ proper .each e m .inside))
-    rule-agrees (deletes (suc i)) r =
+    rule-agrees (deletes R) r =
         let q = proper .each e m in
-        let inside = position-inside (length (e .prefix)) (suc i) (sym (ap (outside (length (e .prefix))) r) ∙ q .inside) in
-        let k : i < length (e .prefix) = position-high (length (e .prefix)) (suc i)
-        (sym (ap (outside (length (e .prefix))) r) ∙ q .inside) in
-        let d = deleted-size i (e .prefix) (q .perm) k in
-        let t = merged-total (suc i ∷ []) (e .prefix) g in
-        agree (deleted (suc i ∷ []) (e .prefix)) (merged (suc i ∷ []) (e .prefix) g) (target-listed e m (suc i) r)
-        (merged-length (suc i ∷ []) (e .prefix) g (q .perm) wide inside) (omega arith)
+        let inside = sym (ap (outside (length (e .prefix))) r) ∙ q .inside in
+        let some = positions-some (length (e .prefix)) R inside in
+        let d = deleted-size R (e .prefix) inside in
+        let t = merged-total R (e .prefix) g in
+        agree (deleted R (e .prefix)) (merged R (e .prefix) g) (target-listed e m R r)
+        (merged-length R (e .prefix) g (q .perm) wide (positions-inside (length (e .prefix)) R inside)) (omega arith)
 
     pub entry-agrees : entryValue v P (some e) g ≡ entryValue w P (some e) g
     unfolding entryValue
@@ -175,16 +168,16 @@ module _ (P : List (List ℕ)) (E : List EntryList) (formed : WellFormed P E) (t
             ap (λ b. cond b (cond (avoids P (e .prefix)) 1 0)
             (total (map (λ s. length (cell P (childAt (e .prefix) (slot g s)) (split g s))) (oneTo (total g)))))
             (sym (ne-eqb (total g) 0 (λ (z : total g ≡ 0). omega arith)))
-    spoken f (deletes i) r =
+    spoken f (deletes R) r =
         let q = left E (formed .scheme) .each e m in
-        let inside = position-inside (length (e .prefix)) i (sym (ap (outside (length (e .prefix))) r) ∙ q .inside) in
-        let claim : DeletionClaim P (e .prefix) (e .gaps) (i ∷ []) = cast-rule (e .rule) i r (truth e m .rule) in
-        sizes-of-agrees P (e .prefix) (i ∷ []) (q .perm) inside g wide
-        (agrees-of-claim P (e .prefix) (i ∷ []) (q .perm) inside (e .gaps) claim g wide f)
+        let inside = positions-inside (length (e .prefix)) R (sym (ap (outside (length (e .prefix))) r) ∙ q .inside) in
+        let claim : DeletionClaim P (e .prefix) (e .gaps) R = cast-rule (e .rule) R r (truth e m .rule) in
+        sizes-of-agrees P (e .prefix) R (q .perm) inside g wide
+        (agrees-of-claim P (e .prefix) R (q .perm) inside (e .gaps) claim g wide f)
       where
-        cast-rule : (d : Does) (i : ℕ) → d ≡ deletes i → RuleClaim P (e .prefix) (e .gaps) d →
-            DeletionClaim P (e .prefix) (e .gaps) (i ∷ [])
-        cast-rule d i q c = rw q at c
+        cast-rule : (d : Does) (R : List ℕ) → d ≡ deletes R → RuleClaim P (e .prefix) (e .gaps) d →
+            DeletionClaim P (e .prefix) (e .gaps) R
+        cast-rule d R q c = rw q at c
 
     -- at an entry of the scheme
     pub entry-solves : size P (e .prefix) g ≡ entryValue (size P) P (some e) g

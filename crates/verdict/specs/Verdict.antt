@@ -39,7 +39,7 @@ sizesDiffer P p R g = not (eqb (length (cell P p g)) (length (cell P (deleted R 
 unfoldable pub differsUnder : ℕ → List (List ℕ) → List ℕ → List (List ℕ) → Does → Bool
 unfolding sizesDiffer comparedTo
 differsUnder m P p B expands = false
-differsUnder m P p B (deletes r) = any (sizesDiffer P p (r ∷ [])) (comparedTo m (length p) B)
+differsUnder m P p B (deletes R) = any (sizesDiffer P p R) (comparedTo m (length p) B)
 
 -- 10 over all entries, then 11 over all entries
 abbrev pub claimTestsUnder : ℕ → List (List ℕ) → List EntryList → List Finding
@@ -51,7 +51,7 @@ claimTestsUnder m P E =
 unfoldable pub comparedWithUnder : ℕ → List ℕ → List (List ℕ) → Does → ℕ
 unfolding comparedTo
 comparedWithUnder m p B expands = 0
-comparedWithUnder m p B (deletes r) = length (comparedTo m (length p) B)
+comparedWithUnder m p B (deletes R) = length (comparedTo m (length p) B)
 
 unfoldable pub comparedCellsUnder : ℕ → List EntryList → ℕ
 unfolding comparedWithUnder total

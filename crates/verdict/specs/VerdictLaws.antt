@@ -25,7 +25,8 @@ use Rattle.verdict.specs.Verdict.{isEmpty, liveGap, sizesDiffer, differs
 use Rattle.verdict.specs.Verdict.{judgeTests, answered, verdictOf, accepted}
 use Rattle.verdict.specs.Truth.{WellFormed, RuleClaim, AllTrue}
 use Rattle.scheme.specs.FindingLaws.{clean-in, clean-left, clean-right, clean-append, clean-two, first-out, first-in, none-out, none-in}
-use Rattle.scheme.specs.ProperLaws.{proper, proper-pattern, position-inside}
+use Rattle.scheme.specs.PositionLaws.{positions-inside}
+use Rattle.scheme.specs.ProperLaws.{proper, proper-pattern}
 
 -- a list is empty or not
 pub empty-out : (l : List (List ℕ)) → not (isEmpty l) ≡ false → l ≡ []
@@ -77,9 +78,9 @@ pub differs-law : (m : ℕ) (P : List (List ℕ)) → longest (basis P) ≤ m �
     (differsUnder m P p B rule ≡ false) ↔ RuleClaim P p B rule
 unfolding differsUnder
 differs-law m P reach each-perm p B expands perm inside = (λ e. tt, λ h. refl)
-differs-law m P reach each-perm p B (deletes r) perm inside =
-    let (there, back) = sizes-agree m P p B (r ∷ []) in
-    let (up, down) = finite-basis P each-perm m reach p (r ∷ []) perm (position-inside (length p) r inside) B in
+differs-law m P reach each-perm p B (deletes R) perm inside =
+    let (there, back) = sizes-agree m P p B R in
+    let (up, down) = finite-basis P each-perm m reach p R perm (positions-inside (length p) R inside) B in
     (λ e. up (there e), λ h. back (down h))
 
 -- the tests 10 and 11 find nothing exactly if all claims are true

@@ -57,7 +57,7 @@ witnessBytes P (some w) = half w ++ half (positionsOf (earliest P w))
 -- the permutation that is shown for an entry; an expanding entry loses none
 abbrev pub ruleWordUnder : ℕ → List (List ℕ) → List ℕ → List (List ℕ) → Does → Option (List ℕ)
 ruleWordUnder m P p B expands = none
-ruleWordUnder m P p B (deletes r) = shownWordUnder m P p B (r ∷ [])
+ruleWordUnder m P p B (deletes R) = shownWordUnder m P p B R
 
 -- the entry at an index, counted from 0
 abbrev pub indexedEntry : List EntryList → ℕ → Option EntryList

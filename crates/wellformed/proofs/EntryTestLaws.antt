@@ -7,27 +7,32 @@ use mathlib.Core.Bool.{Bool, true, false, not, _||_}
 use mathlib.Core.List.{List, [], _∷_, map}
 use native.Mathlib.Numerals.{add-one}
 use native.Mathlib.Omega.{arith}
-use lib.Dec.{ltb, eqb}
-use lib.ListN.{length, getD, drop, drop-of-length-le}
-use lib.Seq.{drop-cons, getD-take}
-use borrow.Author.Tests.{ltb-false, lt-ltb, le-ltb, eq-eqb, ne-eqb}
+use lib.Dec.{leb, ltb, eqb}
+use lib.ListN.{length, getD, take, drop, drop-of-length-le}
+use lib.Seq.{length-take-le, drop-cons, getD-take}
+use borrow.Author.Tests.{ltb-false, lt-ltb, le-ltb, le-leb, lt-leb, eq-eqb, ne-eqb}
 use Rattle.word.specs.Ceilings.{ENTRIES, PREFIX, COMPONENTS, GAPS, TOTAL}
 use Rattle.word.specs.Lists.{any, row}
+use Rattle.word.specs.ListLaws.{true-not-false}
+use Rattle.word.specs.Word.{within}
 use Rattle.word.specs.Finding.{Finding, clean, fault, test, firstFault}
 use Rattle.word.specs.declared.refusal.Refusal.the-variants.{Oversize}
 use Rattle.cell.specs.Cell.{total}
 use Rattle.forms.specs.SchemeList.{Does, EntryList}
-use Rattle.scheme.specs.WellFormed.{firstAt, largeGap, largeEntry, wrongWidth, outside}
-use Rattle.forms.specs.SchemeMemory.{padded, partsAt, noEntry, gapIn, doesOf, entryIn, gapAt, entryAt, schemeIn, faultOf}
+use Rattle.scheme.specs.WellFormed.{firstAt, largeGap, largeEntry, wrongWidth, astray, outside}
+use Rattle.scheme.specs.PositionLaws.{positions-inside}
+use Rattle.forms.specs.SchemeMemory.{padded, partsAt, noEntry, gapIn, sixOf, positionsIn, doesOf, entryIn, gapAt, entryAt}
+use Rattle.forms.specs.SchemeMemory.{schemeIn, faultOf}
 use Rattle.scheme.specs.Sized.{SizedEntry, Sized}
 use Rattle.forms.specs.declared.memory.Gap.{Gap}
+use Rattle.forms.specs.declared.memory.Positions.{Positions}
 use Rattle.forms.specs.declared.memory.Rule.{Rule}
 use Rattle.forms.specs.declared.memory.Rule.the-variants.{Delete}
 use Rattle.forms.specs.declared.memory.Entry.{Entry}
 use Rattle.forms.specs.declared.memory.Scheme.{Scheme}
 use Rattle.forms.specs.declared.memory.Fault.the-variants.{Clean}
 use Rattle.scheme.specs.TestLaws.{from, first-clean, any-clean, or-left, or-right, length-items, first-start, any-start, single, clean-of}
-use Rattle.forms.specs.MemoryLaws.{padded-within, length-padded}
+use Rattle.forms.specs.MemoryLaws.{padded-within, length-padded, padded-zero}
 
 -- the total of what is left of a vector
 module _ (p : List ℕ) (n : ℕ) (h : n ≤ length p) where
@@ -96,13 +101,52 @@ module _ (e : Entry) where
     pub width-right : w ≡ e .length + 1 → otherWidth (gapAt e j) ≡ false
     width-right h = rw (as-wide, eq-eqb w (suc (e .length)) (omega arith)) refl
 
--- a deleted position in test 7
-module _ (k : ℕ) (rule : Rule) (r : ℕ) (told : rule ≡ Delete r) where
-  pub outside-none : r < 1 → outside k (doesOf rule) ≡ true
-  outside-none h = rw (told, eq-eqb r 0 (omega arith)) refl
+-- a set of positions in test 7
+module _ (k : ℕ) (rule : Rule) (d : Positions) (told : rule ≡ Delete d) where
+  size : length (positionsIn d) ≡ d .count
+  size = length-padded (d .count) (sixOf d)
 
-  pub outside-above : 1 ≤ r → outside k (doesOf rule) ≡ ltb k r
-  outside-above h = rw (told, ne-eqb r 0 (λ (q : r ≡ 0). omega arith)) refl
+  pub outside-none : d .count ≡ 0 → outside k (doesOf rule) ≡ true
+  outside-none h = rw (told, size, h) refl
+
+  -- one that has more positions than have a name is not read further: the next would be 0
+  pub outside-many : PREFIX < d .count → outside k (doesOf rule) ≡ true
+  unfolding within
+  outside-many h = go (outside k (doesOf rule)) refl
+    where
+      go : (b : Bool) → outside k (doesOf rule) ≡ b → b ≡ true
+      go true e = refl
+      go false e =
+          let inside = positions-inside k (positionsIn d) (sym (ap (λ (x : Rule). outside k (doesOf x)) told) ∙ e) in
+          absurd (true-not-false (sym inside ∙ padded-zero (within k) (d .count) (sixOf d) refl h))
+
+  pub outside-rises : (d .count ≡ 0 → ⊥) → d .count ≤ PREFIX → outside k (doesOf rule) ≡ astray k 0 (take (d .count) (sixOf d))
+  outside-rises n h =
+      rw (told, size, ne-eqb (d .count) 0 n) (ap (astray k 0) (padded-within (d .count) (sixOf d) h))
+
+-- the positions from i on, behind the position a
+module _ (k : ℕ) (l : List ℕ) (n : ℕ) (h : n ≤ length l) where
+  abbrev pub astrayFrom : ℕ → ℕ → Bool
+  astrayFrom a i = astray k a (drop i (take n l))
+
+  step : (a i : ℕ) → i < n → astrayFrom a i ≡ (leb (getD l i 0) a || ltb k (getD l i 0)) || astrayFrom (getD l i 0) (i + 1)
+  step a i b =
+      let long : i < length (take n l) = omega (arith, length-take-le n l h) in
+      rw (drop-cons (take n l) i 0 long, getD-take n l i 0 b, add-one i) refl
+
+  pub falls-here : (a i : ℕ) → i < n → getD l i 0 ≤ a → astrayFrom a i ≡ true
+  falls-here a i b e = step a i b ∙ rw (le-leb (getD l i 0) a e) refl
+
+  pub beyond-here : (a i : ℕ) → i < n → a < getD l i 0 → k < getD l i 0 → astrayFrom a i ≡ true
+  beyond-here a i b e f = step a i b ∙ rw (lt-leb (getD l i 0) a e, lt-ltb k (getD l i 0) f) refl
+
+  pub rises-here : (a i : ℕ) → i < n → a < getD l i 0 → getD l i 0 ≤ k → astrayFrom a i ≡ astrayFrom (getD l i 0) (i + 1)
+  rises-here a i b e f = step a i b ∙ rw (lt-leb (getD l i 0) a e, le-ltb k (getD l i 0) f) refl
+
+  pub rises-to-end : (a i : ℕ) → n ≤ i → astrayFrom a i ≡ false
+  rises-to-end a i b =
+      let short : length (take n l) ≤ i = omega (arith, length-take-le n l h) in
+      rw (drop-of-length-le (take n l) short) refl
 
 pub outside-length : (n : ℕ) (l : List ℕ) (d : Does) → outside (length (padded n l)) d ≡ outside n d
 outside-length n l d = rw (length-padded n l) refl

@@ -4,20 +4,22 @@ use forms::lists::same_bytes;
 use forms::memory::Entry;
 use forms::memory::Gap;
 use forms::memory::Rule;
+use forms::positions::six_of;
 use word::bytes::wide;
 use word::limits::COMPONENTS;
 use word::limits::GAPS;
 use word::limits::PREFIX;
 use word::limits::TOTAL;
 use word::permutation::is_permutation;
-ghost use Prim.Native.Nat.{_+_, _-_, _≤_, _<_};
+ghost use Prim.Native.Nat.{_-_, _≤_};
 ghost use mathlib.Core.Path.{_≡_};
 ghost use mathlib.Core.List.{map};
-ghost use Rattle.word.specs.Ceilings.{COMPONENTS};
+ghost use lib.ListN.{take};
+ghost use Rattle.word.specs.Ceilings.{PREFIX, COMPONENTS};
 ghost use Rattle.word.specs.Lists.{row};
 ghost use Rattle.word.specs.Word.{isPerm};
 ghost use Rattle.cell.specs.Basis.{same};
-ghost use Rattle.scheme.specs.WellFormed.{listed, repeats, largeGap, largeEntry, wrongWidth, outside};
+ghost use Rattle.scheme.specs.WellFormed.{listed, repeats, largeGap, largeEntry, wrongWidth, astray, outside};
 ghost use Rattle.forms.specs.SchemeMemory.{padded, gapIn, gapAt, doesOf, entryIn};
 ghost use Rattle.scheme.specs.Sized.{SizedEntry};
 
@@ -138,17 +140,42 @@ pub fn wrong_width(e: Entry) -> bool
     false
 }
 
-// Whether the rule deletes a position outside 1 to k.
+// Whether the rule deletes an empty set, or one that does not rise within 1 to k.
 pub fn is_outside(k: usize, rule: Rule) -> bool
     ensures { λ r. ⌜ r ≡ outside k (doesOf rule) ⌝ }
 {
     match rule {
         Rule::Expand => false,
-        Rule::Delete(r) => {
-            if r < 1 {
+        Rule::Delete(d) => {
+            let n = wide(d.count);
+            if n == 0 {
                 return true;
             }
-            k < r
+            if PREFIX < n {
+                return true;
+            }
+            is_astray(k, six_of(d), n)
         }
     }
+}
+
+// Whether one of the first n positions is not above the one before it, or is above k.
+fn is_astray(k: usize, positions: [u8; PREFIX], n: usize) -> bool
+    requires { ⌜ n ≤ PREFIX ⌝ }
+    ensures { λ r. ⌜ r ≡ astray k 0 (take n positions) ⌝ }
+{
+    let mut last: usize = 0;
+    let mut t: usize = 0;
+    while t < n {
+        let r = wide(positions[t]);
+        if r <= last {
+            return true;
+        }
+        if k < r {
+            return true;
+        }
+        last = r;
+        t += 1;
+    }
+    false
 }

@@ -19,6 +19,7 @@ use twin::list_inputs::NAMED;
 use twin::model::{LONGEST, WITNESS};
 use twin::notation::{read_patterns, read_scheme, write_patterns, write_scheme};
 use twin::published::published;
+use twin::set_inputs::{E_1234, PAIRS};
 use twin::witness::judge_texts_on_page;
 use twin::worst::*;
 
@@ -161,6 +162,10 @@ fn inputs(wanted: impl Fn(&str) -> bool, each: impl Fn(&Input)) {
     add("worst: a live gap beside true deletions", worst, judge, &|| texts(with_live_gap(true_deletions(beginning_low(3), 100))));
     add("worst: long set, short basis", worst, judge, &|| texts(short_basis()));
     add("worst: own basis, 412,969 compared cells", worst, judge, &|| texts(own_basis()));
+    let three = |head: &[u8]| texts(true_deletions_of(3, beginning_with(head), 100));
+    add("worst: 1234, then any order, three together", worst, judge, &|| three(&[1, 2, 3, 4]));
+    add("worst: 1827, then any order, three together", worst, judge, &|| three(&[1, 8, 2, 7]));
+    add("worst: own basis, three together", worst, judge, &|| texts(own_basis_together()));
 
     let refused = "{(ε,∅,∅),(1,∅,∅),(12,{⟨0,0,1⟩},{1}),(21,∅,{1})}";
     add("witness: {123}, 4 entries", None, Work::Witness, &|| (set(), refused.as_bytes().to_vec()));
@@ -170,6 +175,10 @@ fn inputs(wanted: impl Fn(&str) -> bool, each: impl Fn(&Input)) {
     add("count: {2143,2341}, n = 20", Some(2.5), Work::Count(20), &of("{2143,2341}"));
     add("count: 321-hexagon, n = 20", Some(2.5), Work::Count(20), &of("{321,46718235,56718234,46781235,56781234}"));
     add("count: no patterns, 128 entries, n = 20", Some(2.5), Work::Count(20), &|| texts(unpatterned(128)));
+    let both = |set: &str, scheme: &str| (set.as_bytes().to_vec(), scheme.as_bytes().to_vec());
+    let (two, count) = (Some(2.5), Work::Count(20));
+    add("count: {1234} as in 004, two together, n = 20", two, count, &|| both("{1234}", E_1234));
+    add("count: no patterns, two together, n = 20", two, count, &|| both("∅", PAIRS));
     add("plain: {123}, n = 9", Some(3.0), Work::Plain(9), &of("{123}"));
     add("plain: {1234}, n = 9", Some(3.0), Work::Plain(9), &of("{1234}"));
     add("plain: {2143,2341}, n = 9", Some(3.0), Work::Plain(9), &of("{2143,2341}"));

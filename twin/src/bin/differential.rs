@@ -4,7 +4,8 @@
 //! `differential [COUNT] [SEED]` makes COUNT random inputs beside the fixed ones. It prints how
 //! many there were of each kind, how many were accepted and refused, and each disagreement with its
 //! input. The exit status is 1 where there was a disagreement, a crash or a hang, or too few inputs
-//! of some kind, such as refusals 11, or sets whose m is not the one before order 3.
+//! of some kind, such as refusals 11, sets whose m is not the one before order 3, or schemes that
+//! delete several positions together.
 
 use std::collections::BTreeMap;
 use std::fs;
@@ -18,17 +19,18 @@ use twin::containment::copy_of;
 use twin::counting::{count, need, plain};
 use twin::engine;
 use twin::guarded::{Guarded, FILL};
-use twin::inputs::{exact_need, examples, fixed, lengthened, Case, Maker};
+use twin::inputs::{exact_need, exact_set_need, examples, fixed, lengthened, Case, Maker};
 use twin::judging::{judge_texts, new_longest, old_longest};
 use twin::list_inputs::{self, length_three, Listed, Lister, Start, NAMED, SMALL};
 use twin::listing::{first_copy_slowly, Listing};
-use twin::model::{Entry, Refusal, IRREVERSIBLE, LONGEST, LONGEST_PLAIN, WITNESS};
+use twin::model::{Entry, Patterns, Refusal, Scheme, IRREVERSIBLE, LONGEST, LONGEST_PLAIN, NO_POSITION, WITNESS};
 use twin::notation::{read_patterns, read_scheme, write_patterns, write_scheme};
 use twin::published::published;
 use twin::random::Random;
+use twin::set_inputs::{together, E_1234, PAIRS};
 use twin::table::table;
 use twin::witness::judge_texts_on_page;
-use twin::worst::own_basis;
+use twin::worst::{own_basis, own_basis_together};
 
 /// The stack that include/judge.h asks of a thread that calls the judge.
 const STACK: usize = 512 * 1024;
@@ -40,8 +42,11 @@ const PAGES: [usize; 5] = [0, 1, 31, WITNESS, 40];
 /// copies, or has fewer sets with two different m, than this proves too little, and fails.
 const ENOUGH: usize = 500;
 /// Every run has at least so many inputs with longer patterns put into the set, so that a short one
-/// has enough of them.
+/// has enough of them, and as many whose entries delete several positions together.
 const LENGTHENED: usize = 2_000;
+const TOGETHER: usize = 2_000;
+/// The cells of the longest table that the engine is lent for one input.
+const CELLS: u64 = 20_000;
 /// The words that the second implementation may look at for one avoider. An input that takes more
 /// is left out.
 const WORDS: u64 = 10_000;
@@ -119,6 +124,22 @@ struct TwoM {
     last: usize,
 }
 
+/// Inputs with an entry that deletes several positions together.
+#[derive(Default)]
+struct Several {
+    /// those whose claims were judged
+    judged: usize,
+    /// those whose verdict was compared with listing: accepted, and refused 11
+    accepted: usize,
+    refused: usize,
+    /// those refused 11 at such an entry whose witness was compared with listing
+    witnesses: usize,
+    /// those that were counted by the engine
+    counted: usize,
+    /// the most positions that an accepted scheme deletes together
+    largest: usize,
+}
+
 struct Test {
     seed: u64,
     /// where the engine's two texts stand, and its page
@@ -138,6 +159,10 @@ struct Test {
     long_witnesses: usize,
     longest_witness: u8,
     two_m: TwoM,
+    several: Several,
+    /// for the lengths and the tables that accepted inputs are counted with
+    random: Random,
+    tables: usize,
     wrong: usize,
     slowest: (Duration, &'static str),
     calls: Duration,
@@ -163,6 +188,9 @@ impl Test {
             long_witnesses: 0,
             longest_witness: 0,
             two_m: TwoM::default(),
+            several: Several::default(),
+            random: Random::new(seed),
+            tables: 0,
             wrong: 0,
             slowest,
             calls: Duration::ZERO,
@@ -180,17 +208,19 @@ impl Test {
             self.published_counts(&p);
         }
         for (patterns, scheme, expected) in lengthened() {
-            let verdict = line(judge_texts(patterns.as_bytes(), scheme.as_bytes()));
-            if verdict != expected {
-                self.report("the verdict worked out by hand", expected, &verdict, patterns.as_bytes(), scheme.as_bytes());
-            }
+            self.verdict(&patterns, scheme, expected);
         }
-        // the number that the benchmark names
-        let own = own_basis();
-        let (patterns, scheme) = (write_patterns(&own.patterns), write_scheme(&own.entries));
-        let verdict = line(judge_texts(&patterns, &scheme));
-        if verdict != "accepted 412969" {
-            self.report("the set that is its own basis", "accepted 412969", &verdict, &patterns, &scheme);
+        for (patterns, scheme, expected) in together() {
+            self.verdict(patterns, &scheme, expected);
+        }
+        self.needs();
+        // the numbers that the benchmark names
+        for (own, expected) in [(own_basis(), "accepted 412969"), (own_basis_together(), "accepted 343207")] {
+            let (patterns, scheme) = (write_patterns(&own.patterns), write_scheme(&own.entries));
+            let verdict = line(judge_texts(&patterns, &scheme));
+            if verdict != expected {
+                self.report("the set that is its own basis", expected, &verdict, &patterns, &scheme);
+            }
         }
         self.examples();
         for case in fixed() {
@@ -211,7 +241,16 @@ impl Test {
             let case = maker.next_lengthened();
             self.judge(&case);
         }
+        for _ in 0..(count / 8).max(TOGETHER) {
+            let case = maker.next_together();
+            self.judge(&case);
+        }
         self.print();
+        self.enough("refusals 7", self.verdicts.get(&NO_POSITION).copied().unwrap_or(0));
+        self.enough("schemes with sets of positions, accepted by listing", self.several.accepted);
+        self.enough("schemes with sets of positions, refused 11 by listing", self.several.refused);
+        self.enough("witnesses at sets of positions compared with listing", self.several.witnesses);
+        self.enough("schemes with sets of positions that were counted", self.several.counted);
         self.enough("refusals 11", self.witnesses);
         self.enough("witnesses compared with listing", self.listed_witnesses);
         self.enough("sets with two m, accepted by listing up to the old one", self.two_m.accepted);
@@ -261,6 +300,89 @@ impl Test {
         }
         if let Err(Refusal(IRREVERSIBLE, index)) = twin {
             self.witness(case, index, &page[..WITNESS]);
+        }
+        if twin.is_ok() {
+            self.count(case);
+        }
+    }
+
+    /// The engine's counting and its plain evaluation on an accepted input, at random lengths up to
+    /// one more than are counted: the answer and the whole table, which has the cells that are
+    /// needed, or one less, none, or some more.
+    fn count(&mut self, case: &Case) {
+        let patterns = read_patterns(&case.patterns).expect("a set that was judged");
+        let scheme = read_scheme(&case.scheme).expect("a scheme that was judged");
+        let mut n = self.random.below(LONGEST + 2);
+        while n <= LONGEST && need(&scheme, n) > CELLS {
+            n -= 1;
+        }
+        let needed = if n > LONGEST { 10 } else { need(&scheme, n) as usize };
+        let lent = *self.random.pick(&[needed, needed, needed, needed + 3, needed - 1, 0]);
+        let mut cells = vec![FILL as u64; lent];
+        let mut lent = cells.clone();
+        let expected = (count(&patterns, &scheme, n, &mut cells).map_err(|r| r.0), cells);
+        self.tables += 1;
+        self.several.counted += (several(&scheme) && expected.0.is_ok()) as usize;
+        if let Some(call) = engine::COUNT {
+            let answer = call(&case.patterns, &case.scheme, n, &mut lent);
+            let found = (answer, lent);
+            if found != expected {
+                let what = format!("the engine's count for {n}, {needed} cells needed");
+                let (expected, found) = (counted(&expected), counted(&found));
+                self.report(&what, &expected, &found, &case.patterns, &case.scheme);
+            }
+        }
+        self.count_plainly(case, &patterns, &scheme);
+    }
+
+    /// The plain evaluation of the engine at a random length, up to one more than is counted.
+    fn count_plainly(&mut self, case: &Case, patterns: &Patterns, scheme: &Scheme) {
+        let Some(call) = engine::PLAIN else { return };
+        let n = self.random.below(LONGEST_PLAIN + 2);
+        let expected = plain(patterns, scheme, n).map_err(|r| r.0);
+        let found = call(&case.patterns, &case.scheme, n);
+        if found != expected {
+            let what = format!("the engine's plain count for {n}");
+            let (expected, found) = (format!("{expected:?}"), format!("{found:?}"));
+            self.report(&what, &expected, &found, &case.patterns, &case.scheme);
+        }
+    }
+
+    /// A verdict that was worked out by hand.
+    fn verdict(&mut self, patterns: &str, scheme: &str, expected: &str) {
+        let (patterns, scheme) = (patterns.as_bytes(), scheme.as_bytes());
+        let verdict = line(judge_texts(patterns, scheme));
+        if verdict != expected {
+            self.report("the verdict worked out by hand", expected, &verdict, patterns, scheme);
+        }
+    }
+
+    /// The needs of tables that were worked out by hand.
+    fn needs(&mut self) {
+        let exact = String::from_utf8(write_scheme(&exact_set_need().entries)).expect("a text");
+        // the largest set counts, whether its entry is reached or not
+        let unreached = "{(ε,∅,∅),(1,∅,{1}),(321,∅,{1,2,3})}";
+        let needs: [(&str, usize, u64); 12] = [
+            (E_1234, 10, 3_903),
+            (E_1234, 11, 5_811),
+            (PAIRS, 0, 3),
+            (PAIRS, 1, 6),
+            (PAIRS, 2, 15),
+            (PAIRS, 3, 30),
+            (PAIRS, 4, 51),
+            (&exact, 10, 2_552),
+            (&exact, 11, 4_096),
+            (unreached, 0, 4),
+            (unreached, 2, 12),
+            (unreached, 3, 20),
+        ];
+        for (text, n, expected) in needs {
+            let found = read_scheme(text.as_bytes()).map(|scheme| need(&scheme, n));
+            if found != Ok(expected) {
+                let what = format!("the need for {n} worked out by hand");
+                let (expected, found) = (expected.to_string(), format!("{found:?}"));
+                self.report(&what, &expected, &found, b"", text.as_bytes());
+            }
         }
     }
 
@@ -319,10 +441,12 @@ impl Test {
         self.listed_witnesses += slow.is_some() as usize;
         self.long_witnesses += longer.is_some() as usize;
         let (m, old_m) = listing.both_m();
-        if m != old_m && (slow.is_some() || longer.is_some()) {
+        let compared = slow.is_some() || longer.is_some();
+        if m != old_m && compared {
             self.two_m.witnesses += 1;
             self.two_m.last += (fast[0] as usize + 1 == entry.prefix.count() + m) as usize;
         }
+        self.several.witnesses += (entry.rule.size() > 1 && compared) as usize;
         self.longest_witness = self.longest_witness.max(fast[0]);
     }
 
@@ -527,8 +651,12 @@ impl Test {
             let (slow, fast) = (format!("{:?}", listing.both_m()), format!("{:?}", (m, old_m)));
             self.report("the slow m and old m, and the fast ones", &slow, &fast, &case.patterns, &case.scheme);
         }
-        let two = m != old_m;
+        let (two, many) = (m != old_m, several(&scheme));
         self.two_m.judged += two as usize;
+        self.several.judged += many as usize;
+        if fast.is_ok() {
+            self.several.largest = self.several.largest.max(largest(&scheme));
+        }
         self.claims += 1;
         if self.claims > 3_700 && self.claims & 7 != 0 && !self.thorough {
             return;
@@ -540,7 +668,10 @@ impl Test {
         if let Some(slow) = listing.judge(&scheme) {
             self.listed += 1;
             self.two_m.accepted += (two && slow.is_ok()) as usize;
-            self.two_m.refused += (two && matches!(slow, Err(Refusal(IRREVERSIBLE, _)))) as usize;
+            let refused = matches!(slow, Err(Refusal(IRREVERSIBLE, _)));
+            self.two_m.refused += (two && refused) as usize;
+            self.several.accepted += (many && slow.is_ok()) as usize;
+            self.several.refused += (many && refused) as usize;
             if slow != fast {
                 self.report("the slow mode and the fast one", &line(slow), &line(fast), &case.patterns, &case.scheme);
             }
@@ -596,6 +727,10 @@ impl Test {
         let TwoM { judged, accepted, refused, witnesses, last } = self.two_m;
         println!("inputs with an m that is not the old one: {judged}; compared with listing up to the old one:");
         println!("  {accepted} accepted, {refused} refused 11, {witnesses} witnesses, {last} of them at total m - 1");
+        let Several { judged, accepted, refused, witnesses, counted, largest } = self.several;
+        println!("inputs that delete several positions together: {judged}, up to {largest} if accepted;");
+        println!("  compared with listing: {accepted} accepted, {refused} refused 11, {witnesses} witnesses");
+        println!("tables lent to the engine's counting: {}; counts of such inputs: {counted}", self.tables);
         let (longest, kind) = self.slowest;
         let (longest, all) = (longest.as_secs_f64() * 1e3, self.calls.as_secs_f64());
         println!("longest call of the engine: {longest:.1} ms ({kind}); all: {all:.1} s");
@@ -766,6 +901,24 @@ impl Tally {
     }
 }
 
+/// The most positions that an entry deletes together.
+fn largest(scheme: &Scheme) -> usize {
+    scheme.entries.iter().map(|e| e.rule.size()).max().unwrap_or(0)
+}
+
+/// Whether some entry deletes several positions together.
+fn several(scheme: &Scheme) -> bool {
+    largest(scheme) > 1
+}
+
+/// The answer of counting, and the cells of the table that are not as they were.
+fn counted((answer, cells): &(Result<u64, u32>, Vec<u64>)) -> String {
+    let all = cells.iter().copied().enumerate();
+    let changed: Vec<(usize, u64)> = all.filter(|c| c.1 != FILL as u64).collect();
+    let others: Vec<&(usize, u64)> = changed.iter().filter(|c| c.1 != 0).take(5).collect();
+    format!("{answer:?}, {} of {} cells changed, not to 0: {others:?}", changed.len(), cells.len())
+}
+
 fn line(verdict: Result<usize, Refusal>) -> String {
     match verdict {
         Ok(cells) => format!("accepted {cells}"),
@@ -815,9 +968,18 @@ fn table_inputs(maker: &mut Maker) -> Vec<Vec<u8>> {
     for text in ["", "\n", "\n\n", "\n\n\n", "\n\n6", "{1}", "{1}\n", "{1}\n∅", "{1}\n∅\n", "{1}\n∅\n6", "6", "6\n6\n6"] {
         inputs.push(text.into());
     }
-    let exact = exact_need();
-    for n in ["9", "10", "11", "20"] {
-        inputs.push(join(&write_patterns(&exact.patterns), &write_scheme(&exact.entries), n.as_bytes()));
+    for exact in [exact_need(), exact_set_need()] {
+        let (set, scheme) = (write_patterns(&exact.patterns), write_scheme(&exact.entries));
+        for n in ["9", "10", "11", "12", "20"] {
+            inputs.push(join(&set, &scheme, n.as_bytes()));
+        }
+    }
+    for n in 0..=20 {
+        inputs.push(join(b"{1234}", E_1234.as_bytes(), n.to_string().as_bytes()));
+        inputs.push(join("∅".as_bytes(), PAIRS.as_bytes(), n.to_string().as_bytes()));
+    }
+    for (patterns, scheme, _) in together() {
+        inputs.push(join(patterns.as_bytes(), scheme.as_bytes(), b"9"));
     }
     for (front, back) in [(1_019, 0), (1_020, 0), (0, 70_000), (32_768 - scheme.len(), 0), (32_769 - scheme.len(), 0), (70_000, 0), (0, 70_000)] {
         let pad = |n: usize| vec![b' '; n];
@@ -830,7 +992,7 @@ fn table_inputs(maker: &mut Maker) -> Vec<Vec<u8>> {
     }
     let mut random = Random::new(maker.random.number());
     for _ in 0..1_000 {
-        let case = maker.next_case();
+        let case = if random.one_in(4) { maker.next_together() } else { maker.next_case() };
         let third = match random.below(4) {
             0 => thirds[random.below(thirds.len())].to_string(),
             _ => format!("{}{}", random.below(22), if random.one_in(2) { "\n" } else { "" }),

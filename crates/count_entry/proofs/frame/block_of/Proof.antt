@@ -12,13 +12,13 @@ mul-result : tie.Need-mul-result
 mul-result c =
     let start = c .before .before in
     let a = start .args in
-    omega (arith, block-small (a .j - a .back) (a .f .rows) (a .f .width) (start .pre .0 .kept), start .pre .0 .near)
+    omega (arith, block-small (a .f) (start .pre .0) (a .j - a .back))
 
 returns : tie.Need-returns
 returns c =
     let start = c .before .before in
     let a = start .args in
-    (refl, omega (arith, block-small (a .j - a .back) (a .f .rows) (a .f .width) (start .pre .0 .kept), start .pre .0 .near))
+    (refl, block-small (a .f) (start .pre .0) (a .j - a .back))
 
 pub block-of-spec : {M : Type 1} → statement M
 block-of-spec = tie.close (tie.spec (λ c. search needs) (λ c. search needs) mul-result returns)

@@ -9,7 +9,7 @@ use Rattle.count_entry.proofs.frame.frame_of.Tie as tie
 returns : tie.Need-returns
 returns c =
     let a = c .before .before .args in
-    ap (λ (w : ℕ). record { last = a .n; width = w; rows = 2; entries = a .entries }) (c .place-at .ensures)
+    ap (λ (w : ℕ). record { last = a .n; width = w; rows = a .rows; entries = a .entries }) (c .place-at .ensures)
 
 pub frame-of-spec : {M : Type 1} → statement M
 frame-of-spec = tie.close (tie.spec (λ c κs. search needs) returns)

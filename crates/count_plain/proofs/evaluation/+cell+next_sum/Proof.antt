@@ -15,8 +15,8 @@ use Rattle.count_step.specs.Step.{LARGEST, capped}
 use Rattle.count_plan.specs.SheetSizes.{FIELDS}
 use Rattle.count_plan.specs.SheetRows.{fieldOf, gapsAt}
 use Rattle.count_plain.specs.Reading.{CellAt, Evaluates}
-use Rattle.count_plain.proofs.CellLaws.{measureOf, index-small, few, length-small, total-is, deleted-low}
-use Rattle.count_plain.proofs.CellLaws.{deleted-high, target-at, target-falls}
+use Rattle.count_plain.proofs.CellLaws.{measureOf, index-small, few, length-small, total-is}
+use Rattle.count_plain.proofs.CellLaws.{target-at, target-falls}
 use Rattle.count_plain.proofs.CellLaws.{target-evaluates, covered-value, alone-value, sum-value}
 use Rattle.count_plain.proofs.CellLaws.{length-less, child-at, child-falls, child-evaluates, SumTo}
 use Rattle.count_plain.proofs.CellLaws.{sum-start, sum-more, sum-end}
@@ -32,6 +32,7 @@ use Rattle.count_plain.proofs.evaluation.next_sum.Kinds as next-sum-kin
 use Rattle.count_plain.proofs.evaluation.+cell+next_sum.Lts-next_sum as next-sum-lts
 use Rattle.count_plan.proofs.reading.long.Reads as long-reads
 use Rattle.count_plan.proofs.reading.field.Reads as field-reads
+use Rattle.count_plan.proofs.reading.gone_of.Reads as gone-of-reads
 use Rattle.count_plain.proofs.reading.is_free_at.Reads as is-free-at-reads
 use Rattle.count_plain.proofs.spacings.held.Reads as held-reads
 use Rattle.count_plain.proofs.spacings.merged_spacing.Reads as merged-spacing-reads
@@ -68,6 +69,8 @@ cell-called t = (
   field-reads.Learnt,
   is-free-at-reads.Asked,
   is-free-at-reads.Learnt,
+  gone-of-reads.Asked,
+  gone-of-reads.Learnt,
   merged-spacing-reads.Asked,
   merged-spacing-reads.Learnt,
   cell-below t,
@@ -118,18 +121,20 @@ cell-field-requires-3 t c κs =
     let q = start .pre .1 in
     (index-small (now (a .sheet)) (a .e) (a .g) (a .t) q, omega arith, q .of .long)
 
+cell-gone-of-requires : (t : ℕ) → cell-lts.Need-gone-of-requires (cell-called t) (cell-at t) cell.Post
+cell-gone-of-requires t c κs =
+    let start = c .before .before .before .before .before .before .before in
+    let a = start .args in
+    let q = start .pre .1 in
+    (index-small (now (a .sheet)) (a .e) (a .g) (a .t) q, q .of .long)
+
 cell-merged-spacing-requires : (t : ℕ) → cell-lts.Need-merged-spacing-requires (cell-called t) (cell-at t) cell.Post
 cell-merged-spacing-requires t c κs =
-    let at-field2 = c .before .before in
-    let at-field = at-field2 .before .before .before in
+    let at-field = c .before .before .before .before .before .before in
     let start = at-field .before .before in
     let a = start .args in
     let q = start .pre .1 in (
       omega (arith, at-field .field .ensures, length-small (now (a .sheet)) (a .e) (a .g) (a .t) q),
-      deleted-low (now (a .sheet)) (a .e) (a .g) (a .t) q (at-field .field .result) (at-field .field .ensures)
-          (at-field2 .field2 .result) (at-field2 .field2 .ensures) (c .before .if2 .taken),
-      deleted-high (now (a .sheet)) (a .e) (a .g) (a .t) q (at-field .field .result) (at-field .field .ensures)
-          (at-field2 .field2 .result) (at-field2 .field2 .ensures) (c .before .if2 .taken),
       omega (arith, total-is (now (a .sheet)) (a .e) (a .g) (a .t) q (at-field .field .result) (at-field .field .ensures), q .fits),
     )
 
@@ -140,7 +145,7 @@ merged-places t o = (let k = o .merged-spacing .ok in search needs)
 
 cell-cell-requires : (t : ℕ) → cell-lts.Need-cell-requires (cell-called t) (cell-at t) cell.Post
 cell-cell-requires t c κs =
-    let at-if2 = c .before .before in
+    let at-if2 = c .before .before .before in
     let at-field2 = at-if2 .before in
     let at-field = at-field2 .before .before .before in
     let start = at-field .before .before in
@@ -149,32 +154,37 @@ cell-cell-requires t c κs =
     let seven = merged-places t c in
     let fall = target-falls (now (a .sheet)) (a .e) (a .g) (a .t) q (at-field .field .result)
     (at-field .field .ensures) (at-field2 .field2 .result) (at-field2 .field2 .ensures) (at-if2 .if2 .taken)
+    (c .before .gone-of .result) (c .before .gone-of .ensures)
     (c .merged-spacing .result) seven (c .merged-spacing .ensures) in
     let at = target-at (now (a .sheet)) (a .e) (a .g) (a .t) q (at-field .field .result) (at-field .field .ensures)
-    (at-field2 .field2 .result) (at-field2 .field2 .ensures) (at-if2 .if2 .taken) (c .merged-spacing .result)
+    (at-field2 .field2 .result) (at-field2 .field2 .ensures) (at-if2 .if2 .taken)
+    (c .before .gone-of .result) (c .before .gone-of .ensures) (c .merged-spacing .result)
     seven (c .merged-spacing .ensures) in
     subst (λ (d : ℕ). (measureOf (now (a .sheet)) d (a .t) < t) ×
-    CellAt (now (a .sheet)) d (c .merged-spacing .result) (a .t)) (sym (c .before .field3 .ensures))
+    CellAt (now (a .sheet)) d (c .merged-spacing .result) (a .t)) (sym (c .before .before .field3 .ensures))
     (subst (λ (m : ℕ). measureOf (now (a .sheet)) (fieldOf (now (a .sheet)) (a .e) FIELDS) (a .t) < m) (start .pre .0) fall, at)
 
 cell-returns-2 : (t : ℕ) → cell-lts.Need-returns-2 (cell-called t) (cell-at t) cell.Post
 cell-returns-2 t c =
-    let at-field2 = c .before .before .before .before in
+    let at-merged = c .before in
+    let at-gone = at-merged .before in
+    let at-if2 = at-gone .before .before in
+    let at-field2 = at-if2 .before in
     let at-is-free-at = at-field2 .before .before in
     let at-field = at-is-free-at .before in
     let start = at-field .before .before in
     let a = start .args in
-    let q = start .pre .1 in
-    let seven = merged-places t (c .before) in
+    let seven = merged-places t at-merged in
     let f : free (gapsAt (now (a .sheet)) (a .e) (at-field .field .result)) (take (at-field .field .result + 1) (a .g)) ≡ true =
     sym (at-is-free-at .is-free-at .ensures) ∙ not-false (at-is-free-at .is-free-at .result) (at-field2 .before .if1 .left) in
     let ev : Evaluates (now (a .sheet)) (fieldOf (now (a .sheet)) (a .e) FIELDS)
-    (c .before .merged-spacing .result) (a .t) (c .cell .result) =
-    subst (λ (d : ℕ). Evaluates (now (a .sheet)) d (c .before .merged-spacing .result) (a .t)
-    (c .cell .result)) (c .before .before .field3 .ensures) (c .cell .ensures) in
+    (at-merged .merged-spacing .result) (a .t) (c .cell .result) =
+    subst (λ (d : ℕ). Evaluates (now (a .sheet)) d (at-merged .merged-spacing .result) (a .t)
+    (c .cell .result)) (at-gone .before .field3 .ensures) (c .cell .ensures) in
     λ o v solved. target-evaluates (now (a .sheet)) (a .e) (a .g) (a .t) o (at-field .field .result)
-    (at-field .field .ensures) (at-field2 .field2 .result) (at-field2 .field2 .ensures) (c .before .before .before .if2 .taken)
-    (c .before .merged-spacing .result) seven (c .before .merged-spacing .ensures) v solved f
+    (at-field .field .ensures) (at-field2 .field2 .result) (at-field2 .field2 .ensures) (at-if2 .if2 .taken)
+    (at-gone .gone-of .result) (at-gone .gone-of .ensures)
+    (at-merged .merged-spacing .result) seven (at-merged .merged-spacing .ensures) v solved f
     (c .cell .result) ev
 
 cell-field-requires-4 : (t : ℕ) → cell-lts.Need-field-requires-4 (cell-called t) (cell-at t) cell.Post
@@ -371,6 +381,7 @@ pub +cell+next-sum-spec : {M : Type 1} → statement M
     (cell-returns t)
     (cell-field-requires-2 t)
     (cell-field-requires-3 t)
+    (cell-gone-of-requires t)
     (cell-merged-spacing-requires t)
     (cell-cell-requires t)
     (cell-returns-2 t)

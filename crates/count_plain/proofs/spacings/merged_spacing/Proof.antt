@@ -1,59 +1,83 @@
 -- `count_plain::spacings::merged_spacing` meets its contract.
 -- Assumes nothing.
-use borrow.Author.Needs.{needs}
+use Prim.Native.Nat.{_+_, _-_, _≤_, _<_}
 use native.Mathlib.Omega.{arith}
-use Prim.Native.Nat.{_+_, _-_, _≤_}
-use mathlib.Core.Path.{_≡_, sym, ap, _∙_}
-use lib.ListN.{length, take, length-set}
-use lib.Seq.{length-take-le, take-all}
+use mathlib.Core.Path.{_≡_, sym}
+use lib.ListN.{length, getD, take, set}
+use lib.Seq.{length-take-le, getD-take}
 use Rattle.word.specs.Ceilings.{COMPONENTS}
-use Rattle.count_plain.specs.Pieces.{mergeAt}
-use Rattle.count_plain.specs.PieceLaws.{more, merge-at, merge-length, merge-take, two-small}
+use Rattle.cell.specs.Cell.{total}
+use Rattle.spacing.specs.Flagged.{flagged}
+use Rattle.count_plain.specs.MergingLaws.{Merging, merging-start, turn-low, turn-room, turn-more, merging-end}
+use borrow.Author.Needs.{needs}
 use Rattle.count_plain.proofs.spacings.merged_spacing.Statement.{statement}
 use Rattle.count_plain.proofs.spacings.merged_spacing.Tie as tie
 
 abbrev Inv-loop : tie.InvT-loop
-Inv-loop g k v r₀ j₀ r j = (j ≤ k) × (length r ≡ COMPONENTS) × (take j r ≡ take j (mergeAt (take (k + 1) g) v))
+Inv-loop k g gone r₀ n₀ v₀ r n v =
+    (1 ≤ v) × (v ≤ k + 1) × (n < v) × (length r ≡ COMPONENTS) × Merging (flagged gone k) (take (k + 1) g) r v (v - 1 - n)
 
 abbrev μ-loop : tie.MeasureT-loop
-μ-loop g k v r₀ j₀ r j = k - j
+μ-loop k g gone r₀ n₀ v₀ r n v = k + 1 - v
 
-merged-piece-requires : tie.Need-merged-piece-requires Inv-loop μ-loop
-merged-piece-requires c κs =
-    let a = c .before .before .args in
-    let l = c .before .loop in
-    let seven : length (a .g) ≡ COMPONENTS = (let o = c .before .before in search needs) in (
-      omega arith,
-      omega arith,
-      c .before .before .pre .1,
-      omega (arith, two-small (a .g) (a .k) (omega arith) (l .j) (omega arith), c .before .before .pre .3),
+loop-holds : tie.Need-loop-holds Inv-loop μ-loop
+loop-holds c =
+    let a = c .args in
+    let seven : length (a .t1) ≡ COMPONENTS = search needs in
+    (omega arith, omega arith, omega arith, search needs, merging-start (flagged (a .t3) (a .k)) (a .t1) (a .k) (omega arith))
+
+-- What a turn makes of the components: `at` lies among the places, what is added up fits, and the
+-- walk goes on.
+turn : (c : tie.After-flagged-with Inv-loop μ-loop) →
+    let l = c .before .before .loop in
+    let a = c .before .before .before .args in
+    let n = c .flagged-with .result in
+    let at = l .v - n in
+    (n ≤ l .v) × (getD (l .r) at 0 + getD (a .t1) (l .v) 0 ≤ total (take (a .k + 1) (a .t1))) ×
+    Merging (flagged (a .t3) (a .k)) (take (a .k + 1) (a .t1)) (set (l .r) at (getD (l .r) at 0 + getD (a .t1) (l .v) 0)) (l .v + 1)
+    (l .v + 1 - 1 - n)
+turn c =
+    let l = c .before .before .loop in
+    let start = c .before .before .before in
+    let a = start .args in
+    let n = c .flagged-with .result in
+    let seven : length (a .t1) ≡ COMPONENTS = (let o = start in search needs) in
+    let inside : l .v < length (take (a .k + 1) (a .t1)) = omega (arith, length-take-le (a .k + 1) (a .t1) (omega arith)) in
+    let y : getD (a .t1) (l .v) 0 ≡ getD (take (a .k + 1) (a .t1)) (l .v) 0 = sym (getD-take (a .k + 1) (a .t1) (l .v) 0 (omega arith)) in
+    let G = take (a .k + 1) (a .t1) in
+    let x = getD (a .t1) (l .v) 0 in (
+      turn-low (a .t3) G (l .r) (a .k) (l .v) (l .n) n x (l .inv .4) (l .inv .0) (omega arith) (l .inv .2) inside (omega arith)
+          (c .flagged-with .ensures) y,
+      turn-room (a .t3) G (l .r) (a .k) (l .v) (l .n) n x (l .inv .4) (l .inv .0) (omega arith) (l .inv .2) inside (omega arith)
+          (c .flagged-with .ensures) y,
+      turn-more (a .t3) G (l .r) (a .k) (l .v) (l .n) n x (l .inv .4) (l .inv .0) (omega arith) (l .inv .2) inside (omega arith)
+          (c .flagged-with .ensures) y,
     )
+
+sub-at : tie.Need-sub-at Inv-loop μ-loop
+sub-at c = turn c .0
+
+array-read-r-2 : tie.Need-array-read-r-2 Inv-loop μ-loop
+array-read-r-2 c = omega arith
+
+add-r : tie.Need-add-r Inv-loop μ-loop
+add-r c = omega (arith, turn c .1, c .before .before .before .pre .1)
+
+array-write-r-2 : tie.Need-array-write-r-2 Inv-loop μ-loop
+array-write-r-2 c = omega arith
 
 loop-again : tie.Need-loop-again Inv-loop μ-loop
 loop-again c =
-    let start = c .before .before .before in
-    let a = start .args in
-    let l = c .before .before .loop in
-    let seven : length (a .g) ≡ COMPONENTS = (let o = start in search needs) in
-    let size = length-take-le (a .k + 1) (a .g) (omega arith) in (
-      omega arith,
-      length-set (l .r) (l .j) (c .merged-piece .result) ∙ l .inv .1,
-      more (l .r) (mergeAt (take (a .k + 1) (a .g)) (a .v)) (l .j) (c .merged-piece .result) (omega (arith, l .inv .1))
-          (omega (arith, merge-length (take (a .k + 1) (a .g)) (a .v) (start .pre .1) (omega arith)))
-          (c .merged-piece .ensures ∙ merge-take (a .g) (a .k) (omega arith) (a .v) (l .j) (start .pre .1)
-          (start .pre .2) (omega arith)) (l .inv .2),
-    )
+    let (low, room, more) = turn c in
+    (omega arith, omega arith, omega arith, more .size, more)
 
 returns : tie.Need-returns Inv-loop μ-loop
 returns c =
     let a = c .before .before .args in
     let l = c .before .loop in
-    let seven : length (a .g) ≡ COMPONENTS = (let o = c .before .before in search needs) in
-    let size = length-take-le (a .k + 1) (a .g) (omega arith) in
-    let e : a .k ≡ l .j = omega arith in
-    let len = merge-length (take (a .k + 1) (a .g)) (a .v) (c .before .before .pre .1) (omega arith) in
-    ap (λ n. take n (l .r)) e ∙ l .inv .2 ∙ take-all (l .j) (mergeAt (take (a .k + 1) (a .g)) (a .v)) (omega arith) ∙
-    sym (merge-at (a .v) (take (a .k + 1) (a .g)) (c .before .before .pre .1) (omega arith))
+    let seven : length (a .t1) ≡ COMPONENTS = (let o = c .before .before in search needs) in
+    merging-end (flagged (a .t3) (a .k)) (take (a .k + 1) (a .t1)) (l .r) (l .v) (l .v - 1 - l .n) (l .inv .4)
+    (omega (arith, length-take-le (a .k + 1) (a .t1) (omega arith))) (omega arith)
 
 pub merged-spacing-spec : {M : Type 1} → statement M
 merged-spacing-spec =
@@ -62,8 +86,15 @@ merged-spacing-spec =
     Inv-loop
     μ-loop
     (λ c. search needs)
-    merged-piece-requires
     (λ c. search needs)
+    loop-holds
+    (λ c. search needs)
+    (λ c κs. search needs)
+    sub-at
+    array-read-r-2
+    (λ c. search needs)
+    add-r
+    array-write-r-2
     (λ c. search needs)
     (λ c. search needs)
     loop-again

@@ -18,6 +18,14 @@ returns c =
     (ap₂ _∷_ refl
     (ap₂ _∷_ refl
     (ap₂ _∷_ refl
+    (ap₂ _∷_ refl
+    (ap₂ _∷_ refl
+    (ap₂ _∷_ refl
+    (ap₂ _∷_ refl
+    (ap₂ _∷_ refl
+    (ap₂ _∷_ refl
+    (ap₂ _∷_ refl
+    (ap₂ _∷_ refl
     (ap₂ _∷_ (at-low7 .before .before .before .low4 .ensures)
     (ap₂ _∷_ (at-low7 .before .before .low5 .ensures)
     (ap₂ _∷_ (at-low7 .before .low6 .ensures)
@@ -26,7 +34,7 @@ returns c =
     (ap₂ _∷_ (c .before .before .low9 .ensures)
     (ap₂ _∷_ (c .before .low10 .ensures)
     (ap₂ _∷_ (c .low11 .ensures)
-    refl))))))))))))))))
+    refl))))))))))))))))))))))))
 
 pub head-of-spec : {M : Type 1} → statement M
 head-of-spec =
@@ -36,6 +44,13 @@ head-of-spec =
     (λ c κs. search needs)
     (λ c κs. search needs)
     (λ c κs. search needs)
+    (λ c. search needs)
+    (λ c. search needs)
+    (λ c. search needs)
+    (λ c. search needs)
+    (λ c. search needs)
+    (λ c. search needs)
+    (λ c. search needs)
     (λ c. search needs)
     (λ c κs. search needs)
     (λ c. search needs)

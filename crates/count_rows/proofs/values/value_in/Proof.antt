@@ -7,7 +7,6 @@ use mathlib.Core.Path.{_≡_, ap, ap₂, _∙_}
 use lib.ListN.{take}
 use Rattle.cell.specs.Cell.{total}
 use Rattle.spacing.specs.Rank.{rankAfter, rankOf}
-use Rattle.spacing.specs.RankLaws.{merge-none}
 use Rattle.count_step.specs.Step.{held}
 use Rattle.count_plan.specs.LayoutLaws.{count-few, entry-short}
 use Rattle.count_entry.proofs.FrameLaws.{framed-fits, block-is}
@@ -21,8 +20,8 @@ field-requires c κs =
     let o = q .framed .of in
     (omega (arith, q .cell .inside, count-few (o .s) (o .proper)), omega arith, o .long)
 
-rank-without-requires : tie.Need-rank-without-requires
-rank-without-requires c κs =
+rank-after-requires : tie.Need-rank-after-requires
+rank-after-requires c κs =
     let start = c .before .before .before .before .before .before in
     let a = start .args in
     let q = start .pre .0 in
@@ -53,14 +52,14 @@ add-read c =
       c .before .block-of .ensures .1,
       c .place-at .ensures,
       start .pre .0 .framed .placed .near (start .args .c .entry),
-      c .before .before .rank-without .ensures .1,
+      c .before .before .rank-after .ensures .1,
     )
 
 returns : tie.Need-returns
 unfolding rankOf
 returns c =
-    let at-rank-without = c .before .before .before in
-    let at-field = at-rank-without .before .before in
+    let at-rank-after = c .before .before .before in
+    let at-field = at-rank-after .before .before in
     let at-before = at-field .before .before .before .before in
     let start = at-before .before in
     let a = start .args in
@@ -75,15 +74,14 @@ returns c =
     (c .before .before .block-of .ensures .0 ∙ ap (λ x. x % a .f .rows * a .f .width) z ∙
     block-is (now (a .sheet)) (now (a .places)) (a .f) (q .framed) (a .c .row))
     (c .before .place-at .ensures ∙ q .framed .placed .at (a .c .entry) (omega (arith, q .cell .inside))))
-    (at-rank-without .rank-without .ensures .0 ∙ ap (rankAfter 0 0) (merge-none (take (at-field .field .result + 1) (a .c .spacing))) ∙
-    ap (λ m. rankAfter 0 0 (take (m + 1) (a .c .spacing))) k))
+    (at-rank-after .rank-after .ensures .0 ∙ ap (λ m. rankAfter 0 0 (take (m + 1) (a .c .spacing))) k))
 
 pub value-in-spec : {M : Type 1} → statement M
 value-in-spec =
     tie.close
     (tie.spec
     field-requires
-    rank-without-requires
+    rank-after-requires
     block-of-requires
     (λ c κs. search needs)
     add-at

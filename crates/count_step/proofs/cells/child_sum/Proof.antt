@@ -79,8 +79,8 @@ loop-holds : tie.Need-loop-holds Inv-loop μ-loop
 loop-holds c =
     let start = c .before .before .before in
     let a = start .args in
-    sums-start LARGEST (now (a .table)) (a .t2) (spacing start) (a .k) (spacing-size start) (c .rank-without .result)
-    (c .rank-without .ensures .0) (start .pre .1)
+    sums-start LARGEST (now (a .table)) (a .t2) (spacing start) (a .k) (spacing-size start) (c .rank-after .result)
+    (c .rank-after .ensures .0) (start .pre .1)
 
 add-part-sum : tie.Need-add-part-sum Inv-loop μ-loop
 add-part-sum c =

@@ -2,66 +2,70 @@
 -- Assumes nothing.
 use borrow.Author.Needs.{needs}
 use native.Mathlib.Omega.{arith}
-use Prim.Native.Nat.{_-_, _+_}
-use lib.ListN.{take, length, getD}
-use Rattle.word.specs.Ceilings.{COMPONENTS}
-use Rattle.spacing.proofs.RankWalkLaws.{Walk, walk-start, walk-leave, walk-keep, walk-end, next-small}
-use lib.Seq.{length-take-le, getD-take}
-use mathlib.Core.Path.{_≡_, sym, _∙_}
+use Prim.Native.Nat.{_-_, _+_, _≤_, _<_}
+use mathlib.Core.Path.{_≡_, _∙_}
+use lib.ListN.{length, take}
+use Rattle.word.specs.Ceilings.{COMPONENTS, LENGTH}
+use Rattle.cell.specs.Cell.{mergeValues}
+use Rattle.spacing.specs.Flagged.{flagged}
+use Rattle.spacing.specs.FlaggedLaws.{flag-there, flag-missing}
+use Rattle.spacing.specs.RankLaws.{after-nothing}
 use Rattle.spacing.specs.PascalLaws.{binomial-small}
+use Rattle.spacing.proofs.RankWalkLaws.{Walk, walk-start, walk-leave, walk-keep, walk-end, next-small}
 use Rattle.spacing.proofs.walk.rank_without.Statement.{statement}
 use Rattle.spacing.proofs.walk.rank_without.Tie as tie
 
 abbrev Inv-loop : tie.InvT-loop
-Inv-loop k v start b g z₀ count₀ rank₀ t₀ z count rank t = Walk (take (k + 1) g) k v start z count rank t
+Inv-loop k b g gone z₀ count₀ rank₀ v₀ z count rank v = Walk (take (k + 1) g) k (flagged gone k) 0 z count rank v
 
 abbrev μ-loop : tie.MeasureT-loop
-μ-loop k v start b g z₀ count₀ rank₀ t₀ z count rank t = k + 1 - t
+μ-loop k b g gone z₀ count₀ rank₀ v₀ z count rank v = k + 1 - v
+
+-- the first place, from the loop; the spacing has its components in the array
+abbrev first : tie.At-loop Inv-loop μ-loop → tie.Start Inv-loop μ-loop
+first o = o .before .before .before
+
+room : (start : tie.Start Inv-loop μ-loop) → start .args .k < length (start .args .t1)
+room start = let seven : length (start .args .t1) ≡ COMPONENTS = (let o = start .good in search needs) in omega (arith, start .pre .0)
+
+-- the next value, and the component behind it
+fits : (o : tie.After-wide2 Inv-loop μ-loop) → o .before .before .loop .z + o .wide2 .result ≤ LENGTH
+fits o =
+    let at-loop = o .before .before in
+    let a = first at-loop .args in
+    let l = at-loop .loop in
+    next-small (a .t1) (a .k) (flagged (a .t3) (a .k)) 0 (room (first at-loop)) (l .z) (l .count) (l .rank) (l .v)
+    (l .inv) (omega arith) (o .wide2 .result) (o .wide2 .ensures .0)
 
 loop-holds : tie.Need-loop-holds Inv-loop μ-loop
 loop-holds c =
-    let a = c .before .before .args in
-    let seven : length (a .t1) ≡ COMPONENTS = (let o = c .before .before in search needs) in
-    let s = length-take-le (a .k + 1) (a .t1) (omega arith) in
-    let z : c .wide .result ≡ getD (take (a .k + 1) (a .t1)) 0 0 = c .wide .ensures .0 ∙
-    sym (getD-take (a .k + 1) (a .t1) 0 0 (omega arith)) in
-    rw z (walk-start (take (a .k + 1) (a .t1)) (a .k) (a .v) (a .start) s (c .before .before .pre .2))
+    let start = c .before .before in
+    let a = start .args in
+    walk-start (a .t1) (a .k) (flagged (a .t3) (a .k)) 0 (room start) (c .wide .result) (c .wide .ensures .0) (start .pre .1)
 
 add-z : tie.Need-add-z Inv-loop μ-loop
-add-z c =
-    let start = c .before .before .before .before .before .before in
-    let a = start .args in
-    let l = c .before .before .before .loop in
-    let seven : length (a .t1) ≡ COMPONENTS = (let o = start in search needs) in
-    let s = length-take-le (a .k + 1) (a .t1) (omega arith) in
-    omega (
-      arith,
-      next-small (take (a .k + 1) (a .t1)) (a .k) (a .v) (a .start) s (l .z) (l .count) (l .rank) (l .t) (l .inv)
-          (omega arith) (c .before .wide2 .result)
-          (c .before .wide2 .ensures .0 ∙ sym (getD-take (a .k + 1) (a .t1) (l .t) 0 (omega arith))),
-    )
+add-z c = omega (arith, fits (c .before))
 
 loop-again : tie.Need-loop-again Inv-loop μ-loop
 loop-again c =
-    let start = c .before .before .before .before .before .before in
-    let a = start .args in
-    let l = c .before .before .before .loop in
-    let seven : length (a .t1) ≡ COMPONENTS = (let o = start in search needs) in
-    let s = length-take-le (a .k + 1) (a .t1) (omega arith) in
-    walk-leave (take (a .k + 1) (a .t1)) (a .k) (a .v) (a .start) s (l .z) (l .count) (l .rank) (l .t) (l .inv)
-    (omega arith) (c .before .wide2 .result)
-    (c .before .wide2 .ensures .0 ∙ sym (getD-take (a .k + 1) (a .t1) (l .t) 0 (omega arith))) (c .if1 .taken)
+    let at-wide2 = c .before in
+    let at-loop = at-wide2 .before .before in
+    let a = first at-loop .args in
+    let l = at-loop .loop in
+    walk-leave (a .t1) (a .k) (flagged (a .t3) (a .k)) 0 (room (first at-loop)) (l .z) (l .count) (l .rank) (l .v)
+    (l .inv) (omega arith) (at-wide2 .wide2 .result) (at-wide2 .wide2 .ensures .0)
+    (flag-there (a .t3) (a .k) (l .v) (l .inv .low) (omega arith) (c .if1 .taken))
 
 choose-requires : tie.Need-choose-requires Inv-loop μ-loop
 choose-requires c κs =
-    let start = c .before .before .before .before .before .before in
-    let l = c .before .before .before .loop in
-    (omega (arith, l .inv .fits), omega (arith, l .inv .counted, l .inv .high, start .pre .1, start .pre .0), start .pre .3)
+    let at-loop = c .before .before .before in
+    let start = first at-loop in
+    let l = at-loop .loop in
+    (omega (arith, l .inv .fits), omega (arith, l .inv .counted, l .inv .high, start .pre .0), start .pre .2)
 
 add-rank : tie.Need-add-rank Inv-loop μ-loop
 add-rank c =
     let at-loop = c .before .before .before .before in
-    let start = at-loop .before .before .before in
     let l = at-loop .loop in
     omega (
       arith,
@@ -69,44 +73,30 @@ add-rank c =
       binomial-small (l .z) (l .count + 1) (omega (arith, l .inv .fits)),
       l .inv .small,
       l .inv .high,
-      start .pre .0,
+      first at-loop .pre .0,
     )
 
 add-z-3 : tie.Need-add-z-3 Inv-loop μ-loop
-add-z-3 c =
-    let at-wide2 = c .before .before in
-    let start = at-wide2 .before .before .before .before .before in
-    let a = start .args in
-    let l = at-wide2 .before .before .loop in
-    let seven : length (a .t1) ≡ COMPONENTS = (let o = start in search needs) in
-    let s = length-take-le (a .k + 1) (a .t1) (omega arith) in
-    omega (
-      arith,
-      next-small (take (a .k + 1) (a .t1)) (a .k) (a .v) (a .start) s (l .z) (l .count) (l .rank) (l .t) (l .inv)
-          (omega arith) (at-wide2 .wide2 .result)
-          (at-wide2 .wide2 .ensures .0 ∙ sym (getD-take (a .k + 1) (a .t1) (l .t) 0 (omega arith))),
-    )
+add-z-3 c = omega (arith, fits (c .before .before))
 
 loop-again-2 : tie.Need-loop-again-2 Inv-loop μ-loop
 loop-again-2 c =
     let at-wide2 = c .before .before in
-    let start = at-wide2 .before .before .before .before .before in
-    let a = start .args in
-    let l = at-wide2 .before .before .loop in
-    let seven : length (a .t1) ≡ COMPONENTS = (let o = start in search needs) in
-    let s = length-take-le (a .k + 1) (a .t1) (omega arith) in
-    walk-keep (take (a .k + 1) (a .t1)) (a .k) (a .v) (a .start) s (l .z) (l .count) (l .rank) (l .t) (l .inv)
-    (omega arith) (at-wide2 .wide2 .result) (c .choose .result)
-    (at-wide2 .wide2 .ensures .0 ∙ sym (getD-take (a .k + 1) (a .t1) (l .t) 0 (omega arith))) (c .choose .ensures) (c .before .if1 .left)
+    let at-loop = at-wide2 .before .before in
+    let a = first at-loop .args in
+    let l = at-loop .loop in
+    walk-keep (a .t1) (a .k) (flagged (a .t3) (a .k)) 0 (room (first at-loop)) (l .z) (l .count) (l .rank) (l .v)
+    (l .inv) (omega arith) (at-wide2 .wide2 .result) (c .choose .result) (at-wide2 .wide2 .ensures .0) (c .choose .ensures)
+    (flag-missing (a .t3) (a .k) (l .v) (l .inv .low) (omega arith) (c .before .if1 .left))
 
 returns : tie.Need-returns Inv-loop μ-loop
 returns c =
-    let start = c .before .before .before .before in
-    let a = start .args in
-    let l = c .before .loop in
-    let seven : length (a .t1) ≡ COMPONENTS = (let o = start in search needs) in
-    let s = length-take-le (a .k + 1) (a .t1) (omega arith) in (
-      walk-end (take (a .k + 1) (a .t1)) (a .k) (a .v) (a .start) s (l .z) (l .count) (l .rank) (l .t) (l .inv) (omega arith),
+    let at-loop = c .before in
+    let a = first at-loop .args in
+    let l = at-loop .loop in (
+      walk-end (a .t1) (a .k) (flagged (a .t3) (a .k)) 0 (room (first at-loop)) (l .z) (l .count) (l .rank) (l .v) (l .inv)
+          (omega arith) ∙
+          after-nothing (mergeValues (flagged (a .t3) (a .k)) (take (a .k + 1) (a .t1))),
       omega (arith, l .inv .small, l .inv .high),
     )
 
@@ -121,6 +111,7 @@ rank-without-spec =
     loop-holds
     (λ c. search needs)
     (λ c κs. search needs)
+    (λ c. search needs)
     add-z
     (λ c. search needs)
     (λ c. search needs)

@@ -7,6 +7,6 @@ use Rattle.test_automaton.proofs.automaton.row_for.Tie as tie
 
 pub row-for-spec : {M : Type 1} → statement M
 row-for-spec = tie.close (tie.spec
-    (λ state x i₀ i. Unit) (λ state x i₀ i. 82 - i) (λ c. search needs) (λ c κs. search needs)
+    (λ state x i₀ i. Unit) (λ state x i₀ i. 85 - i) (λ c. search needs) (λ c κs. search needs)
     (λ c κs. search needs) (λ c κs. search needs) (λ c. search needs) (λ c. search needs)
     (λ c. search needs) (λ c. search needs) (λ c. search needs))

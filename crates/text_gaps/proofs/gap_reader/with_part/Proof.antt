@@ -13,7 +13,7 @@ returns c =
     let at-number-at = c .before .before in
     let start = at-number-at .before .before .before .before in
     let a = start .args in
-    part-wrong (a .s .now) (a .m .turn) (a .m .gap) (a .m .next .at) (start .pre) (at-number-at .number-at .result)
+    part-wrong (a .braces) (a .s .now) (a .m .turn) (a .m .gap) (a .m .next .at) (start .pre) (at-number-at .number-at .result)
     (at-number-at .number-at .ensures) (not-true _ (c .if1 .taken))
 
 returns-2 : tie.Need-returns-2
@@ -23,11 +23,11 @@ returns-2 c =
     let at-number-at = at-stored-part .before .before .before in
     let start = at-number-at .before .before .before .before in
     let a = start .args in
-    part-stored (a .s .now) (a .m .turn) (a .m .gap) (a .m .next .at) (start .pre) (at-number-at .number-at .result)
+    part-stored (a .braces) (a .s .now) (a .m .turn) (a .m .gap) (a .m .next .at) (start .pre) (at-number-at .number-at .result)
     (at-number-at .number-at .ensures) (not-false _ (at-stored-part .before .if1 .left)) (at-step .step .result)
     (at-step .step .ensures)
     (c .turn-of .result) (at-stored-part .stored-part .result)
-    (c .turn-of .ensures ∙ ap₂ turnOf (c .before .before .is-right .ensures) (c .before .is-byte .ensures))
+    (c .turn-of .ensures ∙ ap₂ turnOf (c .before .before .closes .ensures) (c .before .is-byte .ensures))
     (at-stored-part .stored-part .ensures)
 
 pub with-part-spec : {M : Type 1} → statement M

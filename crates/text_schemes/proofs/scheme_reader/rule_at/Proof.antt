@@ -1,4 +1,4 @@
--- `text_schemes::scheme_reader::rule_at` meets its contract: ∅, or a number in braces.
+-- `text_schemes::scheme_reader::rule_at` meets its contract: ∅, or positions in braces.
 -- Assumes nothing.
 use Rattle.text_schemes.proofs.EntryTextLaws.{rule-first, rule-other}
 use borrow.Author.Needs.{needs}
@@ -12,18 +12,22 @@ returns c =
     rule-first (start .args .s .now) (start .args .c .at) (at-opening-at .opening-at .result)
     (at-opening-at .opening-at .ensures) (c .if1 .taken)
 
+parts-at-requires : tie.Need-parts-at-requires
+parts-at-requires c κs =
+    let at-opening-at = c .before .before in
+    at-opening-at .opening-at .ensures .moved .inside (at-opening-at .before .before .pre)
+
 returns-2 : tie.Need-returns-2
 returns-2 c =
-    let at-both = c .before .before in
-    let at-byte-at = at-both .before in
-    let at-number-at = at-byte-at .before in
-    let at-opening-at = at-number-at .before .before .before in
+    let at-positions-of = c .before in
+    let at-both = at-positions-of .before .before in
+    let at-parts-at = at-both .before in
+    let at-opening-at = at-parts-at .before .before .before in
     let start = at-opening-at .before .before in
     rule-other (start .args .s .now) (start .args .c .at) (at-opening-at .opening-at .result)
-    (at-number-at .number-at .result) (at-byte-at .byte-at .result) (at-both .both .result)
-    (c .before .both2 .result)
-    (at-opening-at .opening-at .ensures) (at-number-at .before .if1 .left) (at-number-at .number-at .ensures)
-    (at-byte-at .byte-at .ensures) (at-both .both .ensures) (c .before .both2 .ensures)
+    (at-parts-at .parts-at .result) (at-positions-of .positions-of .result) (at-both .both .result)
+    (at-opening-at .opening-at .ensures) (at-parts-at .before .if1 .left) (at-parts-at .parts-at .ensures)
+    (at-positions-of .positions-of .ensures) (at-both .both .ensures)
 
 pub rule-at-spec : {M : Type 1} → statement M
 rule-at-spec =
@@ -31,8 +35,7 @@ rule-at-spec =
     (tie.spec
     (λ c κs. search needs)
     returns
-    (λ c κs. search needs)
-    (λ c κs. search needs)
+    parts-at-requires
     (λ c κs. search needs)
     (λ c κs. search needs)
     returns-2)

@@ -22,7 +22,7 @@ put-deleted-requires : tie.Need-put-deleted-requires
 put-deleted-requires c κs =
     let start = c .before .before .before .before .before in
     let told = c .before .before .rule .given in
-    (start .pre .0 .short (told .0 .0) (told .1), room-as (start .pre .1) (ap (λ (r : Rule). text (rulePieces (doesOf r))) (told .1)))
+    (start .pre .0 .fit (told .0 .0) (told .1), room-as (start .pre .1) (ap (λ (r : Rule). text (rulePieces (doesOf r))) (told .1)))
 
 returns : tie.Need-returns
 returns c =

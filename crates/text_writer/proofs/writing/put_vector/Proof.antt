@@ -25,18 +25,22 @@ put-part-requires c κs =
 
 put-further-parts-requires : tie.Need-put-further-parts-requires
 put-further-parts-requires c κs =
-    let at-put-bytes = c .before .before .before .before .before .before .before in
+    let at-put-part = c .before .before .before .before in
+    let at-put-bytes = at-put-part .before .before .before .before in
     let start = at-put-bytes .before .before .before .before .before in
     let a = start .args in
     let h = start .pre in
     let seven = seven-parts start in
-    let whole = start-as _ _ (a .at) (a .page .now) (text-vector (a .g .width) (a .g .parts) (h .0 .some) (omega arith)) in
-    (h .0, room-next _ _ (h .1) (step (step whole (at-put-bytes .put-bytes .ensures)) (c .before .before .before .put-part .ensures)) refl)
+    let whole = start-as _ _ (a .at) (a .page .now) (text-vector (a .g .width) (a .g .parts) (h .0 .some) (omega arith)) in (
+      h .0 .some,
+      omega arith,
+      room-next _ _ (h .1) (step (step whole (at-put-bytes .put-bytes .ensures)) (at-put-part .put-part .ensures)) refl,
+    )
 
 put-bytes-requires-2 : tie.Need-put-bytes-requires-2
 put-bytes-requires-2 c κs =
-    let at-put-further-parts = c .before .before .before .before in
-    let at-put-part = at-put-further-parts .before .before .before .before in
+    let at-further = c .before .before .before .before in
+    let at-put-part = at-further .before .before .before .before .before in
     let at-put-bytes = at-put-part .before .before .before .before in
     let start = at-put-bytes .before .before .before .before .before in
     let a = start .args in
@@ -44,12 +48,12 @@ put-bytes-requires-2 c κs =
     let seven = seven-parts start in
     let whole = start-as _ _ (a .at) (a .page .now) (text-vector (a .g .width) (a .g .parts) (h .0 .some) (omega arith)) in
     room-last (h .1) (step (step (step whole (at-put-bytes .put-bytes .ensures)) (at-put-part .put-part .ensures))
-    (at-put-further-parts .put-further-parts .ensures))
+    (at-further .put-further-parts .ensures))
 
 returns : tie.Need-returns
 returns c =
-    let at-put-further-parts = c .before .before .before .before .before .before .before in
-    let at-put-part = at-put-further-parts .before .before .before .before in
+    let at-further = c .before .before .before .before .before .before .before in
+    let at-put-part = at-further .before .before .before .before .before in
     let at-put-bytes = at-put-part .before .before .before .before in
     let start = at-put-bytes .before .before .before .before .before in
     let a = start .args in
@@ -57,7 +61,7 @@ returns c =
     let seven = seven-parts start in
     let whole = start-as _ _ (a .at) (a .page .now) (text-vector (a .g .width) (a .g .parts) (h .0 .some) (omega arith)) in
     finish-by (step (step (step whole (at-put-bytes .put-bytes .ensures)) (at-put-part .put-part .ensures))
-    (at-put-further-parts .put-further-parts .ensures)) (c .before .before .put-bytes2 .ensures)
+    (at-further .put-further-parts .ensures)) (c .before .before .put-bytes2 .ensures)
 
 pub put-vector-spec : {M : Type 1} → statement M
 put-vector-spec =
@@ -67,6 +71,7 @@ put-vector-spec =
     (λ c κs. search needs)
     (λ c. search needs)
     put-part-requires
+    (λ c. search needs)
     put-further-parts-requires
     (λ c. search needs)
     put-bytes-requires-2
