@@ -120,12 +120,5 @@ returns-2 c =
 pub loses-spec : {M : Type 1} → statement M
 loses-spec =
     tie.close
-    (tie.spec
-    (λ c κs. search needs)
-    (λ c κs. search needs)
-    (λ c. search needs)
-    irreversible-requires
-    (λ c κs. search needs)
-    returns
-    least-lost-requires
-    returns-2)
+    (tie.spec (λ c κs. search needs) (λ c κs. search needs) (λ c. search needs)
+    irreversible-requires (λ c κs. search needs) returns least-lost-requires returns-2)

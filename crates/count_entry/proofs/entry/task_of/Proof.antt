@@ -93,14 +93,5 @@ returns c =
 pub task-of-spec : {M : Type 1} → statement M
 task-of-spec =
     tie.close
-    (tie.spec
-    field-requires
-    field-requires-2
-    gone-of-requires
-    field-requires-3
-    (λ c κs. search needs)
-    field-requires-4
-    block-of-requires
-    links-from-requires
-    sub-t13
-    returns)
+    (tie.spec field-requires field-requires-2 gone-of-requires field-requires-3
+    (λ c κs. search needs) field-requires-4 block-of-requires links-from-requires sub-t13 returns)

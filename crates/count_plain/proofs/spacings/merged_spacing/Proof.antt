@@ -82,20 +82,6 @@ returns c =
 pub merged-spacing-spec : {M : Type 1} → statement M
 merged-spacing-spec =
     tie.close
-    (tie.spec
-    Inv-loop
-    μ-loop
-    (λ c. search needs)
-    (λ c. search needs)
-    loop-holds
-    (λ c. search needs)
-    (λ c κs. search needs)
-    sub-at
-    array-read-r-2
-    (λ c. search needs)
-    add-r
-    array-write-r-2
-    (λ c. search needs)
-    (λ c. search needs)
-    loop-again
-    returns)
+    (tie.spec Inv-loop μ-loop (λ c. search needs) (λ c. search needs) loop-holds (λ c. search needs)
+    (λ c κs. search needs) sub-at array-read-r-2 (λ c. search needs) add-r array-write-r-2
+    (λ c. search needs) (λ c. search needs) loop-again returns)

@@ -50,17 +50,6 @@ returns-4 c =
 pub split-piece-spec : {M : Type 1} → statement M
 split-piece-spec =
     tie.close
-    (tie.spec
-    (λ c. search needs)
-    returns
-    (λ c. search needs)
-    narrow-requires
-    returns-2
-    (λ c. search needs)
-    (λ c. search needs)
-    narrow-requires-2
-    (λ c. search needs)
-    returns-3
-    (λ c. search needs)
-    (λ c. search needs)
-    returns-4)
+    (tie.spec (λ c. search needs) returns (λ c. search needs) narrow-requires returns-2
+    (λ c. search needs) (λ c. search needs) narrow-requires-2 (λ c. search needs) returns-3
+    (λ c. search needs) (λ c. search needs) returns-4)

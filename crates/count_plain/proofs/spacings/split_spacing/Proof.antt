@@ -59,14 +59,5 @@ returns c =
 pub split-spacing-spec : {M : Type 1} → statement M
 split-spacing-spec =
     tie.close
-    (tie.spec
-    Inv-loop
-    μ-loop
-    (λ c. search needs)
-    (λ c. search needs)
-    split-piece-requires
-    (λ c. search needs)
-    (λ c. search needs)
-    (λ c. search needs)
-    loop-again
-    returns)
+    (tie.spec Inv-loop μ-loop (λ c. search needs) (λ c. search needs) split-piece-requires
+    (λ c. search needs) (λ c. search needs) (λ c. search needs) loop-again returns)

@@ -33,10 +33,5 @@ returns c ps w =
 pub deleting-spec : {M : Type 1} → statement M
 deleting-spec =
     tie.close
-    (tie.spec
-    deleted-values-requires
-    (λ c κs. search needs)
-    (λ c. search needs)
-    (λ c κs. search needs)
-    (λ c. search needs)
-    returns)
+    (tie.spec deleted-values-requires (λ c κs. search needs) (λ c. search needs)
+    (λ c κs. search needs) (λ c. search needs) returns)

@@ -79,12 +79,5 @@ returns-2 c ps w =
 pub entry-card-spec : {M : Type 1} → statement M
 entry-card-spec =
     tie.close
-    (tie.spec
-    (λ c. search needs)
-    expanding-requires
-    (λ c. search needs)
-    (λ c κs. search needs)
-    (λ c κs. search needs)
-    deleting-requires
-    returns
-    returns-2)
+    (tie.spec (λ c. search needs) expanding-requires (λ c. search needs) (λ c κs. search needs)
+    (λ c κs. search needs) deleting-requires returns returns-2)

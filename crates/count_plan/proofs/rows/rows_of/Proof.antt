@@ -61,16 +61,5 @@ returns c =
 pub rows-of-spec : {M : Type 1} → statement M
 rows-of-spec =
     tie.close
-    (tie.spec
-    Inv-loop
-    μ-loop
-    loop-holds
-    (λ c. search needs)
-    mul-e
-    element-copy-out-e
-    (λ c κs. search needs)
-    (λ c κs. search needs)
-    (λ c. search needs)
-    loop-again
-    add-result
-    returns)
+    (tie.spec Inv-loop μ-loop loop-holds (λ c. search needs) mul-e element-copy-out-e
+    (λ c κs. search needs) (λ c κs. search needs) (λ c. search needs) loop-again add-result returns)

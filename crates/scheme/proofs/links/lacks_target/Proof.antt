@@ -68,13 +68,5 @@ returns-2 c =
 pub lacks-target-spec : {M : Type 1} → statement M
 lacks-target-spec =
     tie.close
-    (tie.spec
-    (λ c. search needs)
-    (λ c. search needs)
-    (λ c κs. search needs)
-    (λ c κs. search needs)
-    shorter-requires
-    sub-has-entry
-    (λ c κs. search needs)
-    returns
-    returns-2)
+    (tie.spec (λ c. search needs) (λ c. search needs) (λ c κs. search needs) (λ c κs. search needs)
+    shorter-requires sub-has-entry (λ c κs. search needs) returns returns-2)

@@ -87,20 +87,6 @@ returns c =
 pub rank-after-spec : {M : Type 1} → statement M
 rank-after-spec =
     tie.close
-    (tie.spec
-    Inv-loop
-    μ-loop
-    (λ c. search needs)
-    (λ c κs. search needs)
-    loop-holds
-    (λ c. search needs)
-    (λ c κs. search needs)
-    (λ c. search needs)
-    choose-requires
-    add-rank
-    (λ c. search needs)
-    add-z-2
-    (λ c. search needs)
-    (λ c. search needs)
-    loop-again
-    returns)
+    (tie.spec Inv-loop μ-loop (λ c. search needs) (λ c κs. search needs) loop-holds
+    (λ c. search needs) (λ c κs. search needs) (λ c. search needs) choose-requires add-rank
+    (λ c. search needs) add-z-2 (λ c. search needs) (λ c. search needs) loop-again returns)

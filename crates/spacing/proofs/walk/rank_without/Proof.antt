@@ -103,25 +103,7 @@ returns c =
 pub rank-without-spec : {M : Type 1} → statement M
 rank-without-spec =
     tie.close
-    (tie.spec
-    Inv-loop
-    μ-loop
-    (λ c. search needs)
-    (λ c κs. search needs)
-    loop-holds
-    (λ c. search needs)
-    (λ c κs. search needs)
-    (λ c. search needs)
-    add-z
-    (λ c. search needs)
-    (λ c. search needs)
-    loop-again
-    (λ c. search needs)
-    choose-requires
-    add-rank
-    (λ c. search needs)
-    add-z-3
-    (λ c. search needs)
-    (λ c. search needs)
-    loop-again-2
-    returns)
+    (tie.spec Inv-loop μ-loop (λ c. search needs) (λ c κs. search needs) loop-holds
+    (λ c. search needs) (λ c κs. search needs) (λ c. search needs) add-z (λ c. search needs)
+    (λ c. search needs) loop-again (λ c. search needs) choose-requires add-rank (λ c. search needs)
+    add-z-3 (λ c. search needs) (λ c. search needs) loop-again-2 returns)

@@ -74,14 +74,6 @@ returns c =
 pub put-deleted-spec : {M : Type 1} → statement M
 put-deleted-spec =
     tie.close
-    (tie.spec
-    (λ c κs. search needs)
-    (λ c κs. search needs)
-    (λ c κs. search needs)
-    (λ c. search needs)
-    put-part-requires
-    (λ c. search needs)
-    put-further-parts-requires
-    put-requires-2
-    (λ c. search needs)
-    returns)
+    (tie.spec (λ c κs. search needs) (λ c κs. search needs) (λ c κs. search needs)
+    (λ c. search needs) put-part-requires (λ c. search needs) put-further-parts-requires
+    put-requires-2 (λ c. search needs) returns)

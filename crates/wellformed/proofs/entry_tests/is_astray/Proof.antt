@@ -63,15 +63,5 @@ returns-3 c =
 pub is-astray-spec : {M : Type 1} → statement M
 is-astray-spec =
     tie.close
-    (tie.spec
-    Inv-loop
-    μ-loop
-    (λ c. search needs)
-    (λ c. search needs)
-    (λ c κs. search needs)
-    returns
-    returns-2
-    (λ c. search needs)
-    (λ c. search needs)
-    loop-again
-    returns-3)
+    (tie.spec Inv-loop μ-loop (λ c. search needs) (λ c. search needs) (λ c κs. search needs) returns
+    returns-2 (λ c. search needs) (λ c. search needs) loop-again returns-3)

@@ -40,13 +40,5 @@ returns-4 c =
 pub is-outside-spec : {M : Type 1} → statement M
 is-outside-spec =
     tie.close
-    (tie.spec
-    (λ c. search needs)
-    (λ c. search needs)
-    (λ c κs. search needs)
-    returns
-    returns-2
-    (λ c κs. search needs)
-    (λ c κs. search needs)
-    (λ c. search needs)
-    returns-4)
+    (tie.spec (λ c. search needs) (λ c. search needs) (λ c κs. search needs) returns returns-2
+    (λ c κs. search needs) (λ c κs. search needs) (λ c. search needs) returns-4)
