@@ -23,6 +23,7 @@ use Rattle.text_grammar.specs.declared.cursor.Step.{Step}
 use Rattle.text_gaps.specs.declared.parts.NumberRead.{NumberRead}
 use Rattle.text_gaps.specs.declared.parts.GapRead.{GapRead}
 use Rattle.text_gaps.specs.declared.parts.Gaps.{Gaps}
+use Rattle.text_gaps.specs.declared.positions.PositionRead.{PositionRead}
 use Rattle.text_gaps.specs.declared.parts.GapsRead.{GapsRead}
 use Rattle.text_grammar.specs.declared.items.Turn.{Turn}
 use Rattle.text_grammar.specs.declared.items.Turn.the-variants.{More, Wrong}
@@ -32,10 +33,10 @@ use Rattle.text_grammar.specs.Grammar.{Read, misspelt, got, after, code, same, 
 use Rattle.text_grammar.specs.GrammarLaws.{items-step, number-read, vector-read}
 use Rattle.text_grammar.specs.Cursor.{Stepped, tokensBy, Beyond}
 use Rattle.text_gaps.specs.GapMemory.{partOf, partsOf, gapOf, positionsFrom, partsOfAll, widthsOf}
-use Rattle.text_grammar.specs.ItemReading.{found, kept, turnInBraces, goesOn, isDone, Within, Ready, Advanced}
+use Rattle.text_grammar.specs.ItemReading.{found, kept, turnInBraces, goesOn, isDone, leftOf, Within, Ready, Advanced}
 use Rattle.text_gaps.specs.PartReading.{loadedGaps, NumberAt, GapAt, GapsAt}
-use Rattle.text_gaps.specs.GapReading.{closing, turnAfter, storedPart, storedGap, itself, goingGap, goingGaps}
-use Rattle.text_gaps.specs.GapReading.{PartsAt, VectorsAt}
+use Rattle.text_gaps.specs.GapReading.{closing, turnAfter, storedPart, storedIf, storedGap, itself, goingGap, goingGaps}
+use Rattle.text_gaps.specs.GapReading.{PositionAt, PartsAt, VectorsAt}
 use Rattle.text_grammar.proofs.TextItemLaws.{byTurn, vector-turn, braces-turn, at-end, item-wrong, item-stored, from-first}
 use Rattle.text_grammar.proofs.TextItemLaws.{gives-by, within-text, braces-empty, braces-none, braces-items}
 use Rattle.text_grammar.specs.Kinds.{isLeft, isEmpty, isByte}
@@ -48,11 +49,16 @@ use Rattle.text_patterns.proofs.FilledLaws.{length-filled, sets-filled, length-
 abbrev gapMade : List ℕ → ℕ → Gap
 gapMade l n = record { parts = l; width = n }
 
-pub part-kept : (m : Gap) (n b : ℕ) → b ≡ partOf n → gapMade (set (m .parts) (m .width) b) (m .width + 1) ≡ storedPart m n
-part-kept m n b e = ap₂ (λ (x w : ℕ). gapMade (set (m .parts) (m .width) x) w) e (add-one (m .width))
+-- within the array a number is stored, behind it only counted, and a number that is none is neither
+pub part-kept : (m : Gap) (x : ℕ) (b : Bool) → b ≡ true → gapMade (set (m .parts) (m .width) x) (m .width + 1) ≡ storedIf b m x
+part-kept m x b e = rw (e, add-one (m .width)) refl
 
-pub part-counted : (m : Gap) (n : ℕ) → length (m .parts) ≤ m .width → gapMade (m .parts) (m .width + 1) ≡ storedPart m n
-part-counted m n h = ap₂ gapMade (sym (set-out (m .parts) (m .width) (partOf n) h)) (add-one (m .width))
+pub part-counted : (m : Gap) (x : ℕ) (b : Bool) → b ≡ true → length (m .parts) ≤ m .width →
+    gapMade (m .parts) (m .width + 1) ≡ storedIf b m x
+part-counted m x b e h = rw (e, add-one (m .width), set-out (m .parts) (m .width) x h) refl
+
+pub part-missed : (m : Gap) (x : ℕ) (b : Bool) → b ≡ false → m ≡ storedIf b m x
+part-missed m x b e = rw e refl
 
 pub positions-made : (g : Gap) (n : ℕ) → n ≡ partOf (g .width) →
     record {
@@ -139,6 +145,34 @@ module _ (s : List ℕ) (t : Turn) (m : Gaps) (at : ℕ) (ready : Ready s t (m .
       rw (e, f)
       (item-stored readVector (byte 0x7D) gapOf storedGap turnInBraces braces-turn vector-steps s at (n .spelt) (n .gap) (n .next .at)
       (vector .gives) t m (m .count) ready (vector .moved) h σ stepped)
+
+-- the numbers of a set that are kept so far, and that what is read in all is what is read from
+-- there on
+pub record PositionsTo (s : List ℕ) (first : ℕ) (g : Gap) (t : Turn) (at : ℕ) : Type 0 where
+  pub same : goingGap true t g (tokens (drop at s)) ≡ kept gapOf (items readNumber (byte 0x7D) (tokens (drop first s)))
+  pub within : Within s (g .width) at
+  pub onward : first ≤ at
+  pub sized : length (g .parts) ≡ COMPONENTS
+
+-- one number more
+module _ (s : List ℕ) (first : ℕ) (g : Gap) (t : Turn) (at : ℕ) (so-far : PositionsTo s first g t at) (due : goesOn t ≡ true)
+    (r : PositionRead) (position : PositionAt s at r) where
+  advanced : Advanced (goingGap true) s t g at (r .turn) (storedIf (r .spelt) g (r .value)) ((storedIf (r .spelt) g (r .value)) .width)
+      (r .next .at)
+  advanced = position .advances t g (record { within = so-far .within; goes = due })
+
+  pub positions-less : leftOf s (r .turn) (r .next .at) < leftOf s t at
+  positions-less = advanced .falls
+
+  pub positions-on : (h : Gap) → h ≡ storedIf (r .spelt) g (r .value) → length (h .parts) ≡ COMPONENTS →
+      PositionsTo s first h (r .turn) (r .next .at)
+  positions-on h e size =
+      record {
+        same = rw e (sym (advanced .same) ∙ so-far .same);
+        within = rw e (advanced .within);
+        onward = omega (arith, so-far .onward, advanced .onward);
+        sized = size;
+      }
 
 part-next : (l : List ℕ) (n : ℕ) → storedPart (gapOf l) (itself n) ≡ gapOf (l ++ (n ∷ []))
 part-next l n = ap₂ gapMade (filled-more 7 0 partOf l n) (length-more l n)

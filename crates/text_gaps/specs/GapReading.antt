@@ -21,6 +21,7 @@ use Rattle.text_gaps.specs.declared.gap_reader.Numeral.{Numeral}
 use Rattle.text_grammar.specs.declared.items.Turn.{Turn}
 use Rattle.text_gaps.specs.declared.gap_reader.GapPart.{GapPart}
 use Rattle.text_gaps.specs.declared.gap_reader.GapsPart.{GapsPart}
+use Rattle.text_gaps.specs.declared.positions.PositionRead.{PositionRead}
 use Rattle.text_grammar.specs.declared.cursor.Kind.{Kind}
 use Rattle.text_grammar.specs.Kinds.{isRight, isByte}
 use Rattle.text_grammar.specs.ItemReading.{found, kept, turnOf, going, Ready, Advanced}
@@ -50,17 +51,19 @@ abbrev pub closing : Bool → Token
 closing true = byte 0x7D
 closing false = right
 
-abbrev pub closes : Bool → Kind → Bool
-closes true k = isByte 0x7D k
-closes false k = isRight k
-
 abbrev pub turnAfter : Bool → Kind → Turn
-turnAfter b k = turnOf (closes b k) (isByte 0x2C k)
+turnAfter true k = turnOf (isByte 0x7D k) (isByte 0x2C k)
+turnAfter false k = turnOf (isRight k) (isByte 0x2C k)
 
 -- one item more: it is kept where there is room
 
 abbrev pub storedPart : Gap → ℕ → Gap
 storedPart m n = record { parts = set (m .parts) (m .width) (partOf n); width = suc (m .width) }
+
+-- the same with a byte, and nothing where no number is spelt
+abbrev pub storedIf : Bool → Gap → ℕ → Gap
+storedIf true m x = record { parts = set (m .parts) (m .width) x; width = suc (m .width) }
+storedIf false m x = m
 
 abbrev pub storedGap : Gaps → Gap → Gaps
 storedGap m g =
@@ -84,8 +87,16 @@ goingGaps t m ts = going readVector (byte 0x7D) gapOf storedGap t m ts
 abbrev pub GapReady : List ℕ → GapPart → Type 0
 GapReady s m = Ready s (m .turn) (m .gap .width) (m .next .at)
 
-abbrev pub GapAdvanced : Bool → List ℕ → GapPart → GapPart → Type 0
-GapAdvanced b s m r = Advanced (goingGap b) s (m .turn) (m .gap) (m .next .at) (r .turn) (r .gap) (r .gap .width) (r .next .at)
+abbrev pub GapAdvanced : List ℕ → GapPart → GapPart → Type 0
+GapAdvanced s m r =
+    Advanced (goingGap false) s (m .turn) (m .gap) (m .next .at) (r .turn) (r .gap) (r .gap .width) (r .next .at)
+
+-- a number of a set and the mark behind it: whatever is kept before, one number more is, where one
+-- is spelt
+pub record PositionAt (s : List ℕ) (at : ℕ) (r : PositionRead) : Type 0 where
+  pub advances : (t : Turn) (m : Gap) → Ready s t (m .width) at →
+      Advanced (goingGap true) s t m at (r .turn) (storedIf (r .spelt) m (r .value)) ((storedIf (r .spelt) m (r .value)) .width)
+      (r .next .at)
 
 abbrev pub GapsReady : List ℕ → GapsPart → Type 0
 GapsReady s m = Ready s (m .turn) (m .gaps .count) (m .next .at)

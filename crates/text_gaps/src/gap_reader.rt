@@ -1,4 +1,4 @@
-// Numbers, gap vectors, sets of positions and lists of gap vectors, read from a text into memory.
+// Numbers, gap vectors and lists of gap vectors, read from a text into memory.
 use crate::parts::GapRead;
 use crate::parts::Gaps;
 use crate::parts::GapsRead;
@@ -6,7 +6,6 @@ use crate::parts::NumberRead;
 use forms::gaps::with_gap;
 use forms::memory::Gap;
 use text_grammar::cursor::Cursor;
-use text_grammar::cursor::Kind;
 use text_grammar::items::Turn;
 use text_grammar::items::goes_on;
 use text_grammar::items::is_done;
@@ -21,13 +20,14 @@ use word::limits::COMPONENTS;
 use word::limits::GAPS;
 use word::limits::PARTS;
 ghost use mathlib.Core.Path.{_≡_};
+ghost use mathlib.Core.Bool.{false};
 ghost use Prim.Native.Nat.{_<_, _≤_};
 ghost use mathlib.Core.List.{[]};
 ghost use lib.ListN.{length, drop};
 ghost use Rattle.text_grammar.specs.Tokens.{run};
 ghost use Rattle.text_gaps.specs.GapMemory.{partOf, gapOf};
 ghost use Rattle.text_gaps.specs.PartReading.{NumberAt, GapAt, GapsAt, loadedGaps};
-ghost use Rattle.text_gaps.specs.GapReading.{noNumber, Numbered, DigitOf, closes};
+ghost use Rattle.text_gaps.specs.GapReading.{noNumber, Numbered, DigitOf};
 ghost use Rattle.text_gaps.specs.GapReading.{storedPart, storedGap, GapReady, GapAdvanced, PartsAt};
 ghost use Rattle.text_gaps.specs.GapReading.{GapsReady, GapsAdvanced, VectorsAt};
 
@@ -37,8 +37,7 @@ pub struct Numeral {
     pub value: usize,
 }
 
-// How far the numbers of a gap vector or of a set of positions are read: those so far, and the
-// cursor behind them.
+// How far a gap vector is read: the components so far, and the cursor behind them.
 pub struct GapPart {
     pub turn: Turn,
     pub gap: Gap,
@@ -53,7 +52,7 @@ pub struct GapsPart {
 }
 
 // The number from a cursor on.
-fn number_at(s: &[u8], c: Cursor) -> NumberRead
+pub fn number_at(s: &[u8], c: Cursor) -> NumberRead
     ensures { λ r. ⌜ NumberAt (now (s .entry)) (c .at) r ⌝ }
 {
     let t = c.step(s);
@@ -146,14 +145,13 @@ fn gap_at(s: &[u8], c: Cursor) -> GapRead
             next,
         };
     }
-    parts_at(s, next, false)
+    parts_at(s, next)
 }
 
-// The numbers of a gap vector and the mark behind them, or with `braces` those of a set of
-// positions and the brace behind them.
-pub fn parts_at(s: &[u8], c: Cursor, braces: bool) -> GapRead
+// The components of a gap vector and the mark behind them.
+fn parts_at(s: &[u8], c: Cursor) -> GapRead
     requires { ⌜ c .at ≤ length (now s) ⌝ }
-    ensures { λ r. ⌜ PartsAt braces (now (s .entry)) (c .at) r ⌝ }
+    ensures { λ r. ⌜ PartsAt false (now (s .entry)) (c .at) r ⌝ }
 {
     let gap = no_gap();
     let mut m = GapPart {
@@ -172,15 +170,15 @@ pub fn parts_at(s: &[u8], c: Cursor, braces: bool) -> GapRead
                 next,
             };
         }
-        let n = with_part(s, m, braces);
+        let n = with_part(s, m);
         m = n;
     }
 }
 
-// The numbers with one more.
-fn with_part(s: &[u8], m: GapPart, braces: bool) -> GapPart
+// The components with one more.
+fn with_part(s: &[u8], m: GapPart) -> GapPart
     requires { ⌜ GapReady (now s) m ⌝ }
-    ensures { λ r. ⌜ GapAdvanced braces (now (s .entry)) m r ⌝ }
+    ensures { λ r. ⌜ GapAdvanced (now (s .entry)) m r ⌝ }
 {
     let c = m.next;
     let before = m.gap;
@@ -199,20 +197,10 @@ fn with_part(s: &[u8], m: GapPart, braces: bool) -> GapPart
     let kind = t.kind;
     let next = t.next;
     GapPart {
-        turn: turn_of(closes(kind, braces), is_byte(kind, b',')),
+        turn: turn_of(is_right(kind), is_byte(kind, b',')),
         gap,
         next,
     }
-}
-
-// Whether a token is the mark behind the numbers: a closing brace or ⟩.
-fn closes(kind: Kind, braces: bool) -> bool
-    ensures { λ r. ⌜ r ≡ closes braces kind ⌝ }
-{
-    if braces {
-        return is_byte(kind, b'}');
-    }
-    is_right(kind)
 }
 
 // The gap vector with one component more, which is kept where there is room.

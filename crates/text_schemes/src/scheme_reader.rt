@@ -5,8 +5,8 @@ use crate::parts::RuleRead;
 use forms::memory::Entry;
 use forms::memory::Rule;
 use text_gaps::gap_reader::gaps_at;
-use text_gaps::gap_reader::parts_at;
 use text_gaps::parts::GapsRead;
+use text_gaps::positions::positions_at;
 use text_gaps::positions::positions_of;
 use text_grammar::cursor::Cursor;
 use text_grammar::kinds::is_byte;
@@ -223,7 +223,7 @@ fn rule_at(s: &[u8], c: Cursor) -> RuleRead
             next: after,
         };
     }
-    let n = parts_at(s, after, true);
+    let n = positions_at(s, after);
     let spelt = both(open.spelt, n.spelt);
     let gap = n.gap;
     let positions = positions_of(gap);

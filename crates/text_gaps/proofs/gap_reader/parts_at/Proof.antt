@@ -3,33 +3,35 @@
 -- Assumes nothing.
 use Prim.Native.Nat.{_≤_}
 use mathlib.Core.Path.{_≡_, sym, _∙_}
+use mathlib.Core.Bool.{false}
 use native.Mathlib.Omega.{arith}
 use lib.ListN.{drop}
 use borrow.Author.Tests.{not-true, not-false}
 use Rattle.text_grammar.specs.Tokens.{tokens}
+use Rattle.text_grammar.specs.Spelling.{right}
 use Rattle.text_grammar.specs.Grammar.{items, readNumber}
 use Rattle.text_gaps.specs.GapMemory.{gapOf}
 use Rattle.text_grammar.specs.ItemReading.{kept, leftOf, Within}
-use Rattle.text_gaps.specs.GapReading.{closing, goingGap}
+use Rattle.text_gaps.specs.GapReading.{goingGap}
 use Rattle.text_gaps.proofs.GapTextLaws.{parts-start, no-parts, parts-end}
 use borrow.Author.Needs.{needs}
 use Rattle.text_gaps.proofs.gap_reader.parts_at.Statement.{statement}
 use Rattle.text_gaps.proofs.gap_reader.parts_at.Tie as tie
 
 abbrev Inv-loop : tie.InvT-loop
-Inv-loop s braces m₀ m =
-    (goingGap braces (m .turn) (m .gap) (tokens (drop (m .next .at) s)) ≡
-    kept gapOf (items readNumber (closing braces) (tokens (drop (m₀ .next .at) s)))) ×
+Inv-loop s m₀ m =
+    (goingGap false (m .turn) (m .gap) (tokens (drop (m .next .at) s)) ≡
+    kept gapOf (items readNumber right (tokens (drop (m₀ .next .at) s)))) ×
     Within s (m .gap .width) (m .next .at)
     × (m₀ .next .at ≤ m .next .at)
 
 abbrev μ-loop : tie.MeasureT-loop
-μ-loop s braces m₀ m = leftOf s (m .turn) (m .next .at)
+μ-loop s m₀ m = leftOf s (m .turn) (m .next .at)
 
 loop-holds : tie.Need-loop-holds Inv-loop μ-loop
 loop-holds c = let a = c .before .before .args in
     let z = no-parts (c .no-gap .result) (c .no-gap .ensures) in (
-      parts-start (a .braces) (c .no-gap .result) (tokens (drop (a .c .at) (a .s .now))) (c .no-gap .ensures),
+      parts-start false (c .no-gap .result) (tokens (drop (a .c .at) (a .s .now))) (c .no-gap .ensures),
       record { inside = c .before .before .pre; counted = omega arith },
       omega arith,
     )
@@ -42,7 +44,7 @@ returns c =
     let l = at-goes-on .before .loop in
     parts-end (a .s .now) (a .c .at) (l .m .turn) (l .m .next)
     (sym (at-goes-on .goes-on .ensures) ∙ not-true _ (c .before .before .before .if1 .taken)) (l .m .gap .width) (l .inv .1)
-    (l .inv .2) (c .is-done .result) (c .is-done .ensures) (a .braces) (l .m .gap) (l .inv .0)
+    (l .inv .2) (c .is-done .result) (c .is-done .ensures) false (l .m .gap) (l .inv .0)
 
 with-part-requires : tie.Need-with-part-requires Inv-loop μ-loop
 with-part-requires c κs = record {

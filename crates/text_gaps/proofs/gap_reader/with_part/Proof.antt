@@ -1,6 +1,7 @@
 -- `text_gaps::gap_reader::with_part` meets its contract: one component more by the laws of items.
 -- Assumes nothing.
 use mathlib.Core.Path.{ap₂, _∙_}
+use mathlib.Core.Bool.{false}
 use borrow.Author.Tests.{not-true, not-false}
 use Rattle.text_grammar.specs.ItemReading.{turnOf}
 use Rattle.text_gaps.proofs.GapTextLaws.{part-wrong, part-stored}
@@ -13,7 +14,7 @@ returns c =
     let at-number-at = c .before .before in
     let start = at-number-at .before .before .before .before in
     let a = start .args in
-    part-wrong (a .braces) (a .s .now) (a .m .turn) (a .m .gap) (a .m .next .at) (start .pre) (at-number-at .number-at .result)
+    part-wrong false (a .s .now) (a .m .turn) (a .m .gap) (a .m .next .at) (start .pre) (at-number-at .number-at .result)
     (at-number-at .number-at .ensures) (not-true _ (c .if1 .taken))
 
 returns-2 : tie.Need-returns-2
@@ -23,11 +24,11 @@ returns-2 c =
     let at-number-at = at-stored-part .before .before .before in
     let start = at-number-at .before .before .before .before in
     let a = start .args in
-    part-stored (a .braces) (a .s .now) (a .m .turn) (a .m .gap) (a .m .next .at) (start .pre) (at-number-at .number-at .result)
+    part-stored false (a .s .now) (a .m .turn) (a .m .gap) (a .m .next .at) (start .pre) (at-number-at .number-at .result)
     (at-number-at .number-at .ensures) (not-false _ (at-stored-part .before .if1 .left)) (at-step .step .result)
     (at-step .step .ensures)
     (c .turn-of .result) (at-stored-part .stored-part .result)
-    (c .turn-of .ensures ∙ ap₂ turnOf (c .before .before .closes .ensures) (c .before .is-byte .ensures))
+    (c .turn-of .ensures ∙ ap₂ turnOf (c .before .before .is-right .ensures) (c .before .is-byte .ensures))
     (at-stored-part .stored-part .ensures)
 
 pub with-part-spec : {M : Type 1} → statement M

@@ -12,8 +12,8 @@ returns c =
     rule-first (start .args .s .now) (start .args .c .at) (at-opening-at .opening-at .result)
     (at-opening-at .opening-at .ensures) (c .if1 .taken)
 
-parts-at-requires : tie.Need-parts-at-requires
-parts-at-requires c κs =
+positions-at-requires : tie.Need-positions-at-requires
+positions-at-requires c κs =
     let at-opening-at = c .before .before in
     at-opening-at .opening-at .ensures .moved .inside (at-opening-at .before .before .pre)
 
@@ -21,12 +21,12 @@ returns-2 : tie.Need-returns-2
 returns-2 c =
     let at-positions-of = c .before in
     let at-both = at-positions-of .before .before in
-    let at-parts-at = at-both .before in
-    let at-opening-at = at-parts-at .before .before .before in
+    let at-positions-at = at-both .before in
+    let at-opening-at = at-positions-at .before .before .before in
     let start = at-opening-at .before .before in
     rule-other (start .args .s .now) (start .args .c .at) (at-opening-at .opening-at .result)
-    (at-parts-at .parts-at .result) (at-positions-of .positions-of .result) (at-both .both .result)
-    (at-opening-at .opening-at .ensures) (at-parts-at .before .if1 .left) (at-parts-at .parts-at .ensures)
+    (at-positions-at .positions-at .result) (at-positions-of .positions-of .result) (at-both .both .result)
+    (at-opening-at .opening-at .ensures) (at-positions-at .before .if1 .left) (at-positions-at .positions-at .ensures)
     (at-positions-of .positions-of .ensures) (at-both .both .ensures)
 
 pub rule-at-spec : {M : Type 1} → statement M
@@ -35,7 +35,7 @@ rule-at-spec =
     (tie.spec
     (λ c κs. search needs)
     returns
-    parts-at-requires
+    positions-at-requires
     (λ c κs. search needs)
     (λ c κs. search needs)
     returns-2)
