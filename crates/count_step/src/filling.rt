@@ -35,7 +35,8 @@ pub fn fill_one(
 }
 
 // The cells of one entry at one length, `size` of them from `at` on: a step at each spacing, in the
-// order of their ranks.
+// order of their ranks. The next spacing is made before the step: the copy that a step is handed
+// waits until its bytes are stored, which then do not wait for the step before.
 pub fn fill_cells(table: &mut [u64], at: usize, size: usize, task: Task, gaps: &[u8], b: &[usize])
     requires { ⌜ TaskFits task × TaskGaps task (now gaps) ×
         (size ≡ binomial (task .length + task .total) (task .length)) × (at ≤ FAR) × Pascal (now b) ⌝ }
@@ -43,11 +44,12 @@ pub fn fill_cells(table: &mut [u64], at: usize, size: usize, task: Task, gaps: &
         (spacingsFrom size (firstVector (task .length) (task .total))) (now (table .entry)) ⌝ }
 {
     let k = task.length;
-    let mut g = first_spacing(k, narrow(task.total));
+    let mut next = first_spacing(k, narrow(task.total));
     let mut p: usize = 0;
     while p < size {
+        let g = next;
+        next_cell(&mut next, k);
         fill_one(table, at + p, task, gaps, g, b);
-        next_cell(&mut g, k);
         p += 1;
     }
 }

@@ -15,11 +15,12 @@ use Rattle.count_step.proofs.filling.fill_cells.Statement.{statement}
 use Rattle.count_step.proofs.filling.fill_cells.Tie as tie
 
 abbrev Inv-loop : tie.InvT-loop
-Inv-loop table₀ at size task gaps b k g₀ p₀ table g p =
-    Filling (taskStep task gaps) (task .length) (task .total) at size p table₀ table (spacingIn (task .length) g) × (length g ≡ COMPONENTS)
+Inv-loop table₀ at size task gaps b k next₀ p₀ table next p =
+    Filling (taskStep task gaps) (task .length) (task .total) at size p table₀ table (spacingIn (task .length) next) ×
+    (length next ≡ COMPONENTS)
 
 abbrev μ-loop : tie.MeasureT-loop
-μ-loop table₀ at size task gaps b k g₀ p₀ table g p = size - p
+μ-loop table₀ at size task gaps b k next₀ p₀ table next p = size - p
 
 loop-holds : tie.Need-loop-holds Inv-loop μ-loop
 loop-holds c =
@@ -33,35 +34,38 @@ loop-holds c =
       seven,
     )
 
+next-cell-requires : tie.Need-next-cell-requires Inv-loop μ-loop
+next-cell-requires c κs =
+    let l = c .before .before .loop in
+    let start = c .before .before .before .before .before .before .before .before in
+    (start .pre .0 .short, l .inv .1, omega (arith, l .inv .0 .whole, start .pre .0 .sum))
+
 add-fill-one : tie.Need-add-fill-one Inv-loop μ-loop
 add-fill-one c =
-    let start = c .before .before .before .before .before .before .before .before in
+    let at-loop = c .before .before .before .before .before in
+    let start = at-loop .before .before .before .before .before .before in
     let t = start .args .task in
     omega (
       arith,
       start .pre .2,
       start .pre .3,
       binomial-small (t .length + t .total) (t .length) (start .pre .0 .sum),
-      c .before .before .loop .inv .0 .reach,
+      at-loop .loop .inv .0 .reach,
     )
-
-next-cell-requires : tie.Need-next-cell-requires Inv-loop μ-loop
-next-cell-requires c κs =
-    let start = c .before .before .before .before .before .before .before .before .before .before .before .before in
-    let l = c .before .before .before .before .before .before .loop in
-    (start .pre .0 .short, l .inv .1, omega (arith, l .inv .0 .whole, start .pre .0 .sum))
 
 loop-again : tie.Need-loop-again Inv-loop μ-loop
 loop-again c =
-    let start = c .before .before .before .before .before .before .before .before .before .before .before .before .before .before in
+    let filled = c .before .before .fill-one in
+    let at-next-cell = c .before .before .before .before .before in
+    let at-loop = at-next-cell .before .before .before in
+    let start = at-loop .before .before .before .before .before .before in
     let a = start .args in
     let t = a .task in
-    let l = c .before .before .before .before .before .before .before .before .loop in
-    let next = c .before .next-cell in
-    let filled = c .before .before .before .before .before .fill-one in
-    let seven : length (c .before .next-cell .last .0) ≡ length (l .g) = search needs in (
+    let l = at-loop .loop in
+    let next = at-next-cell .next-cell in
+    let seven : length (next .last .0) ≡ length (l .next) = search needs in (
       filling-more (taskStep t (now (a .gaps))) (t .length) (t .total) (a .at) (a .size) (start .pre .2) (now (a .table)) (l .p) (l .table)
-          (spacingIn (t .length) (l .g)) (l .inv .0) (omega arith) (filled .last .0) (spacingIn (t .length) (next .last .0))
+          (spacingIn (t .length) (l .next)) (l .inv .0) (omega arith) (filled .last .0) (spacingIn (t .length) (next .last .0))
           (filled .ensures) (next .ensures),
       seven ∙ l .inv .1,
     )
@@ -76,7 +80,7 @@ returns c =
     let t = a .task in
     let l = c .before .loop in
     filling-end (taskStep t (now (a .gaps))) (t .length) (t .total) (a .at) (a .size) (start .pre .2) (now (a .table)) (l .p) (l .table)
-    (spacingIn (t .length) (l .g)) (l .inv .0) (omega arith)
+    (spacingIn (t .length) (l .next)) (l .inv .0) (omega arith)
 
 pub fill-cells-spec : {M : Type 1} → statement M
 fill-cells-spec =
@@ -87,10 +91,10 @@ fill-cells-spec =
     (λ c κs. search needs)
     (λ c κs. search needs)
     loop-holds
-    add-fill-one
-    (λ c κs. search needs)
     (λ c. search needs)
     next-cell-requires
+    add-fill-one
+    (λ c κs. search needs)
     (λ c. search needs)
     (λ c. search needs)
     loop-again
