@@ -1,32 +1,33 @@
 -- Laws of a prefix in memory: its digits, when it is the same as another, its children, and the
 -- shorter prefix.
 -- Assumes nothing.
-use Prim.Native.Nat.{ℕ, suc, _+_, _≤_, _<_}
+use Prim.Native.Nat.{ℕ, suc, _+_, _-_, _≤_, _<_}
 use native.Mathlib.Numerals.{add-one}
 use native.Mathlib.Omega.{arith}
-use mathlib.Core.Path.{_≡_, refl, sym, ap, _∙_}
-use mathlib.Core.Bool.{Bool, true, false, cond}
-use mathlib.Core.List.{List, [], _∷_, _++_, map, map-append, append-nil, List·Memᴰ, Memᴰ·cast, Memᴰ·of-map, Memᴰ·map}
-use lib.ListN.{length, getD, take, drop, set, drop-of-length-le}
-use lib.Seq.{length-take-le, take-suc, take-suc-set, append-snoc, drop-cons, getD-take}
-use lib.Dec.{leb}
-use borrow.Author.Tests.{not-true, le-leb, lt-leb}
+use mathlib.Core.Path.{_≡_, refl, sym, ap, ap₂, _∙_}
+use mathlib.Core.Bool.{Bool, true, false}
+use mathlib.Core.List.{List, [], _∷_, _++_, map, map-append, List·Memᴰ, Memᴰ·cast, Memᴰ·of-map, Memᴰ·map}
+use lib.ListN.{length, getD, take, drop, set, length-append, length-map, length-drop, List·getD-append}
+use lib.Seq.{length-take-le, take-suc, take-suc-set, drop-cons, getD-append-add, getD-take, getD-drop}
+use borrow.Author.Tests.{not-true}
 use Rattle.word.specs.Lists.{any, row}
-use Rattle.word.specs.Word.{under, has, isPerm, bump}
+use Rattle.word.specs.Word.{isPerm, bump}
 use Rattle.word.specs.ListLaws.{not-in, getD-mem, any-map, row-out, row-in}
+use Rattle.word.specs.Vocabulary.{unbump}
+use Rattle.word.specs.BumpLaws.{Bumped, stays, moves, bumped}
 use Rattle.word.specs.PermLaws.{perm-bounds}
 use Rattle.cell.specs.Basis.{same}
-use Rattle.cell.specs.Cell.{without, children}
+use Rattle.cell.specs.Cell.{deleted, children}
+use Rattle.cell.specs.BuiltLaws.{getD-map}
 use Rattle.cell.specs.BuiltCells.{same-out, same-in}
 use Rattle.cell.specs.Child.{childAt}
 use Rattle.cell.specs.ChildLaws.{children-all, children-are}
-use Rattle.cell.specs.WithoutLaws.{withoutFrom}
-use Rattle.cell.specs.DeletionLaws.{deleted-length}
 use Rattle.forms.specs.SchemeList.{deletes}
 use Rattle.forms.specs.SchemeMemory.{padded}
 use Rattle.scheme.specs.TestLaws.{any-members}
 use Rattle.scheme.specs.WellFormed.{outside}
-use Rattle.scheme.specs.PositionLaws.{deleted-size}
+use Rattle.scheme.specs.PositionLaws.{rising-at, positions-rise}
+use Rattle.scheme.specs.DeletedLaws.{deleted-one, deleted-first}
 use Rattle.forms.specs.MemoryLaws.{padded-within, length-padded}
 
 -- the digits of a permutation in an array
@@ -95,67 +96,90 @@ any-child t p e =
 
 -- The shorter prefix
 
--- one entry more is counted where it is at most x
-under-behind : (u : List ℕ) (v x : ℕ) → under (u ++ (v ∷ [])) x ≡ cond (leb v x) (suc (under u x)) (under u x)
-unfolding under
-under-behind [] v x = refl
-under-behind (y ∷ u) v x = rw (under-behind u v x) (go (leb y x) (leb v x))
+cut-length : (m : ℕ) (w : List ℕ) → m < length w → length (take m w ++ drop (suc m) w) + 1 ≡ length w
+cut-length m w h = omega (arith, length-append (take m w) (drop (suc m) w), length-take-le m w (omega arith), length-drop (suc m) w)
+
+cut-at : (m j : ℕ) (w : List ℕ) → m < length w → getD (take m w ++ drop (suc m) w) j 0 ≡ getD w (bump m j) 0
+cut-at m j w h = go (bumped m j)
   where
-    go : (a b : Bool) → cond a (suc (cond b (suc (under u x)) (under u x))) (cond b (suc (under u x)) (under u x)) ≡
-        cond b (suc (cond a (suc (under u x)) (under u x))) (cond a (suc (under u x)) (under u x))
-    go true true = refl
-    go true false = refl
-    go false true = refl
-    go false false = refl
+    size : length (take m w) ≡ m
+    size = length-take-le m w (omega arith)
 
-module _ (l : List ℕ) (i x : ℕ) (h : i < length l) where
-  counts : (b : Bool) → leb (getD l i 0) x ≡ b → under (take (i + 1) l) x ≡ cond b (suc (under (take i l) x)) (under (take i l) x)
-  counts b e = rw (add-one i, take-suc l i 0 h, under-behind (take i l) (getD l i 0) x, e) refl
+    go : Bumped m j → getD (take m w ++ drop (suc m) w) j 0 ≡ getD w (bump m j) 0
+    go (stays b e) = List·getD-append (take m w) (drop (suc m) w) 0 j (omega (arith, size)) ∙ getD-take m w j 0 b ∙
+        ap (λ n. getD w n 0) (sym e)
+    go (moves b e) =
+        let at : j ≡ length (take m w) + (j - m) = omega (arith, size) in
+        let to : suc m + (j - m) ≡ bump m j = omega arith in
+        ap (λ n. getD (take m w ++ drop (suc m) w) n 0) at ∙ getD-append-add (take m w) (drop (suc m) w) (j - m) 0 ∙
+        getD-drop (suc m) w (j - m) 0 ∙ ap (λ n. getD w n 0) to
 
-  pub counted-here : getD l i 0 ≤ x → under (take (i + 1) l) x ≡ under (take i l) x + 1
-  counted-here e = omega (arith, counts true (le-leb (getD l i 0) x e))
+module _ (m : ℕ) (p : List ℕ) (perm : isPerm p ≡ true) (h : m < length p) where
+  -- without the entry with index m: how many are left, and each of them
+  one-length : length (deleted (suc m ∷ []) p) + 1 ≡ length p
+  one-length = rw (deleted-one m p perm h) (omega (arith, length-map (take m p ++ drop (suc m) p) (unbump (getD p m 0)), cut-length m p h))
 
-  pub counted-passed : x < getD l i 0 → under (take (i + 1) l) x ≡ under (take i l) x
-  counted-passed e = counts false (lt-leb (getD l i 0) x e)
+  one-at : (j : ℕ) → j + 1 < length p → getD (deleted (suc m ∷ []) p) j 0 ≡ unbump (getD p m 0) (getD p (bump m j) 0)
+  one-at j k =
+      ap (λ (l : List ℕ). getD l j 0) (deleted-one m p perm h) ∙
+      getD-map (unbump (getD p m 0)) (take m p ++ drop (suc m) p) j (omega (arith, cut-length m p h)) ∙
+      ap (unbump (getD p m 0)) (cut-at m j p h)
 
--- one entry more of a list that is made from another entry by entry
-pub map-more : (f : ℕ → ℕ) (digits l : List ℕ) (i x : ℕ) → i < length digits → i < length l → x ≡ f (getD l i 0) →
-    take i digits ≡ map f (take i l) → take (i + 1) (set digits i x) ≡ map f (take (i + 1) l)
-map-more f digits l i x hd hl b e =
-    rw (add-one, take-suc-set digits i x hd, take-suc l i 0 hl, map-append, e, b) refl
+pub bump-inside : (m j n : ℕ) → j + 1 < n → bump m j < n
+bump-inside m j n h = go (bumped m j)
+  where
+    go : Bumped m j → bump m j < n
+    go (stays b e) = omega arith
+    go (moves b e) = omega arith
 
--- The entries at the positions that are not in R, position by position: w are those that are kept
--- so far, and i positions are passed
-module _ (R p w : List ℕ) (i : ℕ) (so-far : w ++ withoutFrom R (suc i) (drop i p) ≡ without R p) where
-  pub kept-none : i < length p → has (i + 1) R ≡ true → w ++ withoutFrom R (suc (i + 1)) (drop (i + 1) p) ≡ without R p
-  unfolding withoutFrom
-  kept-none h e =
-      let here : withoutFrom R (suc i) (drop i p) ≡ withoutFrom R (suc (suc i)) (drop (suc i) p) =
-      ap (withoutFrom R (suc i)) (drop-cons p i 0 h) ∙ rw (rw (add-one i) at e) refl in
-      rw (add-one i, ← here) so-far
+-- the same of a prefix in an array, by its position r
+module _ (l : List ℕ) (k r : ℕ) (perm : isPerm (take k l) ≡ true) (low : 1 ≤ r) (high : r ≤ k) (fits : k ≤ length l) where
+  index : suc (r - 1) ≡ r
+  index = omega arith
 
-  pub kept-more : i < length p → has (i + 1) R ≡ false →
-      w ++ (getD p i 0 ∷ []) ++ withoutFrom R (suc (i + 1)) (drop (i + 1) p) ≡ without R p
-  unfolding withoutFrom
-  kept-more h e =
-      let here : withoutFrom R (suc i) (drop i p) ≡ getD p i 0 ∷ withoutFrom R (suc (suc i)) (drop (suc i) p) =
-      ap (withoutFrom R (suc i)) (drop-cons p i 0 h) ∙ rw (rw (add-one i) at e) refl in
-      rw (add-one i, append-snoc w (getD p i 0) (withoutFrom R (suc (suc i)) (drop (suc i) p)), ← here) so-far
+  size : length (take k l) ≡ k
+  size = length-take-le k l fits
 
-  pub kept-all : length p ≤ i → w ≡ without R p
-  unfolding withoutFrom
-  kept-all h = sym (append-nil w) ∙ ap (λ (l : List ℕ). w ++ l) (sym (ap (withoutFrom R (suc i)) (drop-of-length-le p h))) ∙ so-far
+  pub one-size : length (deleted (r ∷ []) (take k l)) ≡ k - 1
+  one-size =
+      let e = one-length (r - 1) (take k l) perm (omega (arith, size)) in
+      ap (λ n. length (deleted (n ∷ []) (take k l))) (sym index) ∙ omega (arith, e, size)
 
--- an entry is stored behind those that are kept
-pub kept-stored : (R p kept : List ℕ) (n i x : ℕ) → take n kept ++ withoutFrom R (suc i) (drop i p) ≡ without R p → i < length p →
-    n < length kept → x ≡ getD p i 0 → has (i + 1) R ≡ false →
-    take (n + 1) (set kept n x) ++ withoutFrom R (suc (i + 1)) (drop (i + 1) p) ≡ without R p
-kept-stored R p kept n i x so-far h room is e =
-    let one : take (n + 1) (set kept n x) ≡ take n kept ++ (getD p i 0 ∷ []) = rw (add-one n, take-suc-set kept n x room, is) refl in
-    ap (λ (w : List ℕ). w ++ withoutFrom R (suc (i + 1)) (drop (i + 1) p)) one ∙ kept-more R p (take n kept) i so-far h e
+  shorter-at : (j : ℕ) → j < k - 1 → getD (deleted (r ∷ []) (take k l)) j 0 ≡ unbump (getD l (r - 1) 0) (getD l (bump (r - 1) j) 0)
+  shorter-at j h =
+      ap (λ n. getD (deleted (n ∷ []) (take k l)) j 0) (sym index) ∙
+      one-at (r - 1) (take k l) perm (omega (arith, size)) j (omega (arith, size)) ∙
+      ap₂ unbump (getD-take k l (r - 1) 0 (omega arith)) (getD-take k l (bump (r - 1) j) 0 (bump-inside (r - 1) j k (omega arith)))
 
--- how many entries are kept
-pub kept-number : (R p kept : List ℕ) (n : ℕ) → n ≤ length kept → outside (length p) (deletes R) ≡ false → take n kept ≡ without R p →
-    n + length R ≡ length p
-kept-number R p kept n h inside e =
-    omega (arith, length-take-le n kept h, ap length e, deleted-length R p, deleted-size R p inside)
+  -- one digit more
+  pub one-more : (digits : List ℕ) (j x : ℕ) → j < k - 1 → j < length digits → x ≡
+      unbump (getD l (r - 1) 0) (getD l (bump (r - 1) j) 0) →
+      take j digits ≡ take j (deleted (r ∷ []) (take k l)) → take (j + 1) (set digits j x) ≡ take (j + 1) (deleted (r ∷ []) (take k l))
+  one-more digits j x h d b e =
+      rw (
+        add-one,
+        take-suc-set digits j x d,
+        take-suc (deleted (r ∷ []) (take k l)) j 0 (omega (arith, one-size)),
+        e,
+        b,
+        shorter-at j h,
+      ) refl
+
+-- The first `count` positions of an array are left out from the last on: the one before the t-th,
+-- when those from the t-th on are gone
+pub next-position : (l p : List ℕ) (k count t : ℕ) → count ≤ length l → isPerm p ≡ true →
+    outside k (deletes (take count l)) ≡ false → 1 ≤ t → t ≤ count →
+    (1 ≤ getD l (t - 1) 0) × (getD l (t - 1) 0 + count ≤ k + t) ×
+    (deleted (getD l (t - 1) 0 ∷ []) (deleted (drop t (take count l)) p) ≡ deleted (drop (t - 1) (take count l)) p)
+next-position l p k count t fits perm inside some high =
+    let R = take count l in
+    let few : length (take count l) ≡ count = length-take-le count l fits in
+    let here : suc (t - 1) ≡ t = omega arith in
+    let is : getD (take count l) (t - 1) 0 ≡ getD l (t - 1) 0 = getD-take count l (t - 1) 0 (omega arith) in
+    let (low, rise, room) = rising-at k 0 (t - 1) R (positions-rise k R inside) (omega arith) in (
+      omega arith,
+      omega (arith, length-drop (suc (t - 1)) R),
+      sym (ap (λ (S : List ℕ). deleted S p) (drop-cons R (t - 1) 0 (omega arith)) ∙
+          deleted-first k (getD R (t - 1) 0) (drop (suc (t - 1)) R) p perm low rise ∙
+          ap₂ (λ (r m : ℕ). deleted (r ∷ []) (deleted (drop m R) p)) is here),
+    )

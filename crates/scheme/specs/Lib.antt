@@ -5,6 +5,7 @@ pub mod Sized
 pub mod Links
 pub mod TestLaws
 pub mod PositionLaws
+pub mod DeletedLaws
 pub mod FindingLaws
 pub mod NumberLaws
 pub mod Proper

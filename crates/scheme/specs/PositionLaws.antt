@@ -1,12 +1,12 @@
 -- Laws of a set of positions that passes test 7: it rises within 1 to k, so it is no longer than k,
 -- and a word without these positions is shorter by their number.
-use Prim.Native.Nat.{ℕ, suc, _+_, _≤_, _<_}
+use Prim.Native.Nat.{ℕ, zero, suc, _+_, _≤_, _<_}
 use native.Mathlib.Omega.{arith}
 use mathlib.Core.Path.{_≡_, refl, ap, _∙_}
 use mathlib.Core.Bool.{Bool, true, false, cond, _||_}
 use mathlib.Core.List.{List, [], _∷_}
 use mathlib.Core.Logic.{_⊎_, inl, inr}
-use lib.ListN.{length}
+use lib.ListN.{length, getD, drop}
 use lib.Dec.{leb, ltb, eqb}
 use borrow.Author.Tests.{leb-false, ltb-false, eqb-false, eq-eqb, ne-eqb, lt-leb, le-ltb}
 use Rattle.word.specs.Lists.{all}
@@ -45,6 +45,16 @@ rising-inside k a (r ∷ R) e =
     and-in (within k r) (all (within k) R) (within-in k r (omega (arith, above k a r R e)) (below k a r R e))
     (rising-inside k r R (behind k a r R e))
 
+-- the position at an index: at least 1, those behind it rise above it, and so many places lie above
+-- it
+pub rising-at : (k a t : ℕ) (R : List ℕ) → astray k a R ≡ false → t < length R →
+    (a < getD R t 0) × (astray k (getD R t 0) (drop (suc t) R) ≡ false) × (getD R t 0 + length (drop (suc t) R) ≤ k)
+rising-at k a t [] e h = absurd (omega arith)
+rising-at k a zero (r ∷ R) e h = (above k a r R e, behind k a r R e, rising-few k r R (below k a r R e) (behind k a r R e))
+rising-at k a (suc t) (r ∷ R) e h =
+    let (low, rise, room) = rising-at k r t R (behind k a r R e) (omega arith) in
+    (omega (arith, low, above k a r R e), rise, room)
+
 module _ (k : ℕ) (R : List ℕ) (inside : outside k (deletes R) ≡ false) where
   pub positions-rise : astray k 0 R ≡ false
   positions-rise = or-right (eqb (length R) 0) (astray k 0 R) inside
@@ -78,7 +88,7 @@ above-other : (k a b r : ℕ) (R : List ℕ) → b < r → astray k a (r ∷ R) 
 above-other k a b r R h e = rw (lt-leb r b h, le-ltb k r (below k a r R e)) (behind k a r R e)
 
 -- no position of a list that rises above i is i
-has-none : (k a i : ℕ) (R : List ℕ) → i ≤ a → astray k a R ≡ false → has i R ≡ false
+pub has-none : (k a i : ℕ) (R : List ℕ) → i ≤ a → astray k a R ≡ false → has i R ≡ false
 unfolding has
 has-none k a i [] h e = refl
 has-none k a i (r ∷ R) h e =
@@ -86,7 +96,7 @@ has-none k a i (r ∷ R) h e =
     rw (ne-eqb i r (λ (q : i ≡ r). omega arith)) (has-none k r i R (omega arith) (behind k a r R e))
 
 -- a position before the first is passed
-from-passed : (r j : ℕ) (R w : List ℕ) → r < j → withoutFrom (r ∷ R) j w ≡ withoutFrom R j w
+pub from-passed : (r j : ℕ) (R w : List ℕ) → r < j → withoutFrom (r ∷ R) j w ≡ withoutFrom R j w
 unfolding withoutFrom has
 from-passed r j R [] h = refl
 from-passed r j R (x ∷ w) h =

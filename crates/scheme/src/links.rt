@@ -10,15 +10,16 @@ use forms::positions::six_of;
 use word::bytes::wide;
 use word::limits::ENTRIES;
 use word::limits::PREFIX;
-use word::permutation::stands_from;
 use word::refusal::Refusal;
 ghost use Prim.Native.Nat.{_+_, _-_, _≤_, _<_};
 ghost use mathlib.Core.Path.{_≡_};
 ghost use mathlib.Core.Bool.{true, false};
-ghost use lib.ListN.{length, take};
+ghost use mathlib.Core.List.{[], _∷_};
+ghost use lib.ListN.{length, getD, take};
 ghost use Rattle.word.specs.Ceilings.{ENTRIES, PREFIX};
-ghost use Rattle.word.specs.Word.{under, reduce, isPerm, bump};
-ghost use Rattle.cell.specs.Cell.{without, deleted};
+ghost use Rattle.word.specs.Word.{isPerm, bump};
+ghost use Rattle.word.specs.Vocabulary.{unbump};
+ghost use Rattle.cell.specs.Cell.{deleted};
 ghost use Rattle.cell.specs.Child.{childAt};
 ghost use Rattle.forms.specs.Codes.{Codes, IsCode};
 ghost use Rattle.forms.specs.SchemeList.{deletes};
@@ -121,72 +122,60 @@ pub fn child(prefix: [u8; PREFIX], k: usize, a: u8) -> [u8; PREFIX]
 }
 
 // The shorter prefix: what is left of a prefix of length k without the first `count` of the
-// positions, reduced.
+// positions, reduced. The last position goes first, so that the others stay where they are.
 pub fn shorter(
     prefix: [u8; PREFIX],
     k: usize,
     positions: [u8; PREFIX],
     count: usize,
 ) -> [u8; PREFIX]
-    requires { ⌜ (k ≤ PREFIX) × (count ≤ k) × (outside k (deletes (take count positions)) ≡ false) ⌝ }
+    requires { ⌜ (k ≤ PREFIX) × (count ≤ k) × (isPerm (take k prefix) ≡ true) × (outside k (deletes (take count positions)) ≡ false) ⌝ }
     ensures { λ q. ⌜ take (k - count) q ≡ deleted (take count positions) (take k prefix) ⌝ }
 {
-    let kept = kept_entries(prefix, k, positions, count);
-    reduced(kept, k - count)
-}
-
-// The entries of a prefix of length k at the other positions than the first `count` of these.
-fn kept_entries(
-    prefix: [u8; PREFIX],
-    k: usize,
-    positions: [u8; PREFIX],
-    count: usize,
-) -> [u8; PREFIX]
-    requires { ⌜ (k ≤ PREFIX) × (count ≤ k) × (outside k (deletes (take count positions)) ≡ false) ⌝ }
-    ensures { λ r. ⌜ take (k - count) r ≡ without (take count positions) (take k prefix) ⌝ }
-{
-    let mut kept = [0u8; PREFIX];
-    let mut n: usize = 0;
-    let mut i: usize = 0;
-    while i < k {
-        let x = prefix[i];
-        i += 1;
-        if !stands_from(&positions[..count], 0, i as u8) {
-            kept[n] = x;
-            n += 1;
-        }
-    }
-    kept
-}
-
-// The first n entries reduced: in the place of each how many of them are at most as large.
-fn reduced(word: [u8; PREFIX], n: usize) -> [u8; PREFIX]
-    requires { ⌜ n ≤ PREFIX ⌝ }
-    ensures { λ r. ⌜ take n r ≡ reduce (take n word) ⌝ }
-{
-    let mut digits = [0u8; PREFIX];
-    let mut i: usize = 0;
-    while i < n {
-        digits[i] = at_most(word, n, word[i]);
-        i += 1;
+    let mut digits = prefix;
+    let mut n = k;
+    let mut t = count;
+    while 0 < t {
+        t -= 1;
+        let r = wide(positions[t]);
+        let q = without_position(digits, n, r);
+        digits = q;
+        n -= 1;
     }
     digits
 }
 
-// How many of the first n entries are at most x.
-fn at_most(word: [u8; PREFIX], n: usize, x: u8) -> u8
-    requires { ⌜ n ≤ PREFIX ⌝ }
-    ensures { λ r. ⌜ r ≡ under (take n word) x ⌝ }
+// The digits that are left of a prefix of length k without its position r, reduced: the larger
+// values are lowered by one.
+fn without_position(prefix: [u8; PREFIX], k: usize, r: usize) -> [u8; PREFIX]
+    requires { ⌜ (1 ≤ r) × (r ≤ k) × (k ≤ PREFIX) × (isPerm (take k prefix) ≡ true) ⌝ }
+    ensures { λ q. ⌜ take (k - 1) q ≡ deleted (r ∷ []) (take k prefix) ⌝ }
 {
-    let mut count: u8 = 0;
-    let mut i: usize = 0;
-    while i < n {
-        if word[i] <= x {
-            count += 1;
-        }
-        i += 1;
+    let at = r - 1;
+    let v = prefix[at];
+    let mut digits = prefix;
+    let mut j: usize = 0;
+    while j < k - 1 {
+        digits[j] = lowered(v, kept(prefix, at, j));
+        j += 1;
     }
-    count
+    digits
+}
+
+// The value y without the value v: it moves down by one from v on.
+fn lowered(v: u8, y: u8) -> u8
+    requires { ⌜ 1 ≤ y ⌝ }
+    ensures { λ r. ⌜ r ≡ unbump v y ⌝ }
+{
+    if y < v { y } else { y - 1 }
+}
+
+// The digit with index j of those that are left without the one with index `at`.
+fn kept(prefix: [u8; PREFIX], at: usize, j: usize) -> u8
+    requires { ⌜ j + 1 < PREFIX ⌝ }
+    ensures { λ r. ⌜ r ≡ getD prefix (bump at j) 0 ⌝ }
+{
+    if j < at { prefix[j] } else { prefix[j + 1] }
 }
 
 // The value y beside a new value a: it moves up by one from a on.

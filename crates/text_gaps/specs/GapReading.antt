@@ -57,13 +57,13 @@ turnAfter false k = turnOf (isRight k) (isByte 0x2C k)
 
 -- one item more: it is kept where there is room
 
-abbrev pub storedPart : Gap → ℕ → Gap
-storedPart m n = record { parts = set (m .parts) (m .width) (partOf n); width = suc (m .width) }
-
--- the same with a byte, and nothing where no number is spelt
+-- a byte, and nothing where no number is spelt
 abbrev pub storedIf : Bool → Gap → ℕ → Gap
 storedIf true m x = record { parts = set (m .parts) (m .width) x; width = suc (m .width) }
 storedIf false m x = m
+
+abbrev pub storedPart : Gap → ℕ → Gap
+storedPart m n = storedIf true m (partOf n)
 
 abbrev pub storedGap : Gaps → Gap → Gaps
 storedGap m g =

@@ -2,15 +2,17 @@
 -- Assumes nothing.
 use Prim.Native.Nat.{ℕ, _-_, _≤_}
 use mathlib.Core.Path.{_≡_, sym, ap, ap₂, _∙_}
-use mathlib.Core.Bool.{not}
+use mathlib.Core.Bool.{true, not}
 use mathlib.Core.List.{List}
 use native.Mathlib.Omega.{arith}
 use borrow.Author.Needs.{needs}
 use lib.ListN.{length, take}
 use Rattle.word.specs.Ceilings.{PREFIX}
+use Rattle.word.specs.Word.{isPerm}
 use Rattle.cell.specs.Cell.{deleted}
 use Rattle.forms.specs.SchemeList.{deletes}
 use Rattle.forms.specs.SchemeMemory.{positionsIn}
+use Rattle.forms.specs.MemoryLaws.{padded-within}
 use Rattle.scheme.specs.WellFormed.{outside, listed}
 use Rattle.scheme.proofs.LookupLaws.{set-inside, set-named, delete-target}
 use Rattle.scheme.proofs.links.lacks_target.Statement.{statement}
@@ -30,9 +32,12 @@ shorter-requires c κs =
     let short : e .length ≤ PREFIX = start .pre .short in
     let inside = set-inside (e .length) d (e .rule) (start .pre .inside) (rule .given .1) in
     let (few, named) = set-named (e .length) d short inside in
+    let six = six-digits start in
+    let proper : isPerm (take (e .length) (e .prefix)) ≡ true =
+    ap isPerm (sym (padded-within (e .length) (e .prefix) (omega arith))) ∙ start .pre .perm in
     let front : take (wide .wide .result) (c .six-of .result) ≡ positionsIn d =
     ap₂ (λ (n : ℕ) (l : List ℕ). take n l) (wide .wide .ensures .0) (c .six-of .ensures) ∙ sym named in
-    (short, omega (arith, few, wide .wide .ensures .0), ap (λ (R : List ℕ). outside (e .length) (deletes R)) front ∙ inside)
+    (short, omega (arith, few, wide .wide .ensures .0), proper, ap (λ (R : List ℕ). outside (e .length) (deletes R)) front ∙ inside)
 
 sub-has-entry : tie.Need-sub-has-entry
 sub-has-entry c =

@@ -5,10 +5,13 @@ use Prim.Native.Nat.{_<_}
 use mathlib.Core.Path.{_≡_, refl, sym, _∙_}
 use mathlib.Core.Bool.{true}
 use native.Mathlib.Omega.{arith}
-use lib.ListN.{drop, length-set}
+use lib.ListN.{length, drop, length-set}
 use borrow.Author.Tests.{not-true, not-false}
+use Rattle.word.specs.Ceilings.{COMPONENTS}
+use Rattle.forms.specs.declared.memory.Gap.{Gap}
 use Rattle.text_grammar.specs.Tokens.{tokens}
 use Rattle.text_grammar.specs.ItemReading.{goesOn, leftOf}
+use Rattle.text_gaps.specs.GapReading.{storedIf}
 use Rattle.text_gaps.proofs.GapTextLaws.{PositionsTo, parts-start, parts-end, positions-less, positions-on}
 use Rattle.text_gaps.proofs.GapTextLaws.{part-kept, part-counted, part-missed}
 use borrow.Author.Needs.{needs}
@@ -58,16 +61,28 @@ falls c =
     positions-less (a .s .now) (a .c .at) _ (l .m .turn) (l .m .next .at) (l .inv) (due (c .before)) (c .position-at .result)
     (c .position-at .ensures)
 
-loop-again : tie.Need-loop-again Inv-loop μ-loop
-loop-again c =
-    let at-position-at = c .before .before in
-    let at-loop = at-position-at .before .before .before in
+-- what is read so far
+abbrev so-far : tie.At-loop Inv-loop μ-loop → Gap
+so-far c = record { parts = c .loop .parts; width = c .loop .width }
+
+-- one number more is read, whether it is kept, counted or missed
+next : (c : tie.After-position-at Inv-loop μ-loop) (h : Gap) →
+    let at-loop = c .before .before .before in
+    let r = c .position-at .result in
+    h ≡ storedIf (r .spelt) (so-far at-loop) (r .value) → length (h .parts) ≡ COMPONENTS →
+    PositionsTo (at-loop .before .before .args .s .now) (at-loop .before .before .args .c .at) h (r .turn) (r .next .at)
+next c h =
+    let at-loop = c .before .before .before in
     let a = at-loop .before .before .args in
     let l = at-loop .loop in
-    let r = at-position-at .position-at .result in
-    positions-on (a .s .now) (a .c .at) (record { parts = l .parts; width = l .width }) (l .m .turn) (l .m .next .at) (l .inv)
-    (due (at-position-at .before)) r (at-position-at .position-at .ensures) _
-    (part-missed (record { parts = l .parts; width = l .width }) (r .value) (r .spelt) (not-true _ (c .if2 .taken))) (l .inv .sized)
+    positions-on (a .s .now) (a .c .at) (so-far at-loop) (l .m .turn) (l .m .next .at) (l .inv) (due (c .before))
+    (c .position-at .result) (c .position-at .ensures) h
+
+loop-again : tie.Need-loop-again Inv-loop μ-loop
+loop-again c =
+    let at-loop = c .before .before .before .before .before in
+    let r = c .before .before .position-at .result in
+    next (c .before .before) _ (part-missed (so-far at-loop) (r .value) (r .spelt) (not-true _ (c .if2 .taken))) (at-loop .loop .inv .sized)
 
 -- there are no more numbers than bytes
 add-width : tie.Need-add-width Inv-loop μ-loop
@@ -77,44 +92,23 @@ add-width c =
 
 loop-again-2 : tie.Need-loop-again-2 Inv-loop μ-loop
 loop-again-2 c =
-    let at-position-at = c .before .before .before in
-    let at-loop = at-position-at .before .before .before in
-    let a = at-loop .before .before .args in
+    let at-loop = c .before .before .before .before .before .before in
     let l = at-loop .loop in
-    let r = at-position-at .position-at .result in
-    positions-on (a .s .now) (a .c .at) (record { parts = l .parts; width = l .width }) (l .m .turn) (l .m .next .at) (l .inv)
-    (due (at-position-at .before)) r (at-position-at .position-at .ensures) _
-    (part-kept (record { parts = l .parts; width = l .width }) (r .value) (r .spelt) (not-false _ (c .before .if2 .left)))
+    let r = c .before .before .before .position-at .result in
+    next (c .before .before .before) _ (part-kept (so-far at-loop) (r .value) (r .spelt) (not-false _ (c .before .if2 .left)))
     (length-set (l .parts) (l .width) (r .value) ∙ l .inv .sized)
 
 loop-again-3 : tie.Need-loop-again-3 Inv-loop μ-loop
 loop-again-3 c =
-    let at-position-at = c .before .before .before in
-    let at-loop = at-position-at .before .before .before in
-    let a = at-loop .before .before .args in
+    let at-loop = c .before .before .before .before .before .before in
     let l = at-loop .loop in
-    let r = at-position-at .position-at .result in
-    positions-on (a .s .now) (a .c .at) (record { parts = l .parts; width = l .width }) (l .m .turn) (l .m .next .at) (l .inv)
-    (due (at-position-at .before)) r (at-position-at .position-at .ensures) _
-    (part-counted (record { parts = l .parts; width = l .width }) (r .value) (r .spelt) (not-false _ (c .before .if2 .left))
+    let r = c .before .before .before .position-at .result in
+    next (c .before .before .before) _ (part-counted (so-far at-loop) (r .value) (r .spelt) (not-false _ (c .before .if2 .left))
     (omega (arith, l .inv .sized))) (l .inv .sized)
 
 pub positions-at-spec : {M : Type 1} → statement M
 positions-at-spec =
     tie.close
-    (tie.spec
-    Inv-loop
-    μ-loop
-    loop-holds
-    (λ c κs. search needs)
-    (λ c κs. search needs)
-    returns
-    (λ c κs. search needs)
-    (λ c. falls (c .before .before))
-    loop-again
-    add-width
-    (λ c. search needs)
-    (λ c. falls (c .before .before .before))
-    loop-again-2
-    (λ c. falls (c .before .before .before))
-    loop-again-3)
+    (tie.spec Inv-loop μ-loop loop-holds (λ c κs. search needs) (λ c κs. search needs) returns (λ c κs. search needs)
+    (λ c. falls (c .before .before)) loop-again add-width (λ c. search needs) (λ c. falls (c .before .before .before))
+    loop-again-2 (λ c. falls (c .before .before .before)) loop-again-3)
