@@ -70,7 +70,7 @@ pub without-map : (R : List ℕ) (f : ℕ → ℕ) (w : List ℕ) → without R 
 without-map R f w = rw (without-from R (map f w), without-from R w) (from-map R f 1 w)
 
 -- no position of R is i or later
-from-none : (R : List ℕ) (i : ℕ) (w : List ℕ) → ((j : ℕ) → i ≤ j → has j R ≡ false) → withoutFrom R i w ≡ w
+pub from-none : (R : List ℕ) (i : ℕ) (w : List ℕ) → ((j : ℕ) → i ≤ j → has j R ≡ false) → withoutFrom R i w ≡ w
 unfolding withoutFrom
 from-none R i [] h = refl
 from-none R i (x ∷ w) h = rw (h i (omega arith), from-none R (suc i) w (λ (j : ℕ) (l : suc i ≤ j). h j (omega arith)))

@@ -13,13 +13,14 @@ use lib.Seq.{drop-cons}
 use lib.Dec.{ltb}
 use borrow.Author.Tests.{eq-eqb, ne-eqb, le-ltb, not-true, not-false}
 use Rattle.word.specs.Ceilings.{DIGITS, PREFIX}
-use Rattle.word.specs.Lists.{any, keep, oneTo}
-use Rattle.word.specs.Word.{before, has, entry}
+use Rattle.word.specs.Lists.{any, keep}
+use Rattle.word.specs.Word.{before, has}
 use Rattle.word.specs.Patterns.{patternsOf}
-use Rattle.word.specs.CopyLaws.{found, entries}
+use Rattle.word.specs.CopyLaws.{found}
 use Rattle.word.specs.ListLaws.{true-not-false, first-some}
 use Rattle.word.proofs.PatternSet.{from, from-start, from-counted, from-cons}
 use Rattle.cell.specs.Cell.{total, without, comparedTo}
+use Rattle.cell.specs.WithoutLaws.{without-from, from-none}
 use Rattle.cell.specs.Built.{built}
 use Rattle.cell.specs.Candidate.{violates, violated, restOf, violatedFirst, lostWords, leastOf, leastAt, leastCandidate}
 use Rattle.placing.specs.Lookup.{VALUES, needAt, flagged}
@@ -158,14 +159,9 @@ module _ (set : List (List ℕ)) (lengths : List ℕ) (count : ℕ) (needs : Lis
     word-some v f w R g L = rw (f, v R g L) (ap some (w R g L))
 
 -- nothing is left out
-keep-none : (l : List ℕ) → keep (λ i. not (has i [])) l ≡ l
+without-none : (p : List ℕ) → without [] p ≡ p
 unfolding has
-keep-none [] = refl
-keep-none (x ∷ l) = ap (λ (u : List ℕ). x ∷ u) (keep-none l)
-
-pub without-none : (p : List ℕ) → without [] p ≡ p
-unfolding without
-without-none p = ap (map (entry p)) (keep-none (oneTo (length p))) ∙ entries p
+without-none p = without-from [] p ∙ from-none [] 1 p (λ (j : ℕ) (l : 1 ≤ j). refl)
 
 -- the word that was made with nothing gone has the deleted positions put back
 module _ (set : List (List ℕ)) (lengths : List ℕ) (count : ℕ) (needs : List ℕ) (prefix gone levels : List ℕ)

@@ -1,5 +1,4 @@
--- Laws of a prefix in memory: its digits, when it is the same as another, its children, and the
--- shorter prefix.
+-- Laws of a prefix in memory: its digits, its children, and the shorter prefix.
 -- Assumes nothing.
 use Prim.Native.Nat.{ℕ, suc, _+_, _-_, _≤_, _<_}
 use native.Mathlib.Numerals.{add-one}
@@ -7,28 +6,24 @@ use native.Mathlib.Omega.{arith}
 use mathlib.Core.Path.{_≡_, refl, sym, ap, ap₂, _∙_}
 use mathlib.Core.Bool.{Bool, true, false}
 use mathlib.Core.List.{List, [], _∷_, _++_, map, map-append, List·Memᴰ, Memᴰ·cast, Memᴰ·of-map, Memᴰ·map}
-use lib.ListN.{length, getD, take, drop, set, length-append, length-map, length-drop, List·getD-append}
+use lib.ListN.{length, getD, take, drop, set, length-append, length-drop, List·getD-append}
 use lib.Seq.{length-take-le, take-suc, take-suc-set, drop-cons, getD-append-add, getD-take, getD-drop}
-use borrow.Author.Tests.{not-true}
+use borrow.Author.Tests.{lt-leb, le-ltb}
 use Rattle.word.specs.Lists.{any, row}
 use Rattle.word.specs.Word.{isPerm, bump}
-use Rattle.word.specs.ListLaws.{not-in, getD-mem, any-map, row-out, row-in}
+use Rattle.word.specs.ListLaws.{getD-mem, any-map, row-out, row-in}
 use Rattle.word.specs.Vocabulary.{unbump}
 use Rattle.word.specs.BumpLaws.{Bumped, stays, moves, bumped}
 use Rattle.word.specs.PermLaws.{perm-bounds}
-use Rattle.cell.specs.Basis.{same}
 use Rattle.cell.specs.Cell.{deleted, children}
 use Rattle.cell.specs.BuiltLaws.{getD-map}
-use Rattle.cell.specs.BuiltCells.{same-out, same-in}
 use Rattle.cell.specs.Child.{childAt}
 use Rattle.cell.specs.ChildLaws.{children-all, children-are}
 use Rattle.forms.specs.SchemeList.{deletes}
-use Rattle.forms.specs.SchemeMemory.{padded}
 use Rattle.scheme.specs.TestLaws.{any-members}
 use Rattle.scheme.specs.WellFormed.{outside}
-use Rattle.scheme.specs.PositionLaws.{rising-at, positions-rise}
+use Rattle.scheme.specs.PositionLaws.{rising-at, positions-rise, deleted-size}
 use Rattle.scheme.specs.DeletedLaws.{deleted-one, deleted-first}
-use Rattle.forms.specs.MemoryLaws.{padded-within, length-padded}
 
 -- the digits of a permutation in an array
 pub digit-bounds : (l : List ℕ) (k i : ℕ) → isPerm (take k l) ≡ true → k ≤ length l → i < k → (1 ≤ getD l i 0) × (getD l i 0 ≤ k)
@@ -37,32 +32,6 @@ digit-bounds l k i e h j =
     let b = perm-bounds (take k l) e (getD-mem (take k l) i 0 (omega arith)) in
     let q = getD-take k l i 0 j in
     omega arith
-
--- The same prefix
-
-same-fails : (u v : List ℕ) → (u ≡ v → ⊥) → same u v ≡ false
-same-fails u v n = not-true (same u v) (not-in (same u v) (λ (e : same u v ≡ true). n (same-out u v e)))
-
-module _ (q : List ℕ) (n : ℕ) (p : List ℕ) (k : ℕ) (hq : n ≤ length q) where
-  pub same-length : (n ≡ k → ⊥) → same (take n q) (padded k p) ≡ false
-  same-length d = same-fails (take n q) (padded k p)
-      (λ (e : take n q ≡ padded k p). d (sym (length-take-le n q hq) ∙ ap length e ∙ length-padded k p))
-
-  pub same-not : (j : ℕ) → n ≡ k → n ≤ length p → j < n → (getD q j 0 ≡ getD p j 0 → ⊥) → same (take n q) (padded k p) ≡ false
-  same-not j s hp h d = same-fails (take n q) (padded k p) differ
-    where
-      differ : take n q ≡ padded k p → ⊥
-      differ e =
-          let whole : take n q ≡ take n p = e ∙ ap (λ m. padded m p) (sym s) ∙ padded-within n p hp in
-          d (sym (getD-take n q j 0 h) ∙ ap (λ (l : List ℕ). getD l j 0) whole ∙ getD-take n p j 0 h)
-
-  pub same-all : n ≡ k → n ≤ length p → take n q ≡ take n p → same (take n q) (padded k p) ≡ true
-  same-all s hp e = same-in (take n q) (padded k p) (e ∙ sym (padded-within n p hp) ∙ ap (λ m. padded m p) s)
-
--- one digit more that agrees
-pub take-more : (q p : List ℕ) (j : ℕ) → j < length q → j < length p → take j q ≡ take j p → getD q j 0 ≡ getD p j 0 →
-    take (j + 1) q ≡ take (j + 1) p
-take-more q p j hq hp e d = rw (add-one, take-suc q j 0 hq, take-suc p j 0 hp, e, d) refl
 
 -- Children
 
@@ -114,16 +83,13 @@ cut-at m j w h = go (bumped m j)
         ap (λ n. getD (take m w ++ drop (suc m) w) n 0) at ∙ getD-append-add (take m w) (drop (suc m) w) (j - m) 0 ∙
         getD-drop (suc m) w (j - m) 0 ∙ ap (λ n. getD w n 0) to
 
-module _ (m : ℕ) (p : List ℕ) (perm : isPerm p ≡ true) (h : m < length p) where
-  -- without the entry with index m: how many are left, and each of them
-  one-length : length (deleted (suc m ∷ []) p) + 1 ≡ length p
-  one-length = rw (deleted-one m p perm h) (omega (arith, length-map (take m p ++ drop (suc m) p) (unbump (getD p m 0)), cut-length m p h))
-
-  one-at : (j : ℕ) → j + 1 < length p → getD (deleted (suc m ∷ []) p) j 0 ≡ unbump (getD p m 0) (getD p (bump m j) 0)
-  one-at j k =
-      ap (λ (l : List ℕ). getD l j 0) (deleted-one m p perm h) ∙
-      getD-map (unbump (getD p m 0)) (take m p ++ drop (suc m) p) j (omega (arith, cut-length m p h)) ∙
-      ap (unbump (getD p m 0)) (cut-at m j p h)
+-- each entry that is left without the one with index m
+one-at : (m : ℕ) (p : List ℕ) → isPerm p ≡ true → (j : ℕ) → j + 1 < length p → m < length p →
+    getD (deleted (suc m ∷ []) p) j 0 ≡ unbump (getD p m 0) (getD p (bump m j) 0)
+one-at m p perm j k h =
+    ap (λ (l : List ℕ). getD l j 0) (deleted-one m p perm h) ∙
+    getD-map (unbump (getD p m 0)) (take m p ++ drop (suc m) p) j (omega (arith, cut-length m p h)) ∙
+    ap (unbump (getD p m 0)) (cut-at m j p h)
 
 pub bump-inside : (m j n : ℕ) → j + 1 < n → bump m j < n
 bump-inside m j n h = go (bumped m j)
@@ -140,15 +106,16 @@ module _ (l : List ℕ) (k r : ℕ) (perm : isPerm (take k l) ≡ true) (low : 1
   size : length (take k l) ≡ k
   size = length-take-le k l fits
 
-  pub one-size : length (deleted (r ∷ []) (take k l)) ≡ k - 1
-  one-size =
-      let e = one-length (r - 1) (take k l) perm (omega (arith, size)) in
-      ap (λ n. length (deleted (n ∷ []) (take k l))) (sym index) ∙ omega (arith, e, size)
+  inside : outside (length (take k l)) (deletes (r ∷ [])) ≡ false
+  inside = rw (size, lt-leb r 0 low, le-ltb k r high) refl
 
-  shorter-at : (j : ℕ) → j < k - 1 → getD (deleted (r ∷ []) (take k l)) j 0 ≡ unbump (getD l (r - 1) 0) (getD l (bump (r - 1) j) 0)
-  shorter-at j h =
+  pub one-size : length (deleted (r ∷ []) (take k l)) ≡ k - 1
+  one-size = omega (arith, deleted-size (r ∷ []) (take k l) inside, size)
+
+  digit-at : (j : ℕ) → j < k - 1 → getD (deleted (r ∷ []) (take k l)) j 0 ≡ unbump (getD l (r - 1) 0) (getD l (bump (r - 1) j) 0)
+  digit-at j h =
       ap (λ n. getD (deleted (n ∷ []) (take k l)) j 0) (sym index) ∙
-      one-at (r - 1) (take k l) perm (omega (arith, size)) j (omega (arith, size)) ∙
+      one-at (r - 1) (take k l) perm j (omega (arith, size)) (omega (arith, size)) ∙
       ap₂ unbump (getD-take k l (r - 1) 0 (omega arith)) (getD-take k l (bump (r - 1) j) 0 (bump-inside (r - 1) j k (omega arith)))
 
   -- one digit more
@@ -162,11 +129,11 @@ module _ (l : List ℕ) (k r : ℕ) (perm : isPerm (take k l) ≡ true) (low : 1
         take-suc (deleted (r ∷ []) (take k l)) j 0 (omega (arith, one-size)),
         e,
         b,
-        shorter-at j h,
+        digit-at j h,
       ) refl
 
--- The first `count` positions of an array are left out from the last on: the one before the t-th,
--- when those from the t-th on are gone
+-- The first `count` positions of an array are left out from the last on: while t of them are there,
+-- the next one is that with the index t - 1
 pub next-position : (l p : List ℕ) (k count t : ℕ) → count ≤ length l → isPerm p ≡ true →
     outside k (deletes (take count l)) ≡ false → 1 ≤ t → t ≤ count →
     (1 ≤ getD l (t - 1) 0) × (getD l (t - 1) 0 + count ≤ k + t) ×

@@ -17,7 +17,7 @@ use Rattle.word.specs.BumpLaws.{unbump-below, unbump-above}
 use Rattle.word.specs.IsoLaws.{iso-refl, iso-map-on, under-order}
 use Rattle.word.specs.PermLaws.{under-perm, perm-distinct, perm-reduce, reduce-perm}
 use Rattle.cell.specs.Cell.{without, deleted}
-use Rattle.cell.specs.WithoutLaws.{withoutFrom, without-from, without-map, without-sublist}
+use Rattle.cell.specs.WithoutLaws.{withoutFrom, without-from, without-map, without-sublist, from-none}
 use Rattle.cell.specs.MergeLaws.{kept-bounds, kept-distinct}
 use Rattle.cell.specs.DeletionLaws.{iso-reduces}
 use Rattle.scheme.specs.WellFormed.{astray}
@@ -26,16 +26,15 @@ use Rattle.scheme.specs.PositionLaws.{has-none, from-passed}
 -- "Deleting position r of p, whose value is v there, gives the reduced rest" (01): the entry is
 -- left out, and the larger values are one lower
 
-from-nothing : (i : ℕ) (w : List ℕ) → withoutFrom [] i w ≡ w
-unfolding withoutFrom has
-from-nothing i [] = refl
-from-nothing i (x ∷ w) = ap (λ (v : List ℕ). x ∷ v) (from-nothing (suc i) w)
+-- no later position is r
+from-past : (r i : ℕ) (w : List ℕ) → r < i → withoutFrom (r ∷ []) i w ≡ w
+unfolding has
+from-past r i w h = from-none (r ∷ []) i w (λ (j : ℕ) (l : i ≤ j). rw (ne-eqb j r (λ (q : j ≡ r). omega arith)) refl)
 
 from-one : (r i m : ℕ) (w : List ℕ) → r ≡ i + m → m < length w → withoutFrom (r ∷ []) i w ≡ take m w ++ drop (suc m) w
 unfolding withoutFrom has
 from-one r i m [] e h = absurd (omega arith)
-from-one r i zero (x ∷ w) e h =
-    rw (eq-eqb i r (omega arith)) (from-passed r (suc i) [] w (omega arith) ∙ from-nothing (suc i) w)
+from-one r i zero (x ∷ w) e h = rw (eq-eqb i r (omega arith)) (from-past r (suc i) w (omega arith))
 from-one r i (suc m) (x ∷ w) e h =
     rw (ne-eqb i r (λ (q : i ≡ r). omega arith)) (ap (λ (v : List ℕ). x ∷ v) (from-one r (suc i) m w (omega arith) (omega arith)))
 
@@ -93,14 +92,9 @@ module _ (m : ℕ) (p : List ℕ) (perm : isPerm p ≡ true) (h : m < length p) 
 
 -- A set is left out from its last position on: the positions before it stay where they are
 
--- what is left of a permutation, reduced, is one
-pub deleted-perm : (R p : List ℕ) → isPerm p ≡ true → isPerm (deleted R p) ≡ true
-unfolding deleted
-deleted-perm R p perm = perm-reduce (without R p) (kept-distinct R p (perm-distinct p perm))
-
 pub deleted-nothing : (p : List ℕ) → isPerm p ≡ true → deleted [] p ≡ p
-unfolding deleted
-deleted-nothing p perm = ap reduce (without-from [] p ∙ from-nothing 1 p) ∙ reduce-perm p perm
+unfolding deleted has
+deleted-nothing p perm = ap reduce (without-from [] p ∙ from-none [] 1 p (λ (j : ℕ) (l : 1 ≤ j). refl)) ∙ reduce-perm p perm
 
 -- a word may be reduced before positions are left out
 reduce-before : (S w : List ℕ) → distinct w ≡ true → reduce (without S w) ≡ reduce (without S (reduce w))
@@ -126,9 +120,8 @@ from-first k r i R (x ∷ w) h e = go (λ (l : suc i ≤ r). from-first k r (suc
     go : (suc i ≤ r → withoutFrom (r ∷ R) (suc i) w ≡ withoutFrom (r ∷ []) (suc i) (withoutFrom R (suc i) w)) →
         (i ≡ r) ⊎ (i ≡ r → ⊥) → withoutFrom (r ∷ R) i (x ∷ w) ≡ withoutFrom (r ∷ []) i (withoutFrom R i (x ∷ w))
     go later (inl q) =
-        let behind : List ℕ = withoutFrom R (suc i) w in
         rw (none, eq-eqb i r q) (from-passed r (suc i) R w (omega arith) ∙
-        sym (from-passed r (suc i) [] behind (omega arith) ∙ from-nothing (suc i) behind))
+        sym (from-past r (suc i) (withoutFrom R (suc i) w) (omega arith)))
     go later (inr q) = rw (none, ne-eqb i r q) (ap (λ (v : List ℕ). x ∷ v) (later (omega arith)))
 
 pub deleted-first : (k r : ℕ) (R p : List ℕ) → isPerm p ≡ true → 1 ≤ r → astray k r R ≡ false →

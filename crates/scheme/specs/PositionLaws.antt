@@ -45,8 +45,7 @@ rising-inside k a (r ∷ R) e =
     and-in (within k r) (all (within k) R) (within-in k r (omega (arith, above k a r R e)) (below k a r R e))
     (rising-inside k r R (behind k a r R e))
 
--- the position at an index: at least 1, those behind it rise above it, and so many places lie above
--- it
+-- the position at an index lies above a, those behind it rise above it, and there is room for them
 pub rising-at : (k a t : ℕ) (R : List ℕ) → astray k a R ≡ false → t < length R →
     (a < getD R t 0) × (astray k (getD R t 0) (drop (suc t) R) ≡ false) × (getD R t 0 + length (drop (suc t) R) ≤ k)
 rising-at k a t [] e h = absurd (omega arith)

@@ -11,7 +11,8 @@ use lib.Seq.{length-take-le}
 use Rattle.word.specs.Ceilings.{PREFIX}
 use Rattle.word.specs.Word.{isPerm}
 use Rattle.cell.specs.Cell.{deleted}
-use Rattle.scheme.specs.DeletedLaws.{deleted-perm, deleted-nothing}
+use Rattle.cell.specs.DeletionLaws.{deleted-perm}
+use Rattle.scheme.specs.DeletedLaws.{deleted-nothing}
 use Rattle.scheme.proofs.PrefixLaws.{next-position}
 use Rattle.scheme.proofs.links.shorter.Statement.{statement}
 use Rattle.scheme.proofs.links.shorter.Tie as tie
