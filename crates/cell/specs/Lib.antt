@@ -4,6 +4,7 @@ pub mod Cell
 pub mod Claim
 pub mod Binomial
 pub mod Built
+pub mod Lost
 pub mod BuiltLaws
 pub mod Candidate
 pub mod SpacingWalk
@@ -28,3 +29,5 @@ pub mod BinomialLaws
 pub mod BasisLaws
 pub mod ListedLaws
 pub mod LeastLaws
+pub mod FigureLaws
+pub mod LostLaws

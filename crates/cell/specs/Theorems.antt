@@ -106,7 +106,7 @@ module _ (P : List (List ℕ)) (p R : List ℕ) (perm : isPerm p ≡ true) (insi
         ap (λ (t : ℕ). length (keep (λ τ. avoids P (built (deleted R p) (merged R p g) τ)) (perms t))) (merged-total R p g))
         σ (perms-all (total g) σ sp sl) ∙ built-deleted-avoids R p g perm size inside σ P ∙ a
 
-    agrees-test : Agrees P p (without R p) g → (σ : List ℕ) → List·Memᴰ σ (perms (total g)) →
+    pub agrees-test : Agrees P p (without R p) g → (σ : List ℕ) → List·Memᴰ σ (perms (total g)) →
         avoids P (built p g σ) ≡ avoids P (built (deleted R p) (merged R p g) σ)
     agrees-test agree σ m =
         let (sp, sl) = perms-are (total g) m in

@@ -8,7 +8,7 @@ use mathlib.Core.Bool.{Bool, true, false, not, cond}
 use mathlib.Core.List.{List, [], _∷_, _++_, map, List·Memᴰ, List·Memᴰ·head, List·Memᴰ·tail}
 use mathlib.Core.List.{Memᴰ·cast, Memᴰ·map, Memᴰ·of-map, Sublistᴰ, Sublistᴰ·slnil, Sublistᴰ·cons, Sublistᴰ·cons-cons}
 use lib.ListN.{length, getD}
-use borrow.Author.Tests.{not-true}
+use borrow.Author.Tests.{ne-eqb, not-true}
 use Rattle.word.specs.Lists.{all, keep, row, oneTo}
 use Rattle.word.specs.Word.{has, within, distinct, entry}
 use Rattle.word.specs.ListLaws.{not-in, all-out, keep-out, keep-in, row-out, row-in, getD-mem}
@@ -74,6 +74,13 @@ pub from-none : (R : List ℕ) (i : ℕ) (w : List ℕ) → ((j : ℕ) → i ≤
 unfolding withoutFrom
 from-none R i [] h = refl
 from-none R i (x ∷ w) h = rw (h i (omega arith), from-none R (suc i) w (λ (j : ℕ) (l : suc i ≤ j). h j (omega arith)))
+
+-- a position before the first is passed
+pub from-passed : (r j : ℕ) (R w : List ℕ) → r < j → withoutFrom (r ∷ R) j w ≡ withoutFrom R j w
+unfolding withoutFrom has
+from-passed r j R [] h = refl
+from-passed r j R (x ∷ w) h =
+    rw (ne-eqb j r (λ (q : j ≡ r). omega arith), from-passed r (suc j) R w (omega arith)) refl
 
 from-append : (R : List ℕ) (i : ℕ) (u v : List ℕ) → ((j : ℕ) → i + length u ≤ j → has j R ≡ false) →
     withoutFrom R i (u ++ v) ≡ withoutFrom R i u ++ v

@@ -17,11 +17,11 @@ use Rattle.word.specs.BumpLaws.{unbump-below, unbump-above}
 use Rattle.word.specs.IsoLaws.{iso-refl, iso-map-on, under-order}
 use Rattle.word.specs.PermLaws.{under-perm, perm-distinct, perm-reduce, reduce-perm}
 use Rattle.cell.specs.Cell.{without, deleted}
-use Rattle.cell.specs.WithoutLaws.{withoutFrom, without-from, without-map, without-sublist, from-none}
+use Rattle.cell.specs.WithoutLaws.{withoutFrom, without-from, without-map, without-sublist, from-none, from-passed}
 use Rattle.cell.specs.MergeLaws.{kept-bounds, kept-distinct}
 use Rattle.cell.specs.DeletionLaws.{iso-reduces}
 use Rattle.scheme.specs.WellFormed.{astray}
-use Rattle.scheme.specs.PositionLaws.{has-none, from-passed}
+use Rattle.scheme.specs.PositionLaws.{has-none}
 
 -- "Deleting position r of p, whose value is v there, gives the reduced rest" (01): the entry is
 -- left out, and the larger values are one lower

@@ -10,5 +10,6 @@ pub mod FindingLaws
 pub mod NumberLaws
 pub mod Proper
 pub mod ProperLaws
+pub mod LossLaws
 pub mod EntryMemoryLaws
 pub mod SetLaws

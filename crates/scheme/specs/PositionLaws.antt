@@ -10,11 +10,11 @@ use lib.ListN.{length, getD, drop}
 use lib.Dec.{leb, ltb, eqb}
 use borrow.Author.Tests.{leb-false, ltb-false, eqb-false, eq-eqb, ne-eqb, lt-leb, le-ltb}
 use Rattle.word.specs.Lists.{all}
-use Rattle.word.specs.Word.{within, has}
+use Rattle.word.specs.Word.{within, has, distinct}
 use Rattle.word.specs.ListLaws.{and-in, same-or-not}
 use Rattle.word.specs.PermLaws.{within-in}
 use Rattle.cell.specs.Cell.{deleted}
-use Rattle.cell.specs.WithoutLaws.{withoutFrom, without-from}
+use Rattle.cell.specs.WithoutLaws.{withoutFrom, without-from, from-passed}
 use Rattle.cell.specs.DeletionLaws.{deleted-length}
 use Rattle.forms.specs.SchemeList.{deletes}
 use Rattle.scheme.specs.WellFormed.{astray, outside}
@@ -54,6 +54,21 @@ rising-at k a (suc t) (r ∷ R) e h =
     let (low, rise, room) = rising-at k r t R (behind k a r R e) (omega arith) in
     (omega (arith, low, above k a r R e), rise, room)
 
+-- no position of a list that rises above i is i
+pub has-none : (k a i : ℕ) (R : List ℕ) → i ≤ a → astray k a R ≡ false → has i R ≡ false
+unfolding has
+has-none k a i [] h e = refl
+has-none k a i (r ∷ R) h e =
+    let l = above k a r R e in
+    rw (ne-eqb i r (λ (q : i ≡ r). omega arith)) (has-none k r i R (omega arith) (behind k a r R e))
+
+-- so it has no position twice
+rising-distinct : (k a : ℕ) (R : List ℕ) → astray k a R ≡ false → distinct R ≡ true
+unfolding distinct
+rising-distinct k a [] e = refl
+rising-distinct k a (r ∷ R) e =
+    rw (has-none k r r R (omega arith) (behind k a r R e)) (rising-distinct k r R (behind k a r R e))
+
 module _ (k : ℕ) (R : List ℕ) (inside : outside k (deletes R) ≡ false) where
   pub positions-rise : astray k 0 R ≡ false
   positions-rise = or-right (eqb (length R) 0) (astray k 0 R) inside
@@ -61,6 +76,10 @@ module _ (k : ℕ) (R : List ℕ) (inside : outside k (deletes R) ≡ false) whe
   -- each lies within 1 to k
   pub positions-inside : all (within k) R ≡ true
   positions-inside = rising-inside k 0 R positions-rise
+
+  -- none stands twice
+  pub positions-distinct : distinct R ≡ true
+  positions-distinct = rising-distinct k 0 R positions-rise
 
   -- there is one
   pub positions-some : 1 ≤ length R
@@ -85,21 +104,6 @@ positions-many k R h = go (outside k (deletes R)) refl
 -- what rises above a number rises above every number below its first position
 above-other : (k a b r : ℕ) (R : List ℕ) → b < r → astray k a (r ∷ R) ≡ false → astray k b (r ∷ R) ≡ false
 above-other k a b r R h e = rw (lt-leb r b h, le-ltb k r (below k a r R e)) (behind k a r R e)
-
--- no position of a list that rises above i is i
-pub has-none : (k a i : ℕ) (R : List ℕ) → i ≤ a → astray k a R ≡ false → has i R ≡ false
-unfolding has
-has-none k a i [] h e = refl
-has-none k a i (r ∷ R) h e =
-    let l = above k a r R e in
-    rw (ne-eqb i r (λ (q : i ≡ r). omega arith)) (has-none k r i R (omega arith) (behind k a r R e))
-
--- a position before the first is passed
-pub from-passed : (r j : ℕ) (R w : List ℕ) → r < j → withoutFrom (r ∷ R) j w ≡ withoutFrom R j w
-unfolding withoutFrom has
-from-passed r j R [] h = refl
-from-passed r j R (x ∷ w) h =
-    rw (ne-eqb j r (λ (q : j ≡ r). omega arith), from-passed r (suc j) R w (omega arith)) refl
 
 -- positions from i on, one after the other
 from-size : (i : ℕ) (R w : List ℕ) → astray (i + length w) i R ≡ false → length (withoutFrom R (suc i) w) + length R ≡ length w

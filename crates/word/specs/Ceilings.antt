@@ -46,6 +46,14 @@ COUNTS = LENGTH + 1
 abbrev pub PLAIN_LENGTH : ℕ
 PLAIN_LENGTH = 9
 
+-- "For n up to 12" (02, order 5): the largest length that is counted by inversions
+abbrev pub REFINED : ℕ
+REFINED = 12
+
+-- the figures of the largest such length, for 0 to 12 * 11 / 2 inversions
+abbrev pub FIGURES : ℕ
+FIGURES = 67
+
 -- columns of binomials: C(z, 0) .. C(z, 7)
 abbrev pub COLUMNS : ℕ
 COLUMNS = PREFIX + 2

@@ -2,6 +2,7 @@
 pub mod Ceilings
 pub mod Lists
 pub mod Word
+pub mod Inversions
 pub mod Listing
 pub mod Vocabulary
 pub mod Refusal
@@ -19,3 +20,4 @@ pub mod PermLaws
 pub mod AscendLaws
 pub mod FirstLaws
 pub mod ListingLaws
+pub mod InversionLaws

@@ -27,6 +27,10 @@ pub const LENGTH: usize = 20;
 pub const COUNTS: usize = LENGTH + 1;
 // the largest length that is evaluated plainly
 pub const PLAIN_LENGTH: usize = 9;
+// the largest length that is counted by inversions
+pub const REFINED: usize = 12;
+// the figures of that length, for 0 to 12 * 11 / 2 inversions
+pub const FIGURES: usize = 67;
 // columns of binomials C(z, 0) .. C(z, 7): a child's prefix has up to 7 entries
 pub const COLUMNS: usize = PREFIX + 2;
 // places of the children of an entry, or of its target, and one that stays 0
