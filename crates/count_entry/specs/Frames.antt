@@ -6,6 +6,7 @@ use mathlib.Core.List.{List, [], _∷_, map}
 use lib.ListN.{length, getD}
 use Rattle.word.specs.Ceilings.{COMPONENTS, LENGTH}
 use Rattle.cell.specs.Cell.{total}
+use Rattle.cell.specs.Binomial.{binomial}
 use Rattle.spacing.specs.Sizes.{NEAR}
 use Rattle.forms.specs.SchemeMemory.{schemeIn}
 use Rattle.count_step.specs.declared.cells.Task.{Task}
@@ -16,6 +17,7 @@ use Rattle.count_walk.specs.Cells.{entryCells}
 use Rattle.count_walk.specs.Walk.{countWalked}
 use Rattle.count_cursor.specs.Cursor.{cellOf, AtCell}
 use Rattle.count_cursor.specs.declared.cursor.Cursor.{Cursor}
+use Rattle.count_entry.specs.declared.entry.Work.{Work}
 use Rattle.count_entry.specs.declared.frame.Frame.{Frame}
 
 -- the layout that keeps so many rows, by the places of the entries in a row
@@ -43,6 +45,10 @@ pub record CellGiven (sheet places : List ℕ) (f : Frame) (c : Cursor) : Type 0
   pub at : AtCell (framed .of .s) c
   pub low : c .row ≤ f .last
 
+-- where the cells of the cursor's entry begin in its row
+abbrev pub beginsAt : List ℕ → Frame → Cursor → ℕ
+beginsAt places f c = c .row % f .rows * f .width + getD places (c .entry) 0
+
 -- where the row begins in which the cells stand that an entry reads: as many rows back as it
 -- deletes positions
 abbrev pub offsetOf : Frame → Item → ℕ → ℕ
@@ -65,6 +71,13 @@ taskOf f t gone n j =
 abbrev pub taskAt : List ℕ → List ℕ → Frame → Cursor → Task
 taskAt sheet places f c =
     taskOf f (itemOf sheet places (c .entry)) (flagsAt sheet (c .entry)) (fieldOf sheet (c .entry) 3) (c .row)
+
+-- what a pass over the cells of the cursor's entry in its row is given: where they begin, how many
+-- there are, and what their steps share
+pub record WorkFor (sheet places : List ℕ) (f : Frame) (c : Cursor) (w : Work) : Type 0 where
+  pub at : w .at ≡ beginsAt places f c
+  pub size : w .size ≡ binomial (c .row) (w .task .length)
+  pub task : w .task ≡ taskAt sheet places f c
 
 -- The table after steps, for every scheme whose sheet it is: at the cursor's cell, at all cells of
 -- its entry in its row

@@ -22,7 +22,7 @@ ghost use Rattle.spacing.specs.Sizes.{NEAR, BLOCKS};
 ghost use Rattle.spacing.specs.Pascal.{Pascal};
 ghost use Rattle.count_plan.specs.SheetSizes.{SHEET};
 ghost use Rattle.count_plan.specs.SheetRows.{linksAt};
-ghost use Rattle.count_entry.specs.Frames.{CellGiven, taskAt, CellWalked, EntryWalked};
+ghost use Rattle.count_entry.specs.Frames.{CellGiven, taskAt, WorkFor, CellWalked, EntryWalked};
 
 // Where the cells of each entry begin that the links of an entry name, in the row that begins at
 // `offset`.
@@ -66,6 +66,29 @@ fn task_of(sheet: &[u8], places: &[usize], f: Frame, c: Cursor) -> Task
     }
 }
 
+// What a pass over the cells of an entry in a row is given: where they begin, how many there are,
+// and what their steps share.
+pub struct Work {
+    pub at: usize,
+    pub size: usize,
+    pub task: Task,
+}
+
+// The same for the cursor's entry in its row.
+pub fn work_of(sheet: &[u8], places: &[usize], f: Frame, c: Cursor, b: &[usize]) -> Work
+    requires { ⌜ CellGiven (now sheet) (now places) f c × Pascal (now b) ⌝ }
+    ensures { λ r. ⌜ WorkFor (now (sheet .entry)) (now (places .entry)) f c r ⌝ }
+{
+    let task = task_of(sheet, places, f, c);
+    let at = block_of(f, c.row, 0) + place_at(places, c.entry);
+    let size = choose(b, c.row, task.length);
+    Work {
+        at: at,
+        size: size,
+        task: task,
+    }
+}
+
 // Fills the cells of the cursor's entry in its row, which is what the cursor does cell by cell.
 pub fn fill_entry(
     table: &mut [u64],
@@ -78,12 +101,10 @@ pub fn fill_entry(
     requires { ⌜ CellGiven (now sheet) (now places) f c × Pascal (now b) ⌝ }
     ensures { λ r. ⌜ EntryWalked (now (sheet .entry)) (now (places .entry)) f c (now (table .entry)) (now (table .exit)) ⌝ }
 {
-    let task = task_of(sheet, places, f, c);
-    let e = c.entry;
-    let at = block_of(f, c.row, 0) + place_at(places, e);
-    let size = choose(b, c.row, task.length);
-    let gaps = gaps_of(sheet, e);
-    fill_cells(table, at, size, task, gaps, b);
+    let w = work_of(sheet, places, f, c, b);
+    let gaps = gaps_of(sheet, c.entry);
+    let task = w.task;
+    fill_cells(table, w.at, w.size, task, gaps, b);
 }
 
 // Fills the cell that the cursor is at.
@@ -98,10 +119,9 @@ pub fn fill_cell(
     requires { ⌜ CellGiven (now sheet) (now places) f c × Pascal (now b) ⌝ }
     ensures { λ r. ⌜ CellWalked (now (sheet .entry)) (now (places .entry)) f c (now (table .entry)) (now (table .exit)) ⌝ }
 {
-    let task = task_of(sheet, places, f, c);
-    let e = c.entry;
-    let at = block_of(f, c.row, 0) + place_at(places, e) + c.rank;
-    let gaps = gaps_of(sheet, e);
+    let w = work_of(sheet, places, f, c, b);
+    let gaps = gaps_of(sheet, c.entry);
+    let task = w.task;
     let g = c.spacing;
-    fill_one(table, at, task, gaps, g, b);
+    fill_one(table, w.at + c.rank, task, gaps, g, b);
 }

@@ -126,7 +126,7 @@ module _ (P : List (List ℕ)) (s : Scheme) (formed : WellFormed P (schemeIn s))
       term i h =
           let (a, b) = row-out q m h in
           fed-value single single-sound (countMakes P) (rowsOf (schemeIn s)) n s (size P)
-          (solution-of (size P) P s (sizes-solved P s formed truth)) (proper (schemeIn s) (formed .scheme)) small (omega arith)
+          (solution-of (size P) P n s small (sizes-solved P s formed truth)) (proper (schemeIn s) (formed .scheme)) (omega arith)
           (omega arith)
           k c l all T (omega (arith, room, ap (λ w. rowsOf (schemeIn s) * w) (width-sum n s)))
           (record { prefix = childAt (prefixAt s (c .entry)) (slot (c .spacing) i); spacing = split (c .spacing) i })

@@ -18,14 +18,14 @@ use Rattle.verdict.specs.Truth.{WellFormed, AllTrue}
 use Rattle.verdict.specs.Size.{size}
 use Rattle.verdict.specs.Value.{countOf}
 use Rattle.verdict.specs.ValueLaws.{count-size}
-use Rattle.count_plan.specs.Layout.{lengthAt, prefixAt, widthOf, rowsOf, needOf, cellAt, HasCell}
+use Rattle.count_plan.specs.Layout.{lengthAt, prefixAt, widthOf, rowsOf, needOf, cellAt, numberAt, HasCell}
 use Rattle.count_plan.specs.LayoutLaws.{prefix-length, width-sum}
 use Rattle.count_plan.specs.SheetRows.{Names}
 use Rattle.count_step.specs.Step.{held}
-use Rattle.count_walk.specs.Content.{single}
+use Rattle.count_walk.specs.Content.{Content, Sound, single}
 use Rattle.count_walk.specs.Cells.{cellsOf}
 use Rattle.count_walk.specs.CellLaws.{rows-out}
-use Rattle.count_walk.specs.Walk.{countMakes, countWalked}
+use Rattle.count_walk.specs.Walk.{Makes, walked, countMakes, countWalked}
 use Rattle.count_walk.specs.WalkLaws.{walked-size, walked-kept, row-value}
 use Rattle.count_walk.specs.SolutionLaws.{single-sound, solution-of, sizes-solved}
 use Rattle.count_rows.specs.Run.{cleared, rootValue, ValuesTo, Counts}
@@ -46,7 +46,7 @@ module _ (P : List (List ℕ)) (s : Scheme) (formed : WellFormed P (schemeIn s))
       size P (prefixAt s d) g
   value-there j i d g low c here kept =
       row-value single single-sound (countMakes P) (rowsOf (schemeIn s)) n s (size P)
-      (solution-of (size P) P s (sizes-solved P s formed truth)) (proper (schemeIn s) (formed .scheme)) small (omega arith)
+      (solution-of (size P) P n s small (sizes-solved P s formed truth)) (proper (schemeIn s) (formed .scheme)) (omega arith)
       (omega arith) j low T (omega (arith, room, ap (λ w. rowsOf (schemeIn s) * w) (width-sum n s))) i d g c here kept
 
   pub root-count : (root j : ℕ) → Names s [] root → j ≤ n → rootValue P n s root T j ≡ countOf P (schemeIn s) j
@@ -107,20 +107,20 @@ cleared-more i T₀ T h e =
     set-at (replicate i 0) (getD T₀ i 0) (drop (suc i) T₀) 0 i (length-replicate {A = ℕ} i 0) ∙ zeros-snoc i (drop (suc i) T₀) ∙
     ap (λ m. replicate m 0 ++ drop m T₀) (sym (add-one i))
 
--- what lies behind the blocks is untouched by the rows
-pub walked-cleared : (P : List (List ℕ)) (n : ℕ) (s : Scheme) (j m : ℕ) (T : List ℕ) → j ≤ n → m ≡ rowsOf (schemeIn s) * widthOf n s →
-    cleared m (countWalked P n s (cellsOf s j) T) ≡ cleared m T
-walked-cleared P n s j m T low e =
+-- what lies behind the blocks is untouched by the rows, whatever the cells hold
+pub walked-cleared : {A : Type 0} (C : Content A) → Sound C → (make : Makes A) (rows n : ℕ) (s : Scheme) (j m : ℕ) (T : List ℕ) → 0 < rows →
+    j ≤ n → m ≡ numberAt (C .numbers) (rows * widthOf n s) → cleared m (walked C make rows n s (cellsOf s j) T) ≡ cleared m T
+walked-cleared C sound make rows n s j m T pos low e =
     ap (λ (l : List ℕ). replicate m 0 ++ l)
-    (ext-getD 0 (drop m (countWalked P n s (cellsOf s j) T)) (drop m T)
+    (ext-getD 0 (drop m (walked C make rows n s (cellsOf s j) T)) (drop m T)
     (omega (
       arith,
-      length-drop m (countWalked P n s (cellsOf s j) T),
+      length-drop m (walked C make rows n s (cellsOf s j) T),
       length-drop m T,
-      walked-size single single-sound (countMakes P) (rowsOf (schemeIn s)) n s (cellsOf s j) T,
+      walked-size C sound make rows n s (cellsOf s j) T,
     ))
-    (λ (i : ℕ) (h : i < length (drop m (countWalked P n s (cellsOf s j) T))).
-    getD-drop m (countWalked P n s (cellsOf s j) T) i 0 ∙
-    walked-kept single single-sound (countMakes P) (rowsOf (schemeIn s)) n s (omega arith) (cellsOf s j) T
+    (λ (i : ℕ) (h : i < length (drop m (walked C make rows n s (cellsOf s j) T))).
+    getD-drop m (walked C make rows n s (cellsOf s j) T) i 0 ∙
+    walked-kept C sound make rows n s pos (cellsOf s j) T
     (λ c k. rows-out n s 0 (suc j) (omega arith) k .2) (m + i) (omega (arith, e)) ∙
     sym (getD-drop m T i 0)))

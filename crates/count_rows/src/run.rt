@@ -5,7 +5,6 @@ use crate::values::root_cell;
 use crate::values::value_in;
 use count_entry::frame::Frame;
 use count_entry::frame::need;
-use count_step::cells::store;
 use word::limits::COUNTS;
 ghost use mathlib.Core.Path.{_≡_};
 ghost use Prim.Native.Nat.{_*_, _≤_};
@@ -21,7 +20,7 @@ pub fn clear(table: &mut [u64], m: usize)
 {
     let mut i: usize = 0;
     while i < m {
-        store(table, i, 0);
+        table[i] = 0;
         i += 1;
     }
 }

@@ -1,11 +1,11 @@
--- The sums of a step, term by term.
+-- The cells that a step goes through, and the sums of what they hold, term by term.
 -- Assumes nothing.
 use Prim.Native.Nat.{ℕ, suc, _+_, _*_, _-_, min, _≤_, _<_}
 use native.Mathlib.Nat.{zero-add}
 use native.Mathlib.Numerals.{add-one}
 use native.Mathlib.Omega.{arith}
-use mathlib.Core.Path.{_≡_, refl, sym, ap, ap₂, _∙_}
-use mathlib.Core.List.{List, [], _∷_}
+use mathlib.Core.Path.{_≡_, refl, sym, ap, ap₂, _∙_, subst}
+use mathlib.Core.List.{List, [], _∷_, _++_, map, map-append}
 use lib.ListN.{length, getD, drop, length-drop, drop-of-length-le}
 use lib.Seq.{drop-cons}
 use Rattle.word.specs.Ceilings.{LENGTH, COUNTS}
@@ -15,7 +15,16 @@ use Rattle.spacing.specs.Sizes.{CHOICES, RANKS}
 use Rattle.spacing.specs.Rank.{rankFrom, rankAfter}
 use Rattle.spacing.specs.RankLaws.{after-head}
 use Rattle.spacing.specs.PascalLaws.{binomial-small}
-use Rattle.count_step.specs.Sums.{partSum, childSum, childrenOf}
+use Rattle.spacing.specs.TotalLaws.{total-append}
+use Rattle.count_step.specs.Step.{held}
+use Rattle.count_step.specs.Sums.{partPlaces, placesFrom, placesOf, sumOf}
+
+-- the first cell of a part, and the others
+pub part-cut : (at col z end : ℕ) → z < end →
+    partPlaces at col z (end - z) ≡ (at + binomial z col) ∷ partPlaces at col (z + 1) (end - (z + 1))
+part-cut at col z end h =
+    let e : end - z ≡ suc (end - (z + 1)) = omega arith in
+    rw (e, add-one z) refl
 
 -- Sums with a cap M, term by term
 
@@ -34,7 +43,7 @@ module _ (M : ℕ) where
 
   -- The sum over a component: what is summed, and what is still to come.
   pub record Part (T : List ℕ) (at col first n end sum z : ℕ) : Type 0 where
-    pub whole : min (sum + partSum T at col z (end - z)) M ≡ min (partSum T at col first n) M
+    pub whole : min (sum + sumOf T (partPlaces at col z (end - z))) M ≡ min (sumOf T (partPlaces at col first n)) M
     pub high : z ≤ end
     pub low : sum ≤ M
 
@@ -43,32 +52,43 @@ module _ (M : ℕ) where
     part-start =
         let e : first + n - first ≡ n = omega arith in
         record {
-          whole = rw e (ap (λ m. min m M) (zero-add (partSum T at col first n)));
+          whole = rw e (ap (λ m. min m M) (zero-add (sumOf T (partPlaces at col first n))));
           high = omega arith;
           low = omega arith;
         }
 
     module _ (end sum z : ℕ) (p : Part T at col first n end sum z) where
-      part-next : z < end → partSum T at col z (end - z) ≡ getD T (at + binomial z col) 0 + partSum T at col (z + 1) (end - (z + 1))
-      unfolding partSum
-      part-next h =
-          let e : end - z ≡ suc (end - (z + 1)) = omega arith in
-          rw (e, add-one z) refl
+      part-next : z < end → sumOf T (partPlaces at col z (end - z)) ≡
+          getD T (at + binomial z col) 0 + sumOf T (partPlaces at col (z + 1) (end - (z + 1)))
+      unfolding total
+      part-next h = ap (sumOf T) (part-cut at col z end h)
 
       pub part-more : (x y : ℕ) → z < end → x ≡ getD T (at + binomial z col) 0 → y ≡ min (sum + x) M → Part T at col first n end y (z + 1)
       part-more x y h e f =
           record {
-            whole = cap-more sum x (partSum T at col (z + 1) (end - (z + 1))) y f ∙
-                ap (λ r. min (sum + r) M) (ap (λ u. u + partSum T at col (z + 1) (end - (z + 1))) e ∙ sym (part-next h)) ∙ p .whole;
+            whole = cap-more sum x (sumOf T (partPlaces at col (z + 1) (end - (z + 1)))) y f ∙
+                ap (λ r. min (sum + r) M) (ap (λ u. u + sumOf T (partPlaces at col (z + 1) (end - (z + 1)))) e ∙ sym (part-next h)) ∙
+                p .whole;
             high = omega arith;
             low = omega arith;
           }
 
-      pub part-end : end ≤ z → sum ≡ min (partSum T at col first n) M
-      unfolding partSum
+      pub part-end : end ≤ z → sum ≡ min (sumOf T (partPlaces at col first n)) M
+      unfolding total
       part-end h =
           let e : end - z ≡ 0 = omega arith in
-          cap-end sum (partSum T at col first n) (p .low) (ap (λ r. min (sum + partSum T at col z r) M) (sym e) ∙ p .whole)
+          cap-end sum (sumOf T (partPlaces at col first n)) (p .low)
+          (ap (λ r. min (sum + sumOf T (partPlaces at col z r)) M) (sym e) ∙ p .whole)
+
+  -- the cells of one component more, and those behind them
+  pub cap-cells : (T : List ℕ) (s p n : ℕ) (here rest : List ℕ) → p ≡ min (sumOf T here) M → n ≡ min (s + p) M →
+      min (n + sumOf T rest) M ≡ min (s + sumOf T (here ++ rest)) M
+  cap-cells T s p n here rest pe ne =
+      let X : ℕ = sumOf T here in
+      let both : sumOf T (here ++ rest) ≡ X + sumOf T rest = ap total (map-append (held T) here rest) ∙
+      total-append (map (held T) here) (map (held T) rest) in
+      let sum-is : n ≡ min (s + X) M = ne ∙ ap (λ m. min (s + m) M) pe ∙ cap-part s X in
+      cap-more s X (sumOf T rest) n sum-is ∙ ap (λ m. min (s + m) M) (sym both)
 
 -- How large ranks are
 
@@ -82,37 +102,31 @@ unfolding rankAfter total
 after-small i a [] h = omega arith
 after-small i a (x ∷ g) h = omega (arith, from-small i (a + x) g (omega arith))
 
--- The sum over every next entry: what is summed, and what is still to come. G is the spacing, z the
--- first value of component i.
-pub record Sums (M : ℕ) (T links G : List ℕ) (k above below z sum i : ℕ) : Type 0 where
-  pub whole : min (sum + childSum T links i below z (drop i G)) M ≡ min (childrenOf T links G) M
+-- The cells of every next entry, component by component: what is still to come. G is the spacing, z
+-- the first value of component i; `left` says of the cells that are left what is kept of them.
+pub record Coming (left : List ℕ → Type 0) (links G : List ℕ) (k above below z i : ℕ) : Type 0 where
+  pub rest : left (placesFrom links i below z (drop i G))
   pub high : above ≡ rankAfter (i + 1) z (drop i G)
   pub fits : z + total (drop i G) + (k - i) ≤ LENGTH
   pub low : below ≤ i * CHOICES
   pub reach : i ≤ k
 
-module _ (M : ℕ) (T links G : List ℕ) (k : ℕ) (size : length G ≡ k + 1) where
-  pub sums-start : (a : ℕ) → a ≡ rankAfter 1 0 G → k + total G ≤ LENGTH → Sums M T links G k a 0 0 0 0
-  unfolding childrenOf
-  sums-start a e h =
-      record {
-        whole = ap (λ m. min m M) (zero-add (childSum T links 0 0 0 G));
-        high = e;
-        fits = omega arith;
-        low = omega arith;
-        reach = omega arith;
-      }
+module _ (links G : List ℕ) (k : ℕ) (size : length G ≡ k + 1) where
+  pub coming-start : (left : List ℕ → Type 0) (a : ℕ) → a ≡ rankAfter 1 0 G → k + total G ≤ LENGTH → left (placesOf links G) →
+      Coming left links G k a 0 0 0
+  unfolding placesOf
+  coming-start left a e h all = record { rest = all; high = e; fits = omega arith; low = omega arith; reach = omega arith }
 
-  module _ (above below z sum i : ℕ) (s : Sums M T links G k above below z sum i) where
+  module _ (left : List ℕ → Type 0) (above below z i : ℕ) (s : Coming left links G k above below z i) where
     cut : drop i G ≡ getD G i 0 ∷ drop (suc i) G
     cut = drop-cons G i 0 (omega (arith, s .reach))
 
-    left : length (drop (suc i) G) + suc i ≡ k + 1
-    left = omega (arith, length-drop (suc i) G, s .reach)
+    behind : length (drop (suc i) G) + suc i ≡ k + 1
+    behind = omega (arith, length-drop (suc i) G, s .reach)
 
-    rest : total (drop i G) ≡ getD G i 0 + total (drop (suc i) G)
+    whole : total (drop i G) ≡ getD G i 0 + total (drop (suc i) G)
     unfolding total
-    rest = ap total cut
+    whole = ap total cut
 
     pub above-small : above ≤ RANKS + k * CHOICES
     above-small =
@@ -120,7 +134,7 @@ module _ (M : ℕ) (T links G : List ℕ) (k : ℕ) (size : length G ≡ k + 1) 
         omega (arith, s .high, after-small (i + 1) z (drop i G) (omega (arith, s .fits, s .reach)))
 
     pub component-small : (x : ℕ) → x ≡ getD G i 0 → z + x ≤ LENGTH
-    component-small x e = omega (arith, s .fits, rest)
+    component-small x e = omega (arith, s .fits, whole)
 
     module _ (x : ℕ) (e : x ≡ getD G i 0) where
       shape : drop i G ≡ x ∷ drop (suc i) G
@@ -132,48 +146,51 @@ module _ (M : ℕ) (T links G : List ℕ) (k : ℕ) (size : length G ≡ k + 1) 
 
       module _ (h : i < k) where
         above-head : above ≡ binomial (z + x) (suc (suc i)) + rankAfter (suc (suc i)) (suc (z + x)) (drop (suc i) G)
-        above-head = above-from ∙ after-head (suc i) (z + x) (drop (suc i) G) (omega (arith, left))
+        above-head = above-from ∙ after-head (suc i) (z + x) (drop (suc i) G) (omega (arith, behind))
 
         pub above-enough : (w : ℕ) → w ≡ binomial (z + x) (i + 2) → w ≤ above
         above-enough w f =
             let o : i + 2 ≡ suc (suc i) = omega arith in
             omega (arith, f ∙ ap (binomial (z + x)) o, above-head)
 
-        pub sums-more : (p n y w : ℕ) → p ≡ min (partSum T (getD links i 0 + (below + above)) (i + 1) z x) M → n ≡ min (sum + p) M →
-            y ≡ binomial (z + x) (i + 1) → w ≡ binomial (z + x) (i + 2) → Sums M T links G k (above - w) (below + y) (z + x + 1) n (i + 1)
-        unfolding childSum
-        sums-more p n y w pe ne ye we =
+        -- one component more
+        pub coming-more : (next : List ℕ → Type 0) (y w : ℕ) →
+            ((l : List ℕ) → left (partPlaces (getD links i 0 + (below + above)) (i + 1) z x ++ l) → next l) →
+            y ≡ binomial (z + x) (i + 1) → w ≡ binomial (z + x) (i + 2) →
+            Coming next links G k (above - w) (below + y) (z + x + 1) (i + 1)
+        unfolding placesFrom
+        coming-more next y w go ye we =
             let o : i + 2 ≡ suc (suc i) = omega arith in
             let z1 : suc (z + x) ≡ z + x + 1 = omega arith in
-            let X : ℕ = partSum T (getD links i 0 + (below + above)) (i + 1) z x in
-            let R : ℕ = childSum T links (i + 1) (below + y) (z + x + 1) (drop (i + 1) G) in
             let i1 : suc i ≡ i + 1 = omega arith in
-            let step : childSum T links i below z (drop i G) ≡ X + R =
-            ap (childSum T links i below z) shape ∙
-            ap₂ _+_ (ap₂ (λ a c. partSum T (getD links i 0 + (below + a)) c z x) (sym above-from) i1)
-            (ap (λ c. childSum T links c (below + binomial (z + x) c) (suc (z + x)) (drop c G)) i1 ∙
-            ap₂ (λ u c. childSum T links (i + 1) (below + u) c (drop (i + 1) G)) (sym ye) z1) in
-            let sum-is : n ≡ min (sum + X) M = ne ∙ ap (λ m. min (sum + m) M) pe ∙ cap-part M sum X in
+            let step : placesFrom links i below z (drop i G) ≡
+            partPlaces (getD links i 0 + (below + above)) (i + 1) z x ++ placesFrom links (i + 1) (below + y) (z + x + 1) (drop (i + 1) G) =
+            ap (placesFrom links i below z) shape ∙
+            ap₂ _++_ (ap₂ (λ a c. partPlaces (getD links i 0 + (below + a)) c z x) (sym above-from) i1)
+            (ap (λ c. placesFrom links c (below + binomial (z + x) c) (suc (z + x)) (drop c G)) i1 ∙
+            ap₂ (λ u c. placesFrom links (i + 1) (below + u) c (drop (i + 1) G)) (sym ye) z1) in
             let tail-is : rankAfter (suc (suc i)) (suc (z + x)) (drop (suc i) G) ≡ rankAfter (i + 1 + 1) (z + x + 1) (drop (i + 1) G) =
             rw (add-one i, add-one (suc i), ← z1) refl in
             record {
-              whole = cap-more M sum X R n sum-is ∙ ap (λ m. min (sum + m) M) (sym step) ∙ s .whole;
+              rest = go (placesFrom links (i + 1) (below + y) (z + x + 1) (drop (i + 1) G)) (subst left step (s .rest));
               high = omega (arith, we ∙ ap (binomial (z + x)) o, above-head, tail-is);
-              fits = rw (add-one i) (omega (arith, s .fits, rest));
+              fits = rw (add-one i) (omega (arith, s .fits, whole));
               low = omega (arith, s .low, ye, binomial-small (z + x) (i + 1) (component-small x e));
               reach = omega arith;
             }
 
-      pub sums-end : (p n : ℕ) → k ≤ i → p ≡ min (partSum T (getD links k 0 + below) (k + 1) z x) M → n ≡
-          min (sum + p) M → n ≡ min (childrenOf T links G) M
-      unfolding childSum rankFrom
-      sums-end p n h pe ne =
+      -- the last component
+      pub coming-end : k ≤ i → left (partPlaces (getD links k 0 + below) (k + 1) z x ++ [])
+      unfolding placesFrom rankFrom
+      coming-end h =
           let q : i ≡ k = omega (arith, s .reach) in
           let len : length G ≤ suc i = omega arith in
           let none : drop (suc i) G ≡ [] = drop-of-length-le G len in
           let b0 : below + 0 ≡ below = omega arith in
-          let X : ℕ = partSum T (getD links k 0 + below) (k + 1) z x in
-          let step : childSum T links i below z (drop i G) ≡ X + 0 =
-          ap (childSum T links i below z) (shape ∙ ap (λ (l : List ℕ). x ∷ l) none) ∙ rw (b0, q, add-one k) refl in
-          let x0 : X + 0 ≡ X = omega arith in
-          ne ∙ ap (λ m. min (sum + m) M) pe ∙ cap-part M sum X ∙ ap (λ m. min (sum + m) M) (sym (step ∙ x0)) ∙ s .whole
+          let step : placesFrom links i below z (drop i G) ≡ partPlaces (getD links k 0 + below) (k + 1) z x ++ [] =
+          ap (placesFrom links i below z) (shape ∙ ap (λ (l : List ℕ). x ∷ l) none) ∙ rw (b0, q, add-one k) refl in
+          subst left step (s .rest)
+
+-- The sum over every next entry with the cap M: what is summed, and what is still to come.
+abbrev pub Summing : ℕ → List ℕ → List ℕ → List ℕ → ℕ → List ℕ → Type 0
+Summing M T links G sum l = min (sum + sumOf T l) M ≡ min (sumOf T (placesOf links G)) M

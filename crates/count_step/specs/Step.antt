@@ -2,7 +2,7 @@
 -- after the other leave. Definitions only.
 use Prim.Native.Nat.{ℕ, zero, suc, _+_, min}
 use mathlib.Core.List.{List, [], _∷_}
-use lib.ListN.{getD, set}
+use lib.ListN.{getD}
 use Rattle.cell.specs.Cell.{total}
 use Rattle.spacing.specs.Rank.{rankOf, nextOf}
 use Rattle.count_step.specs.Feed.{Feed, covered, alone, target, children, mapFeed, readsOf}
@@ -41,8 +41,8 @@ spacingsFrom zero g = []
 spacingsFrom (suc m) g = g ∷ spacingsFrom m (nextOf g)
 
 -- the table after a step at each of these spacings in turn, whose cells stand from `at` on in the
--- order of their ranks
-unfoldable pub storedAt : (List ℕ → List ℕ → ℕ) → ℕ → List (List ℕ) → List ℕ → List ℕ
+-- order of their ranks; `put` puts what a step gives into a cell
+unfoldable pub storedAt : {A : Type 0} → (List ℕ → ℕ → A → List ℕ) → (List ℕ → List ℕ → A) → ℕ → List (List ℕ) → List ℕ → List ℕ
 unfolding rankOf
-storedAt step at [] T = T
-storedAt step at (g ∷ gs) T = storedAt step at gs (set T (at + rankOf g) (step T g))
+storedAt put step at [] T = T
+storedAt put step at (g ∷ gs) T = storedAt put step at gs (put T (at + rankOf g) (step T g))

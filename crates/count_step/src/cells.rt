@@ -14,7 +14,7 @@ ghost use Rattle.word.specs.Ceilings.{PREFIX, LENGTH, COUNTS, COLUMNS};
 ghost use Rattle.cell.specs.Cell.{total};
 ghost use Rattle.spacing.specs.Pascal.{Pascal};
 ghost use Rattle.count_step.specs.Step.{capped};
-ghost use Rattle.count_step.specs.Sums.{partSum, childrenOf};
+ghost use Rattle.count_step.specs.Sums.{partPlaces, placesOf, sumOf};
 ghost use Rattle.count_step.specs.Task.{Near, TaskFits, TaskGaps, spacingIn, taskStep, REACH};
 
 // What the cells of one entry at one length share: the entry's length and the total of its
@@ -54,7 +54,7 @@ pub fn store(table: &mut [u64], i: usize, x: u64)
 // The sum of the cells at `at` + C(z, col) for the n values z from `first` on.
 fn part_sum(table: &[u64], at: usize, col: usize, first: usize, n: usize, b: &[usize]) -> u64
     requires { ⌜ (at ≤ REACH) × (col < COLUMNS) × (first + n ≤ COUNTS) × Pascal (now b) ⌝ }
-    ensures { λ r. ⌜ r ≡ capped (partSum (now (table .entry)) at col first n) ⌝ }
+    ensures { λ r. ⌜ r ≡ capped (sumOf (now (table .entry)) (partPlaces at col first n)) ⌝ }
 {
     let end = first + n;
     let mut sum: u64 = 0;
@@ -78,7 +78,7 @@ fn child_sum(
     b: &[usize],
 ) -> u64
     requires { ⌜ (k ≤ PREFIX) × (k + total (take (k + 1) g) ≤ LENGTH) × Near links × Pascal (now b) ⌝ }
-    ensures { λ r. ⌜ r ≡ capped (childrenOf (now (table .entry)) links (take (k + 1) g)) ⌝ }
+    ensures { λ r. ⌜ r ≡ capped (sumOf (now (table .entry)) (placesOf links (take (k + 1) g))) ⌝ }
 {
     let mut above = rank_after(g, k, 1, b);
     let mut below: usize = 0;

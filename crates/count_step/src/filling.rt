@@ -40,7 +40,7 @@ pub fn fill_one(
 pub fn fill_cells(table: &mut [u64], at: usize, size: usize, task: Task, gaps: &[u8], b: &[usize])
     requires { ⌜ TaskFits task × TaskGaps task (now gaps) ×
         (size ≡ binomial (task .length + task .total) (task .length)) × (at ≤ FAR) × Pascal (now b) ⌝ }
-    ensures { λ r. ⌜ now (table .exit) ≡ storedAt (taskStep task (now (gaps .entry))) at
+    ensures { λ r. ⌜ now (table .exit) ≡ storedAt set (taskStep task (now (gaps .entry))) at
         (spacingsFrom size (firstVector (task .length) (task .total))) (now (table .entry)) ⌝ }
 {
     let k = task.length;
@@ -55,7 +55,7 @@ pub fn fill_cells(table: &mut [u64], at: usize, size: usize, task: Task, gaps: &
 }
 
 // The same number, of at most LENGTH.
-fn narrow(x: usize) -> u8
+pub fn narrow(x: usize) -> u8
     requires { ⌜ x ≤ LENGTH ⌝ }
     ensures { λ r. ⌜ r ≡ x ⌝ }
 {

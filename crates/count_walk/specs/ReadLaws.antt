@@ -5,7 +5,7 @@ use native.Mathlib.Omega.{arith}
 use mathlib.Core.Path.{_≡_, refl, sym, ap, _∙_}
 use mathlib.Core.Bool.{Bool, true, false, cond}
 use mathlib.Core.List.{List, [], _∷_, map, map-map, List·Memᴰ, List·Memᴰ·head, List·Memᴰ·tail}
-use lib.ListN.{length, getD, set}
+use lib.ListN.{length, getD}
 use lib.Dec.{eqb}
 use borrow.Author.Tests.{eq-eqb, ne-eqb}
 use Rattle.word.specs.Ceilings.{LINKS}
@@ -31,12 +31,12 @@ use Rattle.count_plan.specs.Layout.{entryAt, prefixAt, lengthAt, placeAt, block
 use Rattle.count_plan.specs.LayoutLaws.{prefix-length, entry-proper, entry-short}
 use Rattle.count_plan.specs.Cards.{indexOf}
 use Rattle.count_plan.specs.Plan.{LeadsTo, Item, SameValues, RulePlan, Planned}
-use Rattle.count_walk.specs.Content.{single}
+use Rattle.count_walk.specs.Content.{Content, single}
 use Rattle.count_walk.specs.Cells.{cellsAt}
-use Rattle.count_walk.specs.Walk.{placeOf, stepAt, walked, countMakes}
+use Rattle.count_walk.specs.Walk.{placeOf, Makes, stepAt, walked, countMakes}
 
 -- a content of a content
-map-feed-map : {A B D : Type 0} (f : B → D) (h : A → B) (F : Feed A) → mapFeed f (mapFeed h F) ≡ mapFeed (λ x. f (h x)) F
+pub map-feed-map : {A B D : Type 0} (f : B → D) (h : A → B) (F : Feed A) → mapFeed f (mapFeed h F) ≡ mapFeed (λ x. f (h x)) F
 map-feed-map f h covered = refl
 map-feed-map f h alone = refl
 map-feed-map f h (target x) = refl
@@ -145,19 +145,24 @@ module _ (rows n : ℕ) (P : List (List ℕ)) (s : Scheme) (proper : Proper (sch
           go true q = q
           go false q = refl
 
-      -- the value with nothing after the prefix is asked for where the entry expands
-      adds-alone : (f : CellOf → ℕ) → addedUp (t .alone) (mapFeed f (feedOf (entryAt s e) g)) ≡
-          countMakes P (entryAt s e) g (mapFeed f (feedOf (entryAt s e) g))
+      -- what an entry has with nothing after the prefix is asked for where it expands, whatever is
+      -- made of it
+      pub made-alone : {A B : Type 0} (make : ℕ → Feed A → B) → ((x y : ℕ) → make x covered ≡ make y covered) →
+          ((x y : ℕ) (z : A) → make x (target z) ≡ make y (target z)) → (f : CellOf → A) →
+          make (t .alone) (mapFeed f (feedOf (entryAt s e) g)) ≡ make (cond (avoids P (prefixAt s e)) 1 0)
+          (mapFeed f (feedOf (entryAt s e) g))
       unfolding feedOf
-      adds-alone f = go (free ((entryAt s e) .gaps) g) ((entryAt s e) .rule) (planned .rule)
+      made-alone make none one f = go (free ((entryAt s e) .gaps) g) ((entryAt s e) .rule) (planned .rule)
         where
           go : (b : Bool) (rule : Does) → RulePlan n P s (prefixAt s e) rule t →
-              addedUp (t .alone) (mapFeed f (cond b (ruleFeed (prefixAt s e) g rule) covered)) ≡
-              addedUp (cond (avoids P (prefixAt s e)) 1 0) (mapFeed f (cond b (ruleFeed (prefixAt s e) g rule) covered))
-          go false rule plan = refl
-          go true expands (zero-is, alone-is, leads) =
-              ap (λ x. addedUp x (mapFeed f (ruleFeed (prefixAt s e) g expands))) alone-is
-          go true (deletes R) plan = refl
+              make (t .alone) (mapFeed f (cond b (ruleFeed (prefixAt s e) g rule) covered)) ≡
+              make (cond (avoids P (prefixAt s e)) 1 0) (mapFeed f (cond b (ruleFeed (prefixAt s e) g rule) covered))
+          go false rule plan = none (t .alone) (cond (avoids P (prefixAt s e)) 1 0)
+          go true expands (zero-is, alone-is, leads) = ap (λ x. make x (mapFeed f (ruleFeed (prefixAt s e) g expands))) alone-is
+          go true (deletes R) plan = one (t .alone) (cond (avoids P (prefixAt s e)) 1 0) (f (record {
+            prefix = deleted R (prefixAt s e);
+            spacing = merged R (prefixAt s e) g;
+          }))
 
       -- so the step is the walk's step at the cell
       pub step-is : (T : List ℕ) → stepOf T (t .gaps) (t .deleted) (t .values) (t .alone) (map (λ x. offset + x) (t .links)) g ≡
@@ -165,19 +170,19 @@ module _ (rows n : ℕ) (P : List (List ℕ)) (s : Scheme) (proper : Proper (sch
       step-is T =
           ap (λ (F : Feed ℕ). addedUp (t .alone) (mapFeed (held T) F)) step-reads ∙
           ap (addedUp (t .alone)) (map-feed-map (held T) (placeOf rows n s) (feedOf (entryAt s e) g)) ∙
-          adds-alone (λ f. held T (placeOf rows n s f))
+          made-alone addedUp (λ x y. refl) (λ x y z. refl) (λ f. held T (placeOf rows n s f))
 
-    -- steps at some spacings of the entry, in turn
-    pub stored-walked : (at : ℕ) → at ≡ blockOf rows n s j + placeAt n s e → (gs : List (List ℕ)) →
-        ((g : List ℕ) → List·Memᴰ g gs → HasCell n s j e g) → (T : List ℕ) →
-        storedAt (λ T g. stepOf T (t .gaps) (t .deleted) (t .values) (t .alone) (map (λ x. offset + x) (t .links)) g) at gs T ≡
-        walked single (countMakes P) rows n s (cellsAt j e gs) T
-    unfolding storedAt walked
-    stored-walked at is [] has T = refl
-    stored-walked at is (g ∷ gs) has T =
-        ap (storedAt (λ T g. stepOf T (t .gaps) (t .deleted) (t .values) (t .alone) (map (λ x. offset + x) (t .links)) g) at gs)
-        (ap (λ x. set T (at + rankOf g) x) (step-is g (has g (List·Memᴰ·head refl)) T) ∙
-        ap (λ m. set T (m + rankOf g) (stepAt single (countMakes P) rows n s (record { row = j; entry = e; spacing = g }) T)) is) ∙
-        stored-walked at is gs (λ h m. has h (List·Memᴰ·tail m))
-        (set T (blockOf rows n s j + placeAt n s e + rankOf g)
-        (stepAt single (countMakes P) rows n s (record { row = j; entry = e; spacing = g }) T))
+-- Steps at some spacings of the entry with index e in row j, in turn, whose cells stand from `at`
+-- on: where each is the walk's step at its cell, they are a part of the walk.
+pub stored-walked : {A : Type 0} (C : Content A) (make : Makes A) (rows n : ℕ) (s : Scheme) (j e : ℕ) (step : List ℕ → List ℕ → A) →
+    (at : ℕ) → at ≡ blockOf rows n s j + placeAt n s e → (gs : List (List ℕ)) →
+    ((g : List ℕ) → List·Memᴰ g gs → (T : List ℕ) → step T g ≡ stepAt C make rows n s (record { row = j; entry = e; spacing = g }) T) →
+    (T : List ℕ) → storedAt (C .put) step at gs T ≡ walked C make rows n s (cellsAt j e gs) T
+unfolding storedAt walked
+stored-walked C make rows n s j e step at is [] has T = refl
+stored-walked C make rows n s j e step at is (g ∷ gs) has T =
+    ap (storedAt (C .put) step at gs)
+    (ap (λ x. C .put T (at + rankOf g) x) (has g (List·Memᴰ·head refl) T) ∙
+    ap (λ m. C .put T (m + rankOf g) (stepAt C make rows n s (record { row = j; entry = e; spacing = g }) T)) is) ∙
+    stored-walked C make rows n s j e step at is gs (λ h m. has h (List·Memᴰ·tail m))
+    (C .put T (blockOf rows n s j + placeAt n s e + rankOf g) (stepAt C make rows n s (record { row = j; entry = e; spacing = g }) T))

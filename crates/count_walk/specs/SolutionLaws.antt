@@ -36,8 +36,8 @@ pub single-sound : Sound single
 single-sound =
     record {
       size = length-set;
-      same = λ T i x f h. getD-set-same T i x 0 (omega arith);
-      other = λ T i j x ne. getD-set-other T i j x 0 ne;
+      same = λ t T i x f h. getD-set-same T i x 0 (omega arith);
+      other = λ t T i j x ne. getD-set-other T i j x 0 ne;
       kept = λ T i x m o. getD-set-other T i m x 0 (apart i m o);
     }
   where
@@ -72,8 +72,9 @@ value-fed v P e g small = go (free (e .gaps) g) (e .rule) small
     go true expands h = summed (eqb (total g) 0) h
     go true (deletes R) h = refl
 
-pub solution-of : (v : List ℕ → List ℕ → ℕ) (P : List (List ℕ)) (s : Scheme) → Solves v P s → Solution single (countMakes P) s v
-solution-of v P s solved =
+pub solution-of : (v : List ℕ → List ℕ → ℕ) (P : List (List ℕ)) (n : ℕ) (s : Scheme) → n ≤ LENGTH → Solves v P s →
+    Solution single (countMakes P) n s v
+solution-of v P n s small solved =
     record {
       makes = λ d inside g wide low.
           let is = solved .solves d inside g (wide ∙ ap suc (sym (prefix-length s d))) in

@@ -5,7 +5,6 @@ use mathlib.Core.Path.{_≡_}
 use mathlib.Core.Bool.{cond}
 use mathlib.Core.List.{List, [], _∷_, List·Memᴰ}
 use lib.ListN.{length}
-use Rattle.word.specs.Ceilings.{LENGTH}
 use Rattle.word.specs.Word.{avoids}
 use Rattle.cell.specs.Cell.{total}
 use Rattle.forms.specs.SchemeList.{EntryList}
@@ -38,7 +37,8 @@ module _ {A : Type 0} (C : Content A) (make : Makes A) (rows n : ℕ) (s : Schem
   -- what a step puts into a cell: it is made from what stands in the cells that feed it
   abbrev pub stepAt : TableCell → List ℕ → A
   stepAt c T =
-      make (entryAt s (c .entry)) (c .spacing) (mapFeed (λ f. C .holds T (placeOf rows n s f)) (feedOf (entryAt s (c .entry)) (c .spacing)))
+      make (entryAt s (c .entry)) (c .spacing)
+      (mapFeed (λ f. C .holds (total (f .spacing)) T (placeOf rows n s f)) (feedOf (entryAt s (c .entry)) (c .spacing)))
 
   -- the table after one step
   abbrev pub stepped : TableCell → List ℕ → List ℕ
@@ -49,20 +49,20 @@ module _ {A : Type 0} (C : Content A) (make : Makes A) (rows n : ℕ) (s : Schem
   walked [] T = T
   walked (c ∷ cs) T = walked cs (stepped c T)
 
--- A function of prefixes and spacings solves a recursion: its value at each cell is made from its
--- values at the cells that feed it, and fits into a cell.
-pub record Solution {A : Type 0} (C : Content A) (make : Makes A) (s : Scheme) (v : List ℕ → List ℕ → A) : Type 0 where
-  pub makes : (d : ℕ) → d < s .count → (g : List ℕ) → length g ≡ suc (lengthAt s d) → lengthAt s d + total g ≤ LENGTH →
+-- A function of prefixes and spacings solves a recursion for the lengths up to n: its value at each
+-- cell is made from its values at the cells that feed it, and fits into a cell.
+pub record Solution {A : Type 0} (C : Content A) (make : Makes A) (n : ℕ) (s : Scheme) (v : List ℕ → List ℕ → A) : Type 0 where
+  pub makes : (d : ℕ) → d < s .count → (g : List ℕ) → length g ≡ suc (lengthAt s d) → lengthAt s d + total g ≤ n →
       v (prefixAt s d) g ≡ make (entryAt s d) g (mapFeed (λ f. v (f .prefix) (f .spacing)) (feedOf (entryAt s d) g))
-  pub fits : (d : ℕ) → d < s .count → (g : List ℕ) → length g ≡ suc (lengthAt s d) → lengthAt s d + total g ≤ LENGTH →
-      C .fits (v (prefixAt s d) g)
+  pub fits : (d : ℕ) → d < s .count → (g : List ℕ) → length g ≡ suc (lengthAt s d) → lengthAt s d + total g ≤ n →
+      C .fits (total g) (v (prefixAt s d) g)
 
 -- The cells that were filled, of the rows that are kept, have their values: those of every row less
 -- than `rows` before the last one that was begun.
 abbrev pub Hold : {A : Type 0} → Content A → ℕ → ℕ → Scheme → (List ℕ → List ℕ → A) → List TableCell → List ℕ → Type 0
 Hold C rows n s v cells T =
     (c : TableCell) → List·Memᴰ c cells → ((x : TableCell) → List·Memᴰ x cells → x .row < c .row + rows) →
-    C .holds T (placeIn rows n s c) ≡ v (prefixAt s (c .entry)) (c .spacing)
+    C .holds (total (c .spacing)) T (placeIn rows n s c) ≡ v (prefixAt s (c .entry)) (c .spacing)
 
 -- The value of a cell of counting: "gives 1 if p avoids all patterns, else 0" (01), or a sum
 abbrev pub countMakes : List (List ℕ) → Makes ℕ

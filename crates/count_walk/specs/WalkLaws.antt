@@ -7,7 +7,6 @@ use mathlib.Core.Logic.{_⊎_, inl, inr}
 use mathlib.Core.List.{List, [], _∷_, _++_, append-nil, append-assoc, List·Memᴰ, List·Memᴰ·head, List·Memᴰ·tail, List·Memᴰ·not-nil}
 use mathlib.Core.List.{List·Memᴰ·cases-cons, Memᴰ·append-left, Memᴰ·append-right, List·Memᴰ·append-cases, List·Memᴰ·eq-of-singleton}
 use lib.ListN.{length, getD}
-use Rattle.word.specs.Ceilings.{LENGTH}
 use Rattle.word.specs.ListLaws.{same-or-not}
 use Rattle.cell.specs.Cell.{total}
 use Rattle.forms.specs.SchemeMemory.{schemeIn}
@@ -51,7 +50,7 @@ module _ {A : Type 0} (C : Content A) (sound : Sound C) (make : Makes A) (rows n
             (cell-inside n s rows pos (c .row) (c .entry) (c .spacing) (has c (List·Memᴰ·head refl))),
       )))
 
-  module _ (v : List ℕ → List ℕ → A) (solves : Solution C make s v) (proper : Proper (schemeIn s)) (small : n ≤ LENGTH) (pos : 0 < rows)
+  module _ (v : List ℕ → List ℕ → A) (solves : Solution C make n s v) (proper : Proper (schemeIn s)) (pos : 0 < rows)
       (enough : rowsOf (schemeIn s) ≤ rows) where
     -- one cell more
     module _ (k : List TableCell) (c : TableCell) (l : List TableCell) (all : k ++ (c ∷ l) ≡ cellsOf s n) (T : List ℕ)
@@ -62,7 +61,7 @@ module _ {A : Type 0} (C : Content A) (sound : Sound C) (make : Makes A) (rows n
       has : HasCell n s (c .row) (c .entry) (c .spacing)
       has = among c (Memᴰ·append-right k (List·Memᴰ·head refl))
 
-      reach : lengthAt s (c .entry) + total (c .spacing) ≤ LENGTH
+      reach : lengthAt s (c .entry) + total (c .spacing) ≤ n
       reach = omega (arith, has .whole, has .low)
 
       before : (x : TableCell) → List·Memᴰ x k → x .row ≤ c .row
@@ -70,7 +69,7 @@ module _ {A : Type 0} (C : Content A) (sound : Sound C) (make : Makes A) (rows n
 
       -- what feeds the cell has been filled, and its row is kept
       agree : (f : CellOf) → List·Memᴰ f (fed (feedOf (entryAt s (c .entry)) (c .spacing))) →
-          C .holds T (placeOf rows n s f) ≡ v (f .prefix) (f .spacing)
+          C .holds (total (f .spacing)) T (placeOf rows n s f) ≡ v (f .prefix) (f .spacing)
       agree f m =
           hold x (filled (List·Memᴰ·append-cases k (subst (List·Memᴰ x) (sym all) (rows-in n s 0 (suc n) proper x (omega arith)
           (omega (arith, w .cell .low)) (w .cell))))) (λ y h. omega (arith, before y h, w .near, enough)) ∙
@@ -97,15 +96,16 @@ module _ {A : Type 0} (C : Content A) (sound : Sound C) (make : Makes A) (rows n
       pub step-value : stepAt C make rows n s c T ≡ v (prefixAt s (c .entry)) (c .spacing)
       step-value =
           ap (make (entryAt s (c .entry)) (c .spacing))
-          (map-feed-same (λ f. C .holds T (placeOf rows n s f)) (λ f. v (f .prefix) (f .spacing)) (feedOf (entryAt s (c .entry))
+          (map-feed-same (λ f. C .holds (total (f .spacing)) T (placeOf rows n s f)) (λ f. v (f .prefix) (f .spacing))
+          (feedOf (entryAt s (c .entry))
           (c .spacing))
           agree) ∙
           sym (solves .makes (c .entry) (has .inside) (c .spacing) (has .wide) reach)
 
-      fresh : C .holds (stepped C make rows n s c T) (placeIn rows n s c) ≡ v (prefixAt s (c .entry)) (c .spacing)
+      fresh : C .holds (total (c .spacing)) (stepped C make rows n s c T) (placeIn rows n s c) ≡ v (prefixAt s (c .entry)) (c .spacing)
       fresh =
-          sound .same T (placeIn rows n s c) (stepAt C make rows n s c T)
-          (subst (C .fits) (sym step-value) (solves .fits (c .entry) (has .inside) (c .spacing) (has .wide) reach))
+          sound .same (total (c .spacing)) T (placeIn rows n s c) (stepAt C make rows n s c T)
+          (subst (C .fits (total (c .spacing))) (sym step-value) (solves .fits (c .entry) (has .inside) (c .spacing) (has .wide) reach))
           (omega (
             arith,
             room,
@@ -116,22 +116,23 @@ module _ {A : Type 0} (C : Content A) (sound : Sound C) (make : Makes A) (rows n
       pub hold-step : Hold C rows n s v (k ++ (c ∷ [])) (stepped C make rows n s c T)
       hold-step x m kept = go (List·Memᴰ·append-cases k m)
         where
-          at-cell : x ≡ c → C .holds (stepped C make rows n s c T) (placeIn rows n s x) ≡ v (prefixAt s (x .entry)) (x .spacing)
-          at-cell e = subst (λ (y : TableCell). C .holds (stepped C make rows n s c T) (placeIn rows n s y) ≡
+          at-cell : x ≡ c → C .holds (total (x .spacing)) (stepped C make rows n s c T) (placeIn rows n s x) ≡
+              v (prefixAt s (x .entry)) (x .spacing)
+          at-cell e = subst (λ (y : TableCell). C .holds (total (y .spacing)) (stepped C make rows n s c T) (placeIn rows n s y) ≡
               v (prefixAt s (y .entry)) (y .spacing)) (sym e) fresh
 
           other : List·Memᴰ x k → (placeIn rows n s x ≡ placeIn rows n s c) ⊎ (placeIn rows n s x ≡ placeIn rows n s c → ⊥) →
-              C .holds (stepped C make rows n s c T) (placeIn rows n s x) ≡ v (prefixAt s (x .entry)) (x .spacing)
+              C .holds (total (x .spacing)) (stepped C make rows n s c T) (placeIn rows n s x) ≡ v (prefixAt s (x .entry)) (x .spacing)
           other h (inl q) =
               let (a, b, d) = cells-apart n s rows pos (x .row) (c .row) (x .entry) (c .entry) (x .spacing) (c .spacing)
               (among x (Memᴰ·append-left (c ∷ l) h)) has (before x h) (kept c (Memᴰ·append-right k (List·Memᴰ·head refl))) q in
-              ap (C .holds (stepped C make rows n s c T)) q ∙ fresh ∙ ap₂ v (ap (prefixAt s) (sym b)) (sym d)
+              ap₂ (λ (t i : ℕ). C .holds t (stepped C make rows n s c T) i) (ap total d) q ∙ fresh ∙ ap₂ v (ap (prefixAt s) (sym b)) (sym d)
           other h (inr ne) =
-              sound .other T (placeIn rows n s c) (placeIn rows n s x) (stepAt C make rows n s c T) ne ∙
+              sound .other (total (x .spacing)) T (placeIn rows n s c) (placeIn rows n s x) (stepAt C make rows n s c T) ne ∙
               hold x h (λ y g. kept y (Memᴰ·append-left (c ∷ []) g))
 
           go : List·Memᴰ x k ⊎ List·Memᴰ x (c ∷ []) →
-              C .holds (stepped C make rows n s c T) (placeIn rows n s x) ≡ v (prefixAt s (x .entry)) (x .spacing)
+              C .holds (total (x .spacing)) (stepped C make rows n s c T) (placeIn rows n s x) ≡ v (prefixAt s (x .entry)) (x .spacing)
           go (inl h) = other h (same-or-not (placeIn rows n s x) (placeIn rows n s c))
           go (inr h) = at-cell (List·Memᴰ·eq-of-singleton h)
 
@@ -156,14 +157,14 @@ module _ {A : Type 0} (C : Content A) (sound : Sound C) (make : Makes A) (rows n
     pub fed-value : (k : List TableCell) (c : TableCell) (l : List TableCell) → k ++ (c ∷ l) ≡ cellsOf s n → (T : List ℕ) →
         numberAt (C .numbers) (rows * widthOf n s) ≤ length T →
         (f : CellOf) → List·Memᴰ f (fed (feedOf (entryAt s (c .entry)) (c .spacing))) →
-        C .holds (walked C make rows n s k T) (placeOf rows n s f) ≡ v (f .prefix) (f .spacing)
+        C .holds (total (f .spacing)) (walked C make rows n s k T) (placeOf rows n s f) ≡ v (f .prefix) (f .spacing)
     fed-value k c l all T room =
         agree k c l all (walked C make rows n s k T) (omega (arith, room, walked-size k T)) (walk-holds k (c ∷ l) all T room)
 
     -- after the rows up to j, every row less than `rows` back is there
     pub row-value : (j : ℕ) → j ≤ n → (T : List ℕ) → numberAt (C .numbers) (rows * widthOf n s) ≤ length T →
         (i d : ℕ) (g : List ℕ) → HasCell n s i d g → i ≤ j → j < i + rows →
-        C .holds (walked C make rows n s (cellsOf s j) T) (cellAt rows n s i d g) ≡ v (prefixAt s d) g
+        C .holds (total g) (walked C make rows n s (cellsOf s j) T) (cellAt rows n s i d g) ≡ v (prefixAt s d) g
     row-value j low T room i d g c here kept =
         walk-holds (cellsOf s j) (rowsFrom s (suc j) (n - j)) (rows-cut s j (n - j) ∙ ap (λ m. rowsFrom s 0 (suc m)) whole) T room
         (record { row = i; entry = d; spacing = g })

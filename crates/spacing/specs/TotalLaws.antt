@@ -18,9 +18,8 @@ row-cut a (suc n) m =
     let f : a + suc n ≡ suc a + n = omega arith in
     rw (e, f) (ap (λ (l : List ℕ). a ∷ l) (row-cut (suc a) n m))
 
-pub total-shift : (f : ℕ → ℕ) (d a n : ℕ) → total (map f (row (d + a) n)) ≡ total (map (λ q. f (d + q)) (row a n))
-unfolding total
-total-shift f d a zero = refl
-total-shift f d a (suc n) =
+pub row-moved : (f : ℕ → ℕ) (d a n : ℕ) → map f (row (d + a) n) ≡ map (λ q. f (d + q)) (row a n)
+row-moved f d a zero = refl
+row-moved f d a (suc n) =
     let e : suc (d + a) ≡ d + suc a = omega arith in
-    ap (λ m. f (d + a) + m) (ap (λ b. total (map f (row b n))) e ∙ total-shift f d (suc a) n)
+    ap (λ (l : List ℕ). f (d + a) ∷ l) (ap (λ b. map f (row b n)) e ∙ row-moved f d (suc a) n)

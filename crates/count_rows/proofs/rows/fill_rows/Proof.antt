@@ -6,9 +6,13 @@ use Prim.Native.Nat.{_+_, _-_, _≤_}
 use mathlib.Core.Path.{_≡_, refl, _∙_}
 use lib.ListN.{length}
 use Rattle.count_walk.specs.Cells.{rowsFrom}
-use Rattle.count_walk.specs.Walk.{countWalked}
+use Rattle.forms.specs.SchemeMemory.{schemeIn}
+use Rattle.count_plan.specs.Layout.{rowsOf}
+use Rattle.count_walk.specs.Content.{single}
+use Rattle.count_walk.specs.SolutionLaws.{single-sound}
+use Rattle.count_walk.specs.Walk.{countMakes, countWalked}
 use Rattle.count_entry.specs.Frames.{Framed}
-use Rattle.count_rows.proofs.RowLaws.{rows-none, rows-more, rows-end}
+use Rattle.count_cursor.specs.RowLaws.{rows-none, rows-more, rows-end}
 use borrow.Author.Needs.{needs}
 use Rattle.count_rows.proofs.rows.fill_rows.Statement.{statement}
 use Rattle.count_rows.proofs.rows.fill_rows.Tie as tie
@@ -23,8 +27,12 @@ abbrev μ-loop : tie.MeasureT-loop
 
 loop-holds : tie.Need-loop-holds Inv-loop μ-loop
 loop-holds c =
-    let a = c .before .before .before .before .args in
-    (refl, omega arith, λ o. rows-none (o .of .P) (a .f .last) (o .of .s) (now (a .table)))
+    let a = c .before .before .before .before .args in (
+      refl,
+      omega arith,
+      λ o. rows-none single single-sound (countMakes (o .of .P)) (rowsOf (schemeIn (o .of .s))) (a .f .last)
+          (o .of .s) (now (a .table)),
+    )
 
 fill-row-requires : tie.Need-fill-row-requires Inv-loop μ-loop
 fill-row-requires c κs =
@@ -44,7 +52,8 @@ loop-again c =
     let len : length (c .before .before .fill-row .last .0) ≡ length (l .table) = search needs in (
       len ∙ l .inv .0,
       omega arith,
-      λ o. rows-more (o .of .P) (a .f .last) (o .of .s) (l .i) (now (a .table)) (l .table) (c .before .before .fill-row .last .0)
+      λ o. rows-more single single-sound (countMakes (o .of .P)) (rowsOf (schemeIn (o .of .s))) (a .f .last) (o .of .s) (l .i)
+          (now (a .table)) (l .table) (c .before .before .fill-row .last .0)
           (l .inv .2 o)
           (c .before .before .fill-row .ensures o),
     )
@@ -56,7 +65,8 @@ returns : tie.Need-returns Inv-loop μ-loop
 returns c =
     let a = c .before .before .before .before .before .before .args in
     let l = c .before .loop in
-    λ o. rows-end (o .of .P) (a .f .last) (o .of .s) (l .i) (a .j) (now (a .table)) (l .table) (omega arith) (l .inv .2 o)
+    λ o. rows-end single single-sound (countMakes (o .of .P)) (rowsOf (schemeIn (o .of .s))) (a .f .last) (o .of .s) (l .i) (a .j)
+    (now (a .table)) (l .table) (omega arith) (l .inv .2 o)
 
 pub fill-rows-spec : {M : Type 1} → statement M
 fill-rows-spec =

@@ -7,13 +7,18 @@ use Prim.Native.Nat.{_+_, _-_, _*_, _≤_}
 use mathlib.Core.Path.{_≡_, refl, ap, ap₂, _∙_, subst}
 use lib.ListN.{length}
 use Rattle.count_walk.specs.Cells.{rowsFrom}
-use Rattle.count_walk.specs.Walk.{countWalked}
+use Rattle.forms.specs.SchemeMemory.{schemeIn}
+use Rattle.count_plan.specs.Layout.{rowsOf}
+use Rattle.count_walk.specs.Content.{single}
+use Rattle.count_walk.specs.SolutionLaws.{single-sound}
+use Rattle.count_walk.specs.Walk.{countMakes, countWalked}
 use Rattle.count_entry.specs.Frames.{Framed}
 use Rattle.count_rows.specs.Rows.{RootGiven}
 use Rattle.count_rows.specs.Run.{cleared, ValuesTo}
 use Rattle.count_rows.specs.RunLaws.{values-start, values-more, walked-cleared}
 use Rattle.count_entry.proofs.FrameLaws.{framed-fits}
-use Rattle.count_rows.proofs.RowLaws.{rows-none, rows-more, rows-end, root-has, root-read}
+use Rattle.count_cursor.specs.RowLaws.{rows-none, rows-more, rows-end}
+use Rattle.count_rows.proofs.RowLaws.{root-has, root-read}
 use borrow.Author.Needs.{needs}
 use Rattle.count_rows.proofs.run.all_values.Statement.{statement}
 use Rattle.count_rows.proofs.run.all_values.Tie as tie
@@ -32,7 +37,7 @@ loop-holds c =
     let a = c .before .before .before .before .args in (
       refl,
       omega arith,
-      λ o. rows-none (o .of .P) (a .f .last) (o .of .s) (now (a .table)),
+      λ o. rows-none single single-sound (countMakes (o .of .P)) (rowsOf (schemeIn (o .of .s))) (a .f .last) (o .of .s) (now (a .table)),
       λ o. values-start (o .framed .of .P) (a .f .last) (o .framed .of .s) (a .root) (now (a .table)),
     )
 
@@ -88,11 +93,14 @@ loop-again c =
     let low : l .j ≤ a .f .last = omega arith in (
       len ∙ l .inv .0,
       omega arith,
-      λ o. rows-more (o .of .P) (a .f .last) (o .of .s) (l .j) (now (a .table)) (l .table) U (l .inv .2 o)
+      λ o. rows-more single single-sound (countMakes (o .of .P)) (rowsOf (schemeIn (o .of .s))) (a .f .last) (o .of .s) (l .j)
+          (now (a .table)) (l .table) U (l .inv .2 o)
           (c .before .before .before .before .before .fill-row .ensures o),
       λ o.
-          let filled = rows-end (o .framed .of .P) (a .f .last) (o .framed .of .s) (l .j + 1) (l .j) (now (a .table)) U refl
-          (rows-more (o .framed .of .P) (a .f .last) (o .framed .of .s) (l .j) (now (a .table)) (l .table) U (l .inv .2 (o .framed))
+          let filled = rows-end single single-sound (countMakes (o .framed .of .P)) (rowsOf (schemeIn (o .framed .of .s))) (a .f .last)
+          (o .framed .of .s) (l .j + 1) (l .j) (now (a .table)) U refl
+          (rows-more single single-sound (countMakes (o .framed .of .P)) (rowsOf (schemeIn (o .framed .of .s))) (a .f .last)
+          (o .framed .of .s) (l .j) (now (a .table)) (l .table) U (l .inv .2 (o .framed))
           (c .before .before .before .before .before .fill-row .ensures (o .framed))) in
           values-more (o .framed .of .P) (a .f .last) (o .framed .of .s) (a .root) (now (a .table)) (l .j) (c .value-in .result) (l .counts)
           (omega (arith, o .framed .small))
@@ -133,9 +141,10 @@ returns c =
           (end ∙ add-one (a .f .last)) (l .inv .3 q),
       c .before .before .clear .ensures ∙ ap (λ m. cleared m (l .table)) (c .before .before .before .need .ensures) ∙
           ap (cleared (a .f .rows * a .f .width))
-          (rows-end (o .of .P) (a .f .last) (o .of .s) (l .j) (a .f .last) (now (a .table)) (l .table) end (l .inv .2 o)) ∙
-          walked-cleared (o .of .P) (a .f .last) (o .of .s) (a .f .last) (a .f .rows * a .f .width) (now (a .table)) (omega arith)
-          (ap₂ _*_ (o .rows-are) (o .width-is)),
+          (rows-end single single-sound (countMakes (o .of .P)) (rowsOf (schemeIn (o .of .s))) (a .f .last) (o .of .s) (l .j)
+          (a .f .last) (now (a .table)) (l .table) end (l .inv .2 o)) ∙
+          walked-cleared single single-sound (countMakes (o .of .P)) (rowsOf (schemeIn (o .of .s))) (a .f .last) (o .of .s) (a .f .last)
+          (a .f .rows * a .f .width) (now (a .table)) (omega arith) (omega arith) (omega (arith, ap₂ _*_ (o .rows-are) (o .width-is))),
     )
 
 pub all-values-spec : {M : Type 1} → statement M

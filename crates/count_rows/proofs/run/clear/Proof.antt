@@ -3,9 +3,9 @@
 use borrow.Author.Needs.{needs}
 use native.Mathlib.Omega.{arith}
 use denote.Ref.{now}
-use Prim.Native.Nat.{ℕ, _-_, _≤_}
+use Prim.Native.Nat.{ℕ, _-_, _≤_, _<_}
 use mathlib.Core.Path.{_≡_, ap, _∙_}
-use lib.ListN.{length}
+use lib.ListN.{length, length-set}
 use Rattle.count_rows.specs.Run.{cleared}
 use Rattle.count_rows.specs.RunLaws.{cleared-more}
 use Rattle.count_rows.proofs.run.clear.Statement.{statement}
@@ -17,23 +17,23 @@ Inv-loop table₀ m i₀ table i = (length table ≡ length table₀) × (i ≤ 
 abbrev μ-loop : tie.MeasureT-loop
 μ-loop table₀ m i₀ table i = m - i
 
+-- the cell of a turn is there
+inside : (c : tie.In-loop Inv-loop μ-loop) → c .before .loop .i < length (c .before .loop .table)
+inside c = let start = c .before .before in omega (arith, start .pre, c .before .loop .inv .0)
+
 loop-again : tie.Need-loop-again Inv-loop μ-loop
 loop-again c =
-    let at-store = c .before .before in
-    let start = at-store .before .before .before .before .before in
+    let start = c .before .before in
     let a = start .args in
-    let l = at-store .before .before .before .loop in
-    let len : length (at-store .store .last .0) ≡ length (l .table) = search needs in (
-      len ∙ l .inv .0,
+    let l = c .before .loop in (
+      length-set (l .table) (l .i) 0 ∙ l .inv .0,
       omega arith,
-      at-store .store .ensures ∙ cleared-more (l .i) (now (a .table)) (l .table) (omega (arith, start .pre))
-          (l .inv .2),
+      cleared-more (l .i) (now (a .table)) (l .table) (omega (arith, start .pre)) (l .inv .2),
     )
 
 returns : tie.Need-returns Inv-loop μ-loop
 returns c =
-    let start = c .before .before .before in
-    let a = start .args in
+    let a = c .before .before .args in
     let l = c .before .loop in
     let e : l .i ≡ a .m = omega arith in
     l .inv .2 ∙ ap (λ (m : ℕ). cleared m (now (a .table))) e
@@ -45,7 +45,8 @@ clear-spec =
     Inv-loop
     μ-loop
     (λ c. search needs)
-    (λ c κs. search needs)
+    (λ c. omega (arith, inside c))
+    (λ c. omega (arith, inside c))
     (λ c. search needs)
     (λ c. search needs)
     loop-again

@@ -4,6 +4,11 @@ use denote.Ref.{now}
 use native.Mathlib.Omega.{arith}
 use Prim.Native.Nat.{_*_}
 use mathlib.Core.Path.{ap, ap₂, _∙_}
+use Rattle.forms.specs.SchemeMemory.{schemeIn}
+use Rattle.count_plan.specs.Layout.{rowsOf}
+use Rattle.count_walk.specs.Content.{single}
+use Rattle.count_walk.specs.SolutionLaws.{single-sound}
+use Rattle.count_walk.specs.Walk.{countMakes}
 use Rattle.count_rows.specs.Run.{cleared}
 use Rattle.count_rows.specs.RunLaws.{walked-cleared}
 use Rattle.count_entry.proofs.FrameLaws.{framed-fits}
@@ -54,8 +59,8 @@ returns c =
           })),
       c .before .before .clear .ensures ∙ ap (λ m. cleared m (filled .last .0)) (at-need .need .ensures) ∙
           ap (cleared (a .f .rows * a .f .width)) (filled .ensures o) ∙
-          walked-cleared (o .of .P) (a .f .last) (o .of .s) (a .f .last) (a .f .rows * a .f .width) (now (a .table)) (omega arith)
-          (ap₂ _*_ (o .rows-are) (o .width-is)),
+          walked-cleared single single-sound (countMakes (o .of .P)) (rowsOf (schemeIn (o .of .s))) (a .f .last) (o .of .s) (a .f .last)
+          (a .f .rows * a .f .width) (now (a .table)) (omega arith) (omega arith) (omega (arith, ap₂ _*_ (o .rows-are) (o .width-is))),
     )
 
 pub last-value-spec : {M : Type 1} → statement M

@@ -3,21 +3,26 @@
 use borrow.Author.Needs.{needs}
 use native.Mathlib.Omega.{arith}
 use denote.Ref.{now}
-use Prim.Native.Nat.{ℕ, _+_, _*_, _-_, _≤_}
-use mathlib.Core.Path.{_≡_, sym, ap, _∙_}
-use mathlib.Core.List.{List}
+use native.Mathlib.Nat.{zero-add}
+use Prim.Native.Nat.{ℕ, _+_, _*_, _-_, min, _≤_}
+use mathlib.Core.Path.{_≡_, refl, sym, ap, _∙_}
+use mathlib.Core.List.{List, []}
 use lib.ListN.{length, getD, take}
 use lib.Seq.{length-take-le, getD-take}
 use Rattle.word.specs.Ceilings.{COMPONENTS, LENGTH}
-use Rattle.count_step.proofs.SumLaws.{Sums, sums-start, above-small, component-small, above-enough, sums-more, sums-end}
+use Rattle.count_step.proofs.SumLaws.{cap-cells, cap-end, Coming, Summing}
+use Rattle.count_step.proofs.SumLaws.{coming-start, above-small, component-small, above-enough, coming-more, coming-end}
+use Rattle.cell.specs.Cell.{total}
 use Rattle.count_step.specs.Step.{LARGEST}
+use Rattle.count_step.specs.Sums.{partPlaces, placesOf, sumOf}
 use Rattle.spacing.specs.PascalLaws.{binomial-small}
 use Rattle.spacing.specs.Sizes.{CHOICES, RANKS}
 use Rattle.count_step.proofs.cells.child_sum.Statement.{statement}
 use Rattle.count_step.proofs.cells.child_sum.Tie as tie
 
 abbrev Inv-loop : tie.InvT-loop
-Inv-loop table k b links g above₀ below₀ z₀ sum₀ i₀ above below z sum i = Sums LARGEST table links (take (k + 1) g) k above below z sum i
+Inv-loop table k b links g above₀ below₀ z₀ sum₀ i₀ above below z sum i =
+    Coming (Summing LARGEST table links (take (k + 1) g) sum) links (take (k + 1) g) k above below z i
 
 abbrev μ-loop : tie.MeasureT-loop
 μ-loop table k b links g above₀ below₀ z₀ sum₀ i₀ above below z sum i = k - i
@@ -29,8 +34,17 @@ Loop = tie.At-loop Inv-loop μ-loop
 abbrev first : Loop → tie.Start Inv-loop μ-loop
 first o = o .before .before .before .before
 
+-- nothing is left to be added
+none : (sum : ℕ) (T : List ℕ) → min (sum + 0) LARGEST ≡ min (sum + sumOf T []) LARGEST
+unfolding total
+none sum T = refl
+
 abbrev spacing : tie.Start Inv-loop μ-loop → List ℕ
 spacing start = take (start .args .k + 1) (start .args .t3)
+
+-- what is kept of the cells that are left
+abbrev left : Loop → List ℕ → Type 0
+left o = Summing LARGEST (now (first o .args .table)) (first o .args .t2) (spacing (first o)) (o .loop .sum)
 
 seven-components : (start : tie.Start Inv-loop μ-loop) → length (start .args .t3) ≡ COMPONENTS
 seven-components start = (let o = start .good in search needs)
@@ -44,8 +58,7 @@ above-fits : (o : Loop) → o .loop .above ≤ RANKS + first o .args .k * CHOICE
 above-fits o =
     let a = first o .args in
     let l = o .loop in
-    above-small LARGEST (now (a .table)) (a .t2) (spacing (first o)) (a .k) (spacing-size (first o)) (l .above)
-    (l .below) (l .z) (l .sum) (l .i) (l .inv)
+    above-small (a .t2) (spacing (first o)) (a .k) (spacing-size (first o)) (left o) (l .above) (l .below) (l .z) (l .i) (l .inv)
 
 -- the component that a turn looks at
 component : (o : tie.After-wide Inv-loop μ-loop) →
@@ -61,8 +74,8 @@ component-fits o =
     let at-loop = o .before .before in
     let a = first at-loop .args in
     let l = at-loop .loop in
-    component-small LARGEST (now (a .table)) (a .t2) (spacing (first at-loop)) (a .k) (spacing-size (first at-loop))
-    (l .above) (l .below) (l .z) (l .sum) (l .i) (l .inv) (o .wide .result) (component o)
+    component-small (a .t2) (spacing (first at-loop)) (a .k) (spacing-size (first at-loop)) (left at-loop)
+    (l .above) (l .below) (l .z) (l .i) (l .inv) (o .wide .result) (component o)
 
 -- the last component, behind the loop
 last : (o : tie.After-wide2 Inv-loop μ-loop) →
@@ -79,8 +92,9 @@ loop-holds : tie.Need-loop-holds Inv-loop μ-loop
 loop-holds c =
     let start = c .before .before .before in
     let a = start .args in
-    sums-start LARGEST (now (a .table)) (a .t2) (spacing start) (a .k) (spacing-size start) (c .rank-after .result)
-    (c .rank-after .ensures .0) (start .pre .1)
+    coming-start (a .t2) (spacing start) (a .k) (spacing-size start) (Summing LARGEST (now (a .table)) (a .t2) (spacing start) 0)
+    (c .rank-after .result) (c .rank-after .ensures .0) (start .pre .1)
+    (ap (λ m. min m LARGEST) (zero-add (sumOf (now (a .table)) (placesOf (a .t2) (spacing start)))))
 
 add-part-sum : tie.Need-add-part-sum Inv-loop μ-loop
 add-part-sum c =
@@ -128,8 +142,8 @@ sub-above c =
     let o = at-wide .before .before in
     let a = first o .args in
     let l = o .loop in
-    above-enough LARGEST (now (a .table)) (a .t2) (spacing (first o)) (a .k) (spacing-size (first o)) (l .above)
-    (l .below) (l .z) (l .sum) (l .i) (l .inv) (at-wide .wide .result) (component at-wide) (omega arith)
+    above-enough (a .t2) (spacing (first o)) (a .k) (spacing-size (first o)) (left o) (l .above)
+    (l .below) (l .z) (l .i) (l .inv) (at-wide .wide .result) (component at-wide) (omega arith)
     (c .choose2 .result) (c .choose2 .ensures)
 
 add-z-2 : tie.Need-add-z-2 Inv-loop μ-loop
@@ -143,10 +157,13 @@ loop-again c =
     let o = at-wide .before .before in
     let a = first o .args in
     let l = o .loop in
-    sums-more LARGEST (now (a .table)) (a .t2) (spacing (first o)) (a .k) (spacing-size (first o)) (l .above)
-    (l .below) (l .z) (l .sum) (l .i) (l .inv) (at-wide .wide .result) (component at-wide) (omega arith)
-    (at-part-sum .part-sum .result) (at-capped-sum .capped-sum .result) (c .before .choose .result)
-    (c .choose2 .result) (at-part-sum .part-sum .ensures) (at-capped-sum .capped-sum .ensures)
+    coming-more (a .t2) (spacing (first o)) (a .k) (spacing-size (first o)) (left o) (l .above)
+    (l .below) (l .z) (l .i) (l .inv) (at-wide .wide .result) (component at-wide) (omega arith)
+    (Summing LARGEST (now (a .table)) (a .t2) (spacing (first o)) (at-capped-sum .capped-sum .result)) (c .before .choose .result)
+    (c .choose2 .result)
+    (λ r h. cap-cells LARGEST (now (a .table)) (l .sum) (at-part-sum .part-sum .result) (at-capped-sum .capped-sum .result)
+    (partPlaces (getD (a .t2) (l .i) 0 + (l .below + l .above)) (l .i + 1) (l .z) (at-wide .wide .result)) r
+    (at-part-sum .part-sum .ensures) (at-capped-sum .capped-sum .ensures) ∙ h)
     (c .before .choose .ensures) (c .choose2 .ensures)
 
 add-part-sum-4 : tie.Need-add-part-sum-4 Inv-loop μ-loop
@@ -159,8 +176,8 @@ part-sum-requires-2 c κs =
     let o = c .before .before in
     let a = first o .args in
     let l = o .loop in
-    let fits = component-small LARGEST (now (a .table)) (a .t2) (spacing (first o)) (a .k) (spacing-size (first o))
-    (l .above) (l .below) (l .z) (l .sum) (l .i) (l .inv) (c .wide2 .result) (last c) in (
+    let fits = component-small (a .t2) (spacing (first o)) (a .k) (spacing-size (first o)) (left o)
+    (l .above) (l .below) (l .z) (l .i) (l .inv) (c .wide2 .result) (last c) in (
       omega (arith, first o .pre .0, l .inv .low, l .inv .reach, first o .pre .2 (a .k)),
       omega arith,
       omega (arith, fits),
@@ -174,9 +191,14 @@ returns c =
     let o = at-wide2 .before .before in
     let a = first o .args in
     let l = o .loop in
-    sums-end LARGEST (now (a .table)) (a .t2) (spacing (first o)) (a .k) (spacing-size (first o)) (l .above) (l .below)
-    (l .z) (l .sum) (l .i) (l .inv) (at-wide2 .wide2 .result) (last at-wide2) (at-part-sum2 .part-sum2 .result)
-    (c .capped-sum2 .result) (omega arith) (at-part-sum2 .part-sum2 .ensures) (c .capped-sum2 .ensures)
+    let here = partPlaces (getD (a .t2) (a .k) 0 + l .below) (a .k + 1) (l .z) (at-wide2 .wide2 .result) in
+    let most : c .capped-sum2 .result ≤ LARGEST = omega (arith, c .capped-sum2 .ensures) in
+    cap-end LARGEST (c .capped-sum2 .result) (sumOf (now (a .table)) (placesOf (a .t2) (spacing (first o)))) most
+    (none (c .capped-sum2 .result) (now (a .table)) ∙
+    cap-cells LARGEST (now (a .table)) (l .sum) (at-part-sum2 .part-sum2 .result) (c .capped-sum2 .result) here []
+    (at-part-sum2 .part-sum2 .ensures) (c .capped-sum2 .ensures) ∙
+    coming-end (a .t2) (spacing (first o)) (a .k) (spacing-size (first o)) (left o) (l .above) (l .below) (l .z) (l .i) (l .inv)
+    (at-wide2 .wide2 .result) (last at-wide2) (omega arith))
 
 pub child-sum-spec : {M : Type 1} → statement M
 child-sum-spec =

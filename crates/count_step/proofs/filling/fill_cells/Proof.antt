@@ -5,7 +5,7 @@ use native.Mathlib.Omega.{arith}
 use denote.Ref.{now}
 use Prim.Native.Nat.{_+_, _-_}
 use mathlib.Core.Path.{_≡_, ap, _∙_}
-use lib.ListN.{length}
+use lib.ListN.{length, set, length-set}
 use Rattle.word.specs.Ceilings.{COMPONENTS}
 use Rattle.spacing.specs.Following.{firstVector}
 use Rattle.spacing.specs.PascalLaws.{binomial-small}
@@ -16,7 +16,7 @@ use Rattle.count_step.proofs.filling.fill_cells.Tie as tie
 
 abbrev Inv-loop : tie.InvT-loop
 Inv-loop table₀ at size task gaps b k next₀ p₀ table next p =
-    Filling (taskStep task gaps) (task .length) (task .total) at size p table₀ table (spacingIn (task .length) next) ×
+    Filling set (taskStep task gaps) (task .length) (task .total) at size p table₀ table (spacingIn (task .length) next) ×
     (length next ≡ COMPONENTS)
 
 abbrev μ-loop : tie.MeasureT-loop
@@ -28,7 +28,7 @@ loop-holds c =
     let a = start .args in
     let t = a .task in
     let seven : length (c .first-spacing .result) ≡ COMPONENTS = search needs in (
-      filling-start (taskStep t (now (a .gaps))) (t .length) (t .total) (a .at) (a .size) (start .pre .2)
+      filling-start set length-set (taskStep t (now (a .gaps))) (t .length) (t .total) (a .at) (a .size) (start .pre .2)
           (now (a .table)) (spacingIn (t .length) (c .first-spacing .result))
           (c .first-spacing .ensures ∙ ap (firstVector (t .length)) (c .before .narrow .ensures)),
       seven,
@@ -64,7 +64,8 @@ loop-again c =
     let l = at-loop .loop in
     let next = at-next-cell .next-cell in
     let seven : length (next .last .0) ≡ length (l .next) = search needs in (
-      filling-more (taskStep t (now (a .gaps))) (t .length) (t .total) (a .at) (a .size) (start .pre .2) (now (a .table)) (l .p) (l .table)
+      filling-more set length-set (taskStep t (now (a .gaps))) (t .length) (t .total) (a .at) (a .size) (start .pre .2) (now (a .table))
+          (l .p) (l .table)
           (spacingIn (t .length) (l .next)) (l .inv .0) (omega arith) (filled .last .0) (spacingIn (t .length) (next .last .0))
           (filled .ensures) (next .ensures),
       seven ∙ l .inv .1,
@@ -79,7 +80,8 @@ returns c =
     let a = start .args in
     let t = a .task in
     let l = c .before .loop in
-    filling-end (taskStep t (now (a .gaps))) (t .length) (t .total) (a .at) (a .size) (start .pre .2) (now (a .table)) (l .p) (l .table)
+    filling-end set length-set (taskStep t (now (a .gaps))) (t .length) (t .total) (a .at) (a .size) (start .pre .2) (now (a .table))
+    (l .p) (l .table)
     (spacingIn (t .length) (l .next)) (l .inv .0) (omega arith)
 
 pub fill-cells-spec : {M : Type 1} → statement M
