@@ -102,7 +102,7 @@ told-counted x n r e = ap toldCounted e ∙ by-fault (faultOf x) ∙ told-found 
 
 module _ (P : List (List ℕ)) (E : List EntryList) where
   -- an accepted scheme has no fault in the tests of judging
-  accepted-judged : accepted (verdictOf P E) ≡ true → faultOf (firstFault (judgeTests P E)) ≡ Clean
+  pub accepted-judged : accepted (verdictOf P E) ≡ true → faultOf (firstFault (judgeTests P E)) ≡ Clean
   accepted-judged a = ap faultOf (accepted-clean (firstFault (judgeTests P E)) (comparedCells P E) a)
 
   -- the count of an accepted scheme

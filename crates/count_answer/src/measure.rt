@@ -23,7 +23,7 @@ pub struct Measure {
 }
 
 // A refusal of n or of the table.
-fn refused(fault: Fault) -> Measure
+pub fn refused(fault: Fault) -> Measure
     ensures { λ r. ⌜ r .fault ≡ fault ⌝ }
 {
     let frame = Frame {

@@ -1,2 +1,3 @@
 -- The laws that the proofs of the crate counting use.
 pub mod TableLaws
+pub mod FigureTableLaws

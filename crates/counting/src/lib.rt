@@ -1,4 +1,5 @@
-// Counting with an accepted scheme, by the table and plainly.
+// Counting with an accepted scheme, by the table, plainly, and by inversions.
+pub mod by_inversions;
 pub mod by_table;
 pub mod plainly;
 pub mod values;

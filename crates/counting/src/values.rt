@@ -24,7 +24,7 @@ ghost use Rattle.count_rows.specs.Run.{cleared, Counts};
 ghost use Rattle.count_answer.specs.Measuring.{TableGiven};
 
 // Writes the sheet of the scheme for the patterns; the index of the entry for ε.
-fn write_plan(sheet: &mut [u8], patterns: Patterns, scheme: Scheme) -> usize
+pub fn write_plan(sheet: &mut [u8], patterns: Patterns, scheme: Scheme) -> usize
     requires { ⌜ WellFormed (patternsIn patterns) (schemeIn scheme) × (length (now sheet) ≡ SHEET) ⌝ }
     ensures sheet { λ r. ⌜ SheetTo (patternsIn patterns) scheme (scheme .count) (now (sheet .exit)) ⌝ }
     ensures root { λ r. ⌜ Names scheme [] r ⌝ }

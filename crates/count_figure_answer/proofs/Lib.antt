@@ -1,0 +1,2 @@
+-- The laws that the crate counting cites.
+pub mod FigureMeasureLaws

@@ -1,0 +1,4 @@
+-- Counting by inversions by the table.
+pub mod FigureRows
+pub mod FigureWalkLaws
+pub mod FigureRunLaws

@@ -1,0 +1,3 @@
+-- The laws that the proofs of the crate count_figures use.
+pub mod AddLaws
+pub mod CaseLaws
