@@ -6,10 +6,10 @@ use crate::model::*;
 use crate::wellformed::Places;
 use crate::word::{child, deleted, gone_values};
 
-type Binomials = [[u64; 9]; LONGEST + 2];
+pub type Binomials = [[u64; 9]; LONGEST + 2];
 
 /// C(n, k) for n up to 21 and k up to 8, by Pascal's rule.
-fn binomials() -> Binomials {
+pub fn binomials() -> Binomials {
     let mut c = [[0u64; 9]; LONGEST + 2];
     for n in 0..c.len() {
         c[n][0] = 1;
@@ -22,7 +22,7 @@ fn binomials() -> Binomials {
 
 /// The rows that the table keeps: one, and one more for each position of the largest set that an
 /// entry deletes, whether or not the entry is reached.
-fn rows(scheme: &Scheme) -> usize {
+pub fn rows(scheme: &Scheme) -> usize {
     1 + scheme.entries.iter().map(|e| e.rule.size()).max().unwrap_or(0)
 }
 
@@ -33,7 +33,7 @@ pub fn need(scheme: &Scheme, n: usize) -> u64 {
 }
 
 /// What is done at the cells of an entry.
-enum Step {
+pub enum Step {
     /// the places of the children, by the number of first values below the new one; the value at
     /// total 0
     Sum([usize; PREFIX_LENGTH + 1], u64),
@@ -41,13 +41,13 @@ enum Step {
 }
 
 /// A deletion, as counting needs it.
-struct Removal {
+pub struct Removal {
     /// the place of the target
-    target: usize,
+    pub target: usize,
     /// how many positions go
     size: usize,
     /// of the sorted first values, from 0, those that stay, each with how many below it go
-    left: Kept<(u8, u8), PREFIX_LENGTH>,
+    pub left: Kept<(u8, u8), PREFIX_LENGTH>,
     /// for each component of a spacing, the one of the merged spacing that it is added to
     into: [usize; COMPONENTS],
 }
@@ -68,7 +68,7 @@ fn removal(target: usize, prefix: &[u8], positions: &[u16]) -> Removal {
 }
 
 /// The step of an entry, from the places of the prefixes.
-fn step(patterns: &Patterns, entry: &Entry, place_of: impl Fn(&[u8]) -> usize) -> Step {
+pub fn step(patterns: &Patterns, entry: &Entry, place_of: impl Fn(&[u8]) -> usize) -> Step {
     let prefix = entry.prefix.items();
     match &entry.rule {
         Rule::Expand => {
@@ -85,16 +85,17 @@ fn step(patterns: &Patterns, entry: &Entry, place_of: impl Fn(&[u8]) -> usize) -
     }
 }
 
-struct Plan<'a> {
-    length: usize,
-    place: usize,
-    vectors: &'a [Vector],
-    step: Step,
+/// An entry, as counting needs it: the length of its prefix, and the place of its cells in a row.
+pub struct Plan<'a> {
+    pub length: usize,
+    pub place: usize,
+    pub vectors: &'a [Vector],
+    pub step: Step,
 }
 
 impl Plan<'_> {
     /// How many positions go: the values of a target stand in a row so many lengths before.
-    fn size(&self) -> usize {
+    pub fn size(&self) -> usize {
         match &self.step {
             Step::Sum(..) => 0,
             Step::Take(removal) => removal.size,
@@ -171,7 +172,11 @@ fn fill(plan: &Plan, j: usize, row: &mut [u64], before: &[u64], c: &Binomials) {
     }
 }
 
-fn above_some(vectors: &[Vector], set: &[usize; PREFIX_LENGTH + 1], k: usize) -> bool {
+/// Whether the spacing of a set of first values is at least one of the vectors in each component.
+/// Inlined, as `rank_left` is, in both loops over cells: as calls they slow a short count by a
+/// tenth.
+#[inline(always)]
+pub fn above_some(vectors: &[Vector], set: &[usize; PREFIX_LENGTH + 1], k: usize) -> bool {
     if vectors.is_empty() {
         return false;
     }
@@ -185,7 +190,8 @@ fn above_some(vectors: &[Vector], set: &[usize; PREFIX_LENGTH + 1], k: usize) ->
 }
 
 /// The rank of the values that stay: each falls by the number of those below it that go.
-fn rank_left(set: &[usize; PREFIX_LENGTH + 1], left: &[(u8, u8)], c: &Binomials) -> usize {
+#[inline(always)]
+pub fn rank_left(set: &[usize; PREFIX_LENGTH + 1], left: &[(u8, u8)], c: &Binomials) -> usize {
     let mut rank = 0;
     for (at, &(i, below)) in left.iter().enumerate() {
         rank += c[set[i as usize] - below as usize][at + 1];

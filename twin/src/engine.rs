@@ -23,6 +23,17 @@ mod library {
             cells: usize,
         ) -> u64;
         pub fn count_texts_plainly(patterns: *const u8, patterns_length: usize, scheme: *const u8, scheme_length: usize, n: usize) -> u64;
+        pub fn inversions_of_texts(
+            patterns: *const u8,
+            patterns_length: usize,
+            scheme: *const u8,
+            scheme_length: usize,
+            n: usize,
+            table: *mut u64,
+            cells: usize,
+            results: *mut u64,
+            results_length: usize,
+        ) -> u64;
         pub fn judge_texts_on_page(
             patterns: *const u8,
             patterns_length: usize,
@@ -78,6 +89,23 @@ fn count(patterns: &[u8], scheme: &[u8], n: usize, table: &mut [u64]) -> Result<
 fn plain(patterns: &[u8], scheme: &[u8], n: usize) -> Result<u64, u32> {
     // As for `judge`.
     let code = unsafe { library::count_texts_plainly(start(patterns), patterns.len(), start(scheme), scheme.len(), n) };
+    answer(code)
+}
+
+/// Counting by inversions: the two texts, n, the table and the results; the number of figures, or
+/// the number of the refusal.
+pub type Inversions = fn(&[u8], &[u8], usize, &mut [u64], &mut [u64]) -> Result<u64, u32>;
+
+/// The engine's counting by inversions.
+pub const INVERSIONS: Option<Inversions> = Some(inversions);
+
+fn inversions(patterns: &[u8], scheme: &[u8], n: usize, table: &mut [u64], results: &mut [u64]) -> Result<u64, u32> {
+    // The library reads the two texts and writes the table and the results, each within its length,
+    // and keeps none of them.
+    let (first, second) = (start(patterns), start(scheme));
+    let (lent, cells) = (table.as_mut_ptr(), table.len());
+    let (figures, length) = (results.as_mut_ptr(), results.len());
+    let code = unsafe { library::inversions_of_texts(first, patterns.len(), second, scheme.len(), n, lent, cells, figures, length) };
     answer(code)
 }
 

@@ -10,6 +10,8 @@ pub mod engine;
 pub mod finder;
 pub mod guarded;
 pub mod inputs;
+pub mod inversion_inputs;
+pub mod inversions;
 pub mod judging;
 pub mod list_inputs;
 pub mod listing;

@@ -1,5 +1,5 @@
-//! The slow mode: the verdict, the counts, the witness, the first avoider and the next by listing,
-//! word for word as the documents define them, for small lengths only.
+//! The slow mode: the verdict, the counts, also those by inversions, the witness, the first avoider
+//! and the next by listing, word for word as the documents define them, for small lengths only.
 
 use crate::model::*;
 use crate::word::{contains, reduce};
@@ -89,6 +89,17 @@ impl Listing {
             self.avoiders.push(words);
         }
         &self.avoiders[n]
+    }
+
+    /// The number of avoiders of length n with 0, 1, .. inversions.
+    pub fn by_inversions(&mut self, n: usize) -> Vec<u64> {
+        // a falling word has the most inversions
+        let falling: Vec<u8> = (1..=n as u8).rev().collect();
+        let mut figures = vec![0; inversions(&falling) + 1];
+        for word in self.avoiders(n) {
+            figures[inversions(word)] += 1;
+        }
+        figures
     }
 
     /// The first avoider of length n, as the least of all.
@@ -262,6 +273,12 @@ impl Listing {
         }
         None
     }
+}
+
+/// The number of pairs where a larger entry precedes a smaller one.
+fn inversions(word: &[u8]) -> usize {
+    let smaller = |(i, x): (usize, &u8)| word[i..].iter().filter(|y| *y < x).count();
+    word.iter().enumerate().map(smaller).sum()
 }
 
 /// Whether a spacing is at least one of the entry's vectors in each component.

@@ -9,6 +9,7 @@ pub const COMPONENTS: usize = 7;
 pub const VECTOR_TOTAL: usize = 8;
 pub const LONGEST: usize = 20;
 pub const LONGEST_PLAIN: usize = 9;
+pub const LONGEST_BY_INVERSIONS: usize = 12;
 pub const PATTERN_TEXT: usize = 1_024;
 pub const SCHEME_TEXT: usize = 32_768;
 /// The bytes of a witness on a lent page.

@@ -39,32 +39,33 @@ module _ (s t : List ℕ) (p : PatternsRead) (reads : (p ≡ patternsAnswer s) �
 
   -- accepted texts are read without a fault, and their lists are accepted
   module _ (w : TextsTrue s t) where
-    none-found : faulty f ≡ false
+    pub none-found : faulty f ≡ false
     none-found = ap faulty (found ∙ ap₂ orElse (set-clean s t w p (reads .1)) (scheme-clean s t w q (reads-scheme .1)))
 
-    lists-accepted : accepted (verdictOf (patternsIn (p .patterns)) (schemeIn (q .scheme))) ≡ true
+    pub lists-accepted : accepted (verdictOf (patternsIn (p .patterns)) (schemeIn (q .scheme))) ≡ true
     lists-accepted =
         ap₂ (λ (P : List (List ℕ)) (E : List EntryList). accepted (verdictOf P E)) (set-list s t w p (reads .1))
         (scheme-list s t w q (reads-scheme .1)) ∙
         accepted-exactly (w .patterns) (w .scheme) .1 (w .formed, w .claims)
 
   -- a fault of reading
+  pub first-found : faulty f ≡ true → (g : Fault) → orElse (orElse ((patternsAnswer s) .fault) ((schemeAnswer t) .fault)) g ≡ f
+  first-found h g = ap (λ (x : Fault). orElse x g) (sym read-fault) ∙ or-else-fault f g h
+
+  pub kept-so : faulty f ≡ true → (g : Fault) (m : ℕ) (T : List ℕ) →
+      T ≡ tableAfter (orElse (orElse ((patternsAnswer s) .fault) ((schemeAnswer t) .fault)) g) m T
+  kept-so h g m T = refused-table f m T h ∙ ap (λ (x : Fault). tableAfter x m T) (sym (first-found h g))
+
   module _ (h : faulty f ≡ true) (g : Fault) (v : ℕ) (c : Counted) (e : c ≡ countedOr f 0) where
-    first-found : orElse (orElse ((patternsAnswer s) .fault) ((schemeAnswer t) .fault)) g ≡ f
-    first-found = ap (λ (x : Fault). orElse x g) (sym read-fault) ∙ or-else-fault f g h
-
-    pub refused-so : c ≡ countedOr (orElse (orElse ((patternsAnswer s) .fault) ((schemeAnswer t) .fault)) g) v
-    refused-so = e ∙ refused-count f 0 v h ∙ ap (λ (x : Fault). countedOr x v) (sym first-found)
-
-    pub kept-so : (m : ℕ) (T : List ℕ) → T ≡ tableAfter (orElse (orElse ((patternsAnswer s) .fault) ((schemeAnswer t) .fault)) g) m T
-    kept-so m T = refused-table f m T h ∙ ap (λ (x : Fault). tableAfter x m T) (sym first-found)
+    refused-so : c ≡ countedOr (orElse (orElse ((patternsAnswer s) .fault) ((schemeAnswer t) .fault)) g) v
+    refused-so = e ∙ refused-count f 0 v h ∙ ap (λ (x : Fault). countedOr x v) (sym (first-found h g))
 
   pub count-refused : faulty f ≡ true → (n : ℕ) (T : List ℕ) (c : Counted) (r : ℕ) → c ≡ countedOr f 0 → r ≡
       codeOf c → CountsTexts s t n T T r
   count-refused h n T c r e k =
       record {
         answer = k ∙ ap codeOf (refused-so h _ (countIn s t n) c e);
-        table = kept-so h _ (countIn s t n) c e (needOf n (schemeIn ((schemeAnswer t) .scheme))) T;
+        table = kept-so h _ (needOf n (schemeIn ((schemeAnswer t) .scheme))) T;
         counts = λ w a b. absurd (true-not-false (sym h ∙ none-found w));
       }
 
@@ -77,7 +78,7 @@ module _ (s t : List ℕ) (p : PatternsRead) (reads : (p ≡ patternsAnswer s) �
 
   -- where reading finds nothing, the lists decide
   module _ (h : faulty f ≡ false) where
-    then-found : (g : Fault) → g ≡ orElse (orElse ((patternsAnswer s) .fault) ((schemeAnswer t) .fault)) g
+    pub then-found : (g : Fault) → g ≡ orElse (orElse ((patternsAnswer s) .fault) ((schemeAnswer t) .fault)) g
     then-found g = sym (ap (λ (x : Fault). orElse x g) (sym read-fault) ∙ or-else-clean f g h)
 
     pub count-done : (n : ℕ) (T T' : List ℕ) (c : Counted) (r : ℕ) →

@@ -1,9 +1,13 @@
-// Counting on two texts, judging them with a page, containment, and the first and the next avoider,
-// with a C calling convention: for the differential test and the benchmark of twin/.
+// Counting on two texts, also by inversions, judging them with a page, containment, and the first
+// and the next avoider, with a C calling convention: for the differential test and the benchmark of
+// twin/.
 use containment::Contained;
 use containment::contains;
 use count_answer::answer::Counted;
 use count_answer::answer::count_or;
+use count_figure_answer::answer::Figured;
+use count_figure_answer::answer::figures_or;
+use counting::by_inversions::count_by_inversions;
 use counting::by_table::count;
 use counting::plainly::count_plainly;
 use forms::order::earlier;
@@ -27,6 +31,7 @@ ghost use lib.ListN.{take};
 ghost use Rattle.word.specs.Ceilings.{DIGITS};
 ghost use Rattle.text_page.specs.Page.{overlay};
 ghost use Rattle.twin_exports.specs.TextCounts.{codeOf, CountsTexts, PlainTexts};
+ghost use Rattle.twin_exports.specs.FigureTexts.{figuredCode, FiguresOfTexts};
 ghost use Rattle.twin_exports.specs.PageCodes.{verdictCode, JudgesOnPage, CopiesOf};
 ghost use Rattle.twin_exports.specs.ListCodes.{listedCode, FirstOfText, NextOfText};
 
@@ -74,6 +79,42 @@ fn code(counted: Counted) -> u64
     match counted {
         Counted::Count(value) => value,
         Counted::Refused(refusal, _) => u64::MAX - number(refusal) as u64,
+    }
+}
+
+// The figures for n by the scheme that a text spells, over the front of the results: how many they
+// are, or 2 to the 64 less 1 and less the number of the refusal.
+#[no_mangle]
+pub extern "C" fn inversions_of_texts(
+    patterns: &[u8],
+    scheme: &[u8],
+    n: usize,
+    table: &mut [u64],
+    results: &mut [u64],
+) -> u64
+    ensures { λ r. ⌜ FiguresOfTexts (now (patterns .entry)) (now (scheme .entry)) n (now (table .entry)) (now (table .exit))
+        (now (results .entry)) (now (results .exit)) r ⌝ }
+{
+    let p = read_patterns(patterns);
+    let s = read_scheme(scheme);
+    let first = p.fault;
+    let second = s.fault;
+    let fault = earlier(first, second);
+    if is_fault(fault) {
+        return figured_code(figures_or(fault, 0));
+    }
+    let set = p.patterns;
+    let list = s.scheme;
+    figured_code(count_by_inversions(set, list, n, table, results))
+}
+
+// An answer of counting by inversions as one number.
+fn figured_code(figured: Figured) -> u64
+    ensures { λ r. ⌜ r ≡ figuredCode figured ⌝ }
+{
+    match figured {
+        Figured::Figures(count) => count as u64,
+        Figured::Refused(refusal, _) => u64::MAX - number(refusal) as u64,
     }
 }
 

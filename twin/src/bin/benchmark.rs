@@ -5,6 +5,7 @@
 //! contain it. With --instructions it adds ratios of instructions, counted by callgrind, where
 //! valgrind is there and a call is short.
 
+use std::cell::RefCell;
 use std::hint::black_box;
 use std::path::{Path, PathBuf};
 use std::process::Command;
@@ -14,6 +15,7 @@ use twin::clock::user_time;
 use twin::counting::{count, need, plain};
 use twin::engine;
 use twin::inputs::{unpatterned, Pair};
+use twin::inversions::{self, count_by_inversions, figures};
 use twin::judging::judge_texts;
 use twin::list_inputs::NAMED;
 use twin::model::{LONGEST, WITNESS};
@@ -30,6 +32,8 @@ enum Work {
     Witness,
     Count(usize),
     Plain(usize),
+    /// counting by inversions
+    Inversions(usize),
     /// the first avoider of a length
     First(usize),
     /// the next avoider, so many times at most
@@ -44,18 +48,22 @@ struct Input<'a> {
     second: Vec<u8>,
     /// the ratio that is not to be passed
     target: Option<f64>,
+    /// the table of a count by inversions, made once: it has up to 50 megabytes, and new memory
+    /// takes the system longer than the count takes. Each call leaves it at 0.
+    table: RefCell<Vec<u64>>,
 }
 
-/// The answer as a number: the count, how many avoiders were given, or 0 and the number of the
-/// refusal; and the page, which only a witness or an avoider is written to.
-type Answer = (u64, [u8; WITNESS]);
+/// The answer as a number: the count, how many figures or avoiders were given, or 0 and the number
+/// of the refusal; the page, which only a witness or an avoider is written to; and the figures of a
+/// count by inversions.
+type Answer = (u64, [u8; WITNESS], Vec<u64>);
 
 /// A call of the engine or of the second implementation, on an input.
 type Call = fn(&Input) -> Option<Answer>;
 
 fn by_engine(input: &Input) -> Option<Answer> {
     let (patterns, scheme) = (&input.patterns[..], &input.second[..]);
-    let mut page = [0; WITNESS];
+    let (mut page, mut results) = ([0; WITNESS], results(input));
     let number = match input.work {
         Work::Judge => Some(engine::judge(patterns, scheme) as u64),
         Work::Witness => {
@@ -67,25 +75,34 @@ fn by_engine(input: &Input) -> Option<Answer> {
             engine::COUNT.map(|f| f(patterns, scheme, n, &mut cells).unwrap_or_else(|r| r as u64))
         }
         Work::Plain(n) => engine::PLAIN.map(|f| f(patterns, scheme, n).unwrap_or_else(|r| r as u64)),
+        Work::Inversions(n) => {
+            let cells = &mut input.table.borrow_mut();
+            engine::INVERSIONS.map(|f| f(patterns, scheme, n, cells, &mut results).unwrap_or_else(|r| r as u64))
+        }
         Work::First(n) => engine::FIRST.map(|f| f(patterns, n, &mut page).unwrap_or_else(|r| r as u64)),
         Work::Nexts(times) => engine::NEXT.map(|f| nexts(scheme, times, &mut page, |word, page| f(patterns, word, page) == Ok(1))),
     };
-    number.map(|number| (number, page))
+    number.map(|number| (number, page, results))
 }
 
 fn by_twin(input: &Input) -> Option<Answer> {
     let (patterns, scheme) = (&input.patterns[..], &input.second[..]);
-    let mut page = [0; WITNESS];
+    let (mut page, mut results) = ([0; WITNESS], results(input));
     let lists = || read_patterns(patterns).and_then(|p| Ok((p, read_scheme(scheme)?)));
     let answer = match input.work {
         Work::Judge => judge_texts(patterns, scheme).map(|_| 0),
         Work::Witness => judge_texts_on_page(patterns, scheme, &mut page).map(|_| 0),
         Work::Count(n) => lists().and_then(|(p, s)| count(&p, &s, n, &mut table(input, n))),
         Work::Plain(n) => lists().and_then(|(p, s)| plain(&p, &s, n)),
+        Work::Inversions(n) => {
+            let cells = &mut input.table.borrow_mut();
+            let by_inversions = |(p, s)| count_by_inversions(&p, &s, n, cells, &mut results);
+            lists().and_then(by_inversions).map(|figures| figures as u64)
+        }
         Work::First(n) => first_avoider(patterns, n, &mut page).map(u64::from),
         Work::Nexts(times) => Ok(nexts(scheme, times, &mut page, |word, page| next_avoider(patterns, word, page) == Ok(true))),
     };
-    Some((answer.unwrap_or_else(|r| r.0 as u64), page))
+    Some((answer.unwrap_or_else(|r| r.0 as u64), page, results))
 }
 
 /// Follows next from a permutation, so many times at most: how many were given. The last of them
@@ -105,12 +122,29 @@ fn table(input: &Input, n: usize) -> Vec<u64> {
     read_scheme(&input.second).map_or(vec![], |s| vec![0; need(&s, n) as usize])
 }
 
+/// The table of a count by inversions, and none for other work.
+fn table_by_inversions(work: Work, scheme: &[u8]) -> Vec<u64> {
+    match (work, read_scheme(scheme)) {
+        (Work::Inversions(n), Ok(scheme)) => vec![0; inversions::need(&scheme, n) as usize],
+        _ => vec![],
+    }
+}
+
+/// Room for the figures of a count by inversions, and none for other work.
+fn results(input: &Input) -> Vec<u64> {
+    match input.work {
+        Work::Inversions(n) => vec![0; figures(n)],
+        _ => vec![],
+    }
+}
+
 /// Makes the inputs whose names are wanted, one after the other.
 fn inputs(wanted: impl Fn(&str) -> bool, each: impl Fn(&Input)) {
     let add = |name: &str, target, work, make: &dyn Fn() -> (Vec<u8>, Vec<u8>)| {
         if wanted(name) {
             let (patterns, second) = make();
-            each(&Input { name, work, patterns, second, target });
+            let table = RefCell::new(table_by_inversions(work, &second));
+            each(&Input { name, work, patterns, second, target, table });
         }
     };
     let texts = |pair: Pair| (write_patterns(&pair.patterns), write_scheme(&pair.entries));
@@ -179,6 +213,10 @@ fn inputs(wanted: impl Fn(&str) -> bool, each: impl Fn(&Input)) {
     let (two, count) = (Some(2.5), Work::Count(20));
     add("count: {1234} as in 004, two together, n = 20", two, count, &|| both("{1234}", E_1234));
     add("count: no patterns, two together, n = 20", two, count, &|| both("∅", PAIRS));
+    let to_12 = Work::Inversions(12);
+    add("by inversions: {2143,2341}, n = 12", Some(2.5), to_12, &of("{2143,2341}"));
+    add("by inversions: {1234} as in 004, two together, n = 12", two, to_12, &|| both("{1234}", E_1234));
+    add("by inversions: no patterns, 128 entries, n = 10", Some(2.5), Work::Inversions(10), &|| texts(unpatterned(128)));
     add("plain: {123}, n = 9", Some(3.0), Work::Plain(9), &of("{123}"));
     add("plain: {1234}, n = 9", Some(3.0), Work::Plain(9), &of("{1234}"));
     add("plain: {2143,2341}, n = 9", Some(3.0), Work::Plain(9), &of("{2143,2341}"));
@@ -218,12 +256,13 @@ fn main() {
 fn row(input: &Input, instructions: bool) {
     let answer = by_twin(input).expect("the second implementation does all work");
     let found = by_engine(input);
-    assert!(found.is_none() || found == Some(answer), "{}: the engine says {found:?}, the second implementation {answer:?}", input.name);
+    assert!(found.is_none() || found.as_ref() == Some(&answer), "{}: the engine says {found:?}, the second implementation {answer:?}", input.name);
     let said = match (input.work, answer.0) {
         (Work::Judge | Work::Witness, 0) => "accepted".to_string(),
         (Work::Judge | Work::Witness, number) => format!("refused {number}"),
         (Work::First(_) | Work::Nexts(_), 0) => "nothing".to_string(),
         (Work::First(_) | Work::Nexts(_), number) => format!("{number} given"),
+        (Work::Inversions(_), number) => format!("{number} figures, together {}", answer.2.iter().sum::<u64>()),
         (_, count) => count.to_string(),
     };
     let target = input.target.map_or("-".into(), |t| format!("{t}"));
@@ -336,7 +375,7 @@ fn repeat(words: &[String]) {
         None if words[2] == "witness" => Work::Witness,
         None => Work::Judge,
     };
-    let input = Input { name: "", work, patterns, second, target: None };
+    let input = Input { name: "", work, patterns, second, target: None, table: RefCell::default() };
     let call: Call = if words[0] == "engine" { by_engine } else { by_twin };
     let times: usize = words[1].parse().expect("a number");
     run(&input, call, times);

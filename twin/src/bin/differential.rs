@@ -20,10 +20,13 @@ use twin::counting::{count, need, plain};
 use twin::engine;
 use twin::guarded::{Guarded, FILL};
 use twin::inputs::{exact_need, exact_set_need, examples, fixed, lengthened, Case, Maker};
+use twin::inversion_inputs::{of_all, Lent, ANSWERS, EXAMPLES, WITHOUT_PATTERNS};
+use twin::inversions::{self, inversions_of_texts};
 use twin::judging::{judge_texts, new_longest, old_longest};
 use twin::list_inputs::{self, length_three, Listed, Lister, Start, NAMED, SMALL};
 use twin::listing::{first_copy_slowly, Listing};
-use twin::model::{Entry, Patterns, Refusal, Scheme, IRREVERSIBLE, LONGEST, LONGEST_PLAIN, NO_POSITION, WITNESS};
+use twin::model::{Entry, Patterns, Refusal, Scheme, IRREVERSIBLE, NO_POSITION, OVERSIZE, SHORT_PAGE, SHORT_TABLE};
+use twin::model::{LONGEST, LONGEST_BY_INVERSIONS, LONGEST_PLAIN, WITNESS};
 use twin::notation::{read_patterns, read_scheme, write_patterns, write_scheme};
 use twin::published::published;
 use twin::random::Random;
@@ -47,6 +50,8 @@ const LENGTHENED: usize = 2_000;
 const TOGETHER: usize = 2_000;
 /// The cells of the longest table that the engine is lent for one input.
 const CELLS: u64 = 20_000;
+/// The same for counts by inversions, and for one in sixteen of them.
+const CELLS_BY_INVERSIONS: [u64; 2] = [40_000, 1_000_000];
 /// The words that the second implementation may look at for one avoider. An input that takes more
 /// is left out.
 const WORDS: u64 = 10_000;
@@ -140,6 +145,23 @@ struct Several {
     largest: usize,
 }
 
+/// What became of the calls for counts by inversions.
+#[derive(Default)]
+struct ByInversions {
+    /// those whose results were filled; of the ones at random lengths, those at the greatest one,
+    /// and those of schemes that delete several positions together
+    filled: usize,
+    longest: usize,
+    several: usize,
+    /// those that were refused, by number; of these, those of a length that is not counted
+    refused: BTreeMap<u32, usize>,
+    too_long: usize,
+    /// rows of figures that were compared with listing
+    listed: usize,
+    slowest: Duration,
+    calls: Duration,
+}
+
 struct Test {
     seed: u64,
     /// where the engine's two texts stand, and its page
@@ -160,6 +182,7 @@ struct Test {
     longest_witness: u8,
     two_m: TwoM,
     several: Several,
+    by_inversions: ByInversions,
     /// for the lengths and the tables that accepted inputs are counted with
     random: Random,
     tables: usize,
@@ -189,6 +212,7 @@ impl Test {
             longest_witness: 0,
             two_m: TwoM::default(),
             several: Several::default(),
+            by_inversions: ByInversions::default(),
             random: Random::new(seed),
             tables: 0,
             wrong: 0,
@@ -214,6 +238,7 @@ impl Test {
             self.verdict(patterns, &scheme, expected);
         }
         self.needs();
+        self.inversion_examples();
         // the numbers that the benchmark names
         for (own, expected) in [(own_basis(), "accepted 412969"), (own_basis_together(), "accepted 343207")] {
             let (patterns, scheme) = (write_patterns(&own.patterns), write_scheme(&own.entries));
@@ -251,6 +276,12 @@ impl Test {
         self.enough("schemes with sets of positions, refused 11 by listing", self.several.refused);
         self.enough("witnesses at sets of positions compared with listing", self.several.witnesses);
         self.enough("schemes with sets of positions that were counted", self.several.counted);
+        self.enough("counts by inversions", self.by_inversions.filled);
+        self.enough("counts by inversions with sets of positions", self.by_inversions.several);
+        self.enough("counts by inversions compared with listing", self.by_inversions.listed);
+        self.enough("tables too short for a count by inversions", self.by_inversions.refused(SHORT_TABLE));
+        self.enough("results too short for a count by inversions", self.by_inversions.refused(SHORT_PAGE));
+        self.enough("lengths not counted by inversions", self.by_inversions.too_long);
         self.enough("refusals 11", self.witnesses);
         self.enough("witnesses compared with listing", self.listed_witnesses);
         self.enough("sets with two m, accepted by listing up to the old one", self.two_m.accepted);
@@ -303,6 +334,11 @@ impl Test {
         }
         if twin.is_ok() {
             self.count(case);
+            self.count_by_inversions(case);
+        }
+        if self.random.one_in(4) {
+            let lent = Lent::any(&mut self.random);
+            self.any_inversions(case, number, &lent);
         }
     }
 
@@ -345,6 +381,117 @@ impl Test {
             let what = format!("the engine's plain count for {n}");
             let (expected, found) = (format!("{expected:?}"), format!("{found:?}"));
             self.report(&what, &expected, &found, &case.patterns, &case.scheme);
+        }
+    }
+
+    /// Counting by inversions on an accepted input, at a random length; the figures add up to the
+    /// engine's plain count.
+    fn count_by_inversions(&mut self, case: &Case) {
+        let scheme = read_scheme(&case.scheme).expect("a scheme that was judged");
+        let most = CELLS_BY_INVERSIONS[self.random.one_in(16) as usize];
+        let lent = Lent::random(&mut self.random, &scheme, most);
+        let answer = self.inversions(&case.patterns, &case.scheme, &lent);
+        let tally = &mut self.by_inversions;
+        tally.too_long += (answer == Err(OVERSIZE)) as usize;
+        let Ok(figures) = answer else { return };
+        tally.longest += (lent.n == LONGEST_BY_INVERSIONS) as usize;
+        tally.several += several(&scheme) as usize;
+        let Some(call) = engine::COUNT else { return };
+        let mut cells = vec![FILL as u64; need(&scheme, lent.n) as usize];
+        let (sum, counted) = (figures.iter().sum(), call(&case.patterns, &case.scheme, lent.n, &mut cells));
+        if counted != Ok(sum) {
+            let what = format!("the figures for {} and the engine's count", lent.n);
+            let (sum, counted) = (format!("{sum}, of {figures:?}"), format!("{counted:?}"));
+            self.report(&what, &sum, &counted, &case.patterns, &case.scheme);
+        }
+    }
+
+    /// Counting by inversions on any input, with a length and memory that need not fit it: what the
+    /// judge refuses is refused with the same number.
+    fn any_inversions(&mut self, case: &Case, number: u32, lent: &Lent) {
+        let answer = self.inversions(&case.patterns, &case.scheme, lent);
+        if number != 0 && answer != Err(number) {
+            let (expected, found) = (number.to_string(), format!("{answer:?}"));
+            self.report("the verdict and the count by inversions", &expected, &found, &case.patterns, &case.scheme);
+        }
+        self.by_inversions.too_long += (number == 0 && answer == Err(OVERSIZE)) as usize;
+    }
+
+    /// Both implementations of counting by inversions on two texts: the answer, all results and the
+    /// whole table, which hold other numbers before. The figures, or the number of the refusal.
+    fn inversions(&mut self, patterns: &[u8], scheme: &[u8], lent: &Lent) -> Result<Vec<u64>, u32> {
+        let before = Memory::of(lent);
+        let mut after = before.clone();
+        let answer = inversions_of_texts(patterns, scheme, lent.n, &mut after.table, &mut after.results).map_err(|r| r.0);
+        // what is promised: a refusal changes nothing, else the needed cells hold 0 and nothing but
+        // the figures is written
+        let written = answer.unwrap_or(0);
+        let needed = answer.map_or(0, |_| read_scheme(scheme).map_or(0, |s| inversions::need(&s, lent.n) as usize));
+        let mut promised = before.clone();
+        promised.table[..needed].fill(0);
+        promised.results[..written].copy_from_slice(&after.results[..written]);
+        let expected = answer.map(|written| written as u64);
+        if after != promised {
+            let what = format!("what the second implementation leaves of {lent:?}");
+            let (promised, found) = (promised.since(&before), after.since(&before));
+            self.report(&what, &format!("{expected:?}, {promised}"), &found, patterns, scheme);
+        }
+        if let Some(call) = engine::INVERSIONS {
+            let mut left = before.clone();
+            let [first, second] = &mut self.texts;
+            let (first, second) = (first.place(patterns), second.place(scheme));
+            let start = Instant::now();
+            let found = call(first, second, lent.n, &mut left.table, &mut left.results);
+            self.by_inversions.took(start.elapsed());
+            if (found, &left) != (expected, &promised) {
+                let what = format!("the engine's count by inversions, {lent:?}, {needed} cells needed");
+                let expected = format!("{expected:?}, {}", promised.since(&before));
+                let found = format!("{found:?}, {}", left.since(&before));
+                self.report(&what, &expected, &found, patterns, scheme);
+            }
+        }
+        match answer {
+            Ok(_) => self.by_inversions.filled += 1,
+            Err(number) => *self.by_inversions.refused.entry(number).or_default() += 1,
+        }
+        answer.map(|_| after.results[..written].to_vec())
+    }
+
+    /// Figures and refusals that were worked out by hand, and the figures of all permutations.
+    fn inversion_examples(&mut self) {
+        let mut examples: Vec<(&str, &str, usize, Vec<u64>)> = vec![];
+        examples.extend(EXAMPLES.map(|(set, scheme, n, figures)| (set, scheme, n, figures.to_vec())));
+        for scheme in WITHOUT_PATTERNS {
+            examples.extend((0..=LONGEST_BY_INVERSIONS).map(|n| ("∅", scheme, n, of_all(n))));
+        }
+        for (set, text, n, expected) in examples {
+            let scheme = read_scheme(text.as_bytes()).expect("a scheme");
+            let found = self.inversions(set.as_bytes(), text.as_bytes(), &Lent::just(&scheme, n));
+            if found.as_ref() != Ok(&expected) {
+                let what = format!("the figures for {n} worked out by hand");
+                let (expected, found) = (format!("{expected:?}"), format!("{found:?}"));
+                self.report(&what, &expected, &found, set.as_bytes(), text.as_bytes());
+            }
+        }
+        for (set, scheme, lent, expected) in ANSWERS {
+            let found = self.inversions(set.as_bytes(), scheme.as_bytes(), &lent).map_or_else(|r| r, |_| 0);
+            if found != expected {
+                let what = format!("the answer worked out by hand, {lent:?}");
+                let (expected, found) = (expected.to_string(), found.to_string());
+                self.report(&what, &expected, &found, set.as_bytes(), scheme.as_bytes());
+            }
+        }
+    }
+
+    /// The figures of both implementations against listing, for an accepted input.
+    fn listed_inversions(&mut self, case: &Case, scheme: &Scheme, listing: &mut Listing, n: usize) {
+        let listed = listing.by_inversions(n);
+        let found = self.inversions(&case.patterns, &case.scheme, &Lent::just(scheme, n));
+        self.by_inversions.listed += 1;
+        if found.as_ref() != Ok(&listed) {
+            let what = format!("the figures for {n} and listing");
+            let (listed, found) = (format!("{listed:?}"), format!("{found:?}"));
+            self.report(&what, &listed, &found, &case.patterns, &case.scheme);
         }
     }
 
@@ -688,6 +835,12 @@ impl Test {
                     self.report("counting and listing", &listed.to_string(), &found, &case.patterns, &case.scheme);
                 }
             }
+            // one length of random inputs, and all of the published ones
+            let published = case.kind == "published";
+            let n = self.random.below(LISTED);
+            for n in if published { 0..LISTED + 1 } else { n..n + 1 } {
+                self.listed_inversions(case, &scheme, &mut listing, n);
+            }
         }
         // What was read is written back without its spaces.
         let written = (write_patterns(patterns.items()), write_scheme(&scheme.entries));
@@ -734,6 +887,7 @@ impl Test {
         let (longest, kind) = self.slowest;
         let (longest, all) = (longest.as_secs_f64() * 1e3, self.calls.as_secs_f64());
         println!("longest call of the engine: {longest:.1} ms ({kind}); all: {all:.1} s");
+        self.by_inversions.print();
     }
 
     /// The program that judges pairs of lines says also the index and the number of compared cells.
@@ -821,6 +975,53 @@ impl Test {
                 break;
             }
         }
+    }
+}
+
+/// The memory that counting by inversions is lent.
+#[derive(Clone, PartialEq)]
+struct Memory {
+    table: Vec<u64>,
+    results: Vec<u64>,
+}
+
+impl Memory {
+    /// Numbers of which none is 0 and no two of a slice are the same.
+    fn of(lent: &Lent) -> Memory {
+        let junk = |length: usize| (1..=length as u64).map(|i| i.wrapping_mul(0x9e37_79b9_7f4a_7c15)).collect();
+        Memory { table: junk(lent.cells), results: junk(lent.results) }
+    }
+
+    /// The results that are not as they were, how many cells of the table are not, and the first of
+    /// these that do not hold 0.
+    fn since(&self, before: &Memory) -> String {
+        let changed = |now: &[u64], then: &[u64]| -> Vec<(usize, u64)> {
+            let both = now.iter().copied().zip(then).enumerate();
+            both.filter(|(_, (x, y))| x != *y).map(|(i, (x, _))| (i, x)).collect()
+        };
+        let (cells, results) = (changed(&self.table, &before.table), changed(&self.results, &before.results));
+        let others: Vec<&(usize, u64)> = cells.iter().filter(|c| c.1 != 0).take(5).collect();
+        format!("results {results:?}, {} of {} cells changed, not to 0: {others:?}", cells.len(), before.table.len())
+    }
+}
+
+impl ByInversions {
+    fn refused(&self, number: u32) -> usize {
+        self.refused.get(&number).copied().unwrap_or(0)
+    }
+
+    fn took(&mut self, time: Duration) {
+        self.calls += time;
+        self.slowest = self.slowest.max(time);
+    }
+
+    fn print(&self) {
+        let ByInversions { filled, longest, several, too_long, listed, .. } = self;
+        let refused: Vec<String> = self.refused.iter().map(|(number, count)| format!("{number}: {count}")).collect();
+        println!("calls for counts by inversions: {filled} filled, refused {}", refused.join(", "));
+        println!("  at length {LONGEST_BY_INVERSIONS}: {longest}, longer: {too_long}; with sets of positions: {several}; compared with listing: {listed}");
+        let (longest, all) = (self.slowest.as_secs_f64() * 1e3, self.calls.as_secs_f64());
+        println!("longest call of the engine for one: {longest:.1} ms; all: {all:.1} s");
     }
 }
 
