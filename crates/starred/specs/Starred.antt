@@ -1,5 +1,5 @@
--- The starred examples of document 01, and examples of orders 1 and 3 of document 02: one table,
--- and one theorem for all of it.
+-- The starred examples of document 01, and examples of orders 1, 3, 4 and 5 of document 02: one
+-- table, and one theorem for all of it.
 use Prim.Native.Nat.{ℕ, suc}
 use Prim.Native.String.{String}
 use mathlib.Core.Path.{_≡_, refl}
@@ -10,6 +10,7 @@ use lib.ListN.{length, replicate}
 use lib.Dec.{eqb}
 use Rattle.word.specs.Lists.{all, keep, each, row}
 use Rattle.word.specs.Word.{firstCopy, reduce, isPerm}
+use Rattle.word.specs.Inversions.{figures}
 use Rattle.word.specs.Told.{Told}
 use Rattle.word.specs.Earliest.{earliest, positionsOf}
 use Rattle.containment.specs.Containment.{containment}
@@ -64,6 +65,8 @@ pub data Question : Type 0 where
   -- the verdict and the count on the texts of the set and of the scheme
   judgingTexts : (patterns scheme : String) → Question
   countingTexts : (patterns scheme : String) (n : ℕ) → Question
+  -- how many avoiders of length n have 0, 1, .., n(n - 1)/2 inversions?
+  byInversions : (patterns : List (List ℕ)) (n : ℕ) → Question
 
 -- the answer of the engine to a question
 pub data Answer : Type 0 where
@@ -79,6 +82,7 @@ pub data Answer : Type 0 where
   holdsPage : (number : ℕ) (page : List ℕ) → Answer
   -- the number of a refusal, 0 for none, and its index or the value
   tells : (number : ℕ) (values : List ℕ) → Answer
+  figuresAre : List ℕ → Answer
 
 -- a row of the table: a question, and the answer of document 01
 pub record Example : Type 0 where
@@ -106,7 +110,7 @@ sevens n = replicate n 7
 unfoldable pub answer : Question → Answer
 unfolding shownWordUnder earliest countOf firstCopy isPerm reduce spacing shorterSize vectors free total children deleted merged cell
     basis mOf comparedTo comparedCellsUnder liveGap differsUnder sizesDiffer comparedWithUnder tokens tokensAfter tokenAt readPatterns
-    readEntries itemsOf same loadedPatterns loadedScheme bytes partsOfAll widthsOf
+    readEntries itemsOf same loadedPatterns loadedScheme bytes partsOfAll widthsOf figures
 answer (containsPattern w β) = contained ((containment β w) .contained)
 answer (firstEntries n u) = prefixAndSpacing (reduce u) (spacing n u)
 answer (deletion R p g) = prefixAndSpacing (deleted R p) (merged R p g)
@@ -124,6 +128,7 @@ answer (comparingUnder m E) = countIs (comparedCellsUnder m E)
 answer (judgingTexts s t) = toldAs (toldVerdict (verdictOfTexts (bytes s) (bytes t)))
 answer (countingTexts s t n) = countIs (countOf (patternsIn ((patternsAnswer (bytes s)) .patterns))
     (schemeIn ((schemeAnswer (bytes t)) .scheme)) n)
+answer (byInversions P n) = figuresAre (figures P n)
 
 -- an entry of a scheme
 abbrev entry : List ℕ → List (List ℕ) → Does → EntryList
@@ -254,6 +259,16 @@ starred =
     record { asked = judgingTexts "{132}" "{(ε,∅,∅),(1,∅,∅),(12,{⟨0,1,0⟩},{1,}),(21,∅,{1})}"; told = tells 1 (0 ∷ []) } ∷
     -- ∅ with `(12,∅,{1,2}),(21,∅,{1,2})`: n = 4 gives 24
     record { asked = countingTexts "∅" "{(ε,∅,∅),(1,∅,∅),(12,∅,{1,2}),(21,∅,{1,2})}" 4; told = countIs 24 } ∷
+    -- order 5 of document 02: the permutations of length 4 by their inversions, then those that
+    -- avoid 123, which have two or more, and those that avoid 132
+    record { asked = byInversions [] 4; told = figuresAre (1 ∷ 3 ∷ 5 ∷ 6 ∷ 5 ∷ 3 ∷ 1 ∷ []) } ∷
+    record { asked = byInversions set123 4; told = figuresAre (0 ∷ 0 ∷ 1 ∷ 4 ∷ 5 ∷ 3 ∷ 1 ∷ []) } ∷
+    record { asked = byInversions set132 4; told = figuresAre (1 ∷ 1 ∷ 2 ∷ 3 ∷ 3 ∷ 3 ∷ 1 ∷ []) } ∷
+    -- the empty permutation and that of length 1 have none, so there is one figure; {1} leaves none
+    -- of length 1
+    record { asked = byInversions [] 0; told = figuresAre (1 ∷ []) } ∷
+    record { asked = byInversions [] 1; told = figuresAre (1 ∷ []) } ∷
+    record { asked = byInversions ((1 ∷ []) ∷ []) 1; told = figuresAre (0 ∷ []) } ∷
     []
 
 -- every row of the table holds

@@ -4,7 +4,6 @@
 // positions that no text gives.
 mod avoiders;
 mod examples;
-mod need;
 mod page;
 mod sets;
 mod tally;

@@ -2,7 +2,6 @@
 // to the length 8, whether it finds the counts of the plain evaluation to the length 7, and whether
 // the table was cleared.
 use crate::avoiders::avoiders;
-use crate::need::need;
 use crate::page::Left;
 use crate::page::run;
 use count_answer::answer::Counted;
@@ -13,6 +12,7 @@ use forms::order::earlier;
 use forms::order::is_fault;
 use notation::patterns::read_patterns;
 use notation::schemes::read_scheme;
+use test_listing::need::need;
 use test_listing::permutations::LONGEST;
 use test_support::print;
 use word::refusal::number;

@@ -1,9 +1,9 @@
--- `test_counting::need::over_entries` is safe and ends: it has 128 turns at most.
+-- `test_listing::need::over_entries` is safe and ends: it has 128 turns at most.
 -- Assumes nothing.
 use borrow.Author.Needs.{needs}
 use Prim.Native.Nat.{_-_}
-use Rattle.test_counting.proofs.need.over_entries.Statement.{statement}
-use Rattle.test_counting.proofs.need.over_entries.Tie as tie
+use Rattle.test_listing.proofs.need.over_entries.Statement.{statement}
+use Rattle.test_listing.proofs.need.over_entries.Tie as tie
 
 pub over-entries-spec : {M : Type 1} → statement M
 over-entries-spec = tie.close (tie.spec

@@ -1,8 +1,8 @@
--- `test_counting::need::times` is safe and ends: what is left of the number falls. Assumes nothing.
+-- `test_listing::need::times` is safe and ends: what is left of the number falls. Assumes nothing.
 use borrow.Author.Needs.{needs}
 use Prim.Native.Nat.{_-_}
-use Rattle.test_counting.proofs.need.times.Statement.{statement}
-use Rattle.test_counting.proofs.need.times.Tie as tie
+use Rattle.test_listing.proofs.need.times.Statement.{statement}
+use Rattle.test_listing.proofs.need.times.Tie as tie
 
 pub times-spec : {M : Type 1} → statement M
 times-spec = tie.close (tie.spec

@@ -15,7 +15,7 @@ pub fn need(s: Scheme, n: usize) -> usize {
 }
 
 // n times a, for a small n.
-fn times(a: usize, n: usize) -> usize {
+pub fn times(a: usize, n: usize) -> usize {
     let mut total: usize = 0;
     let mut i: usize = 0;
     while i < n {
