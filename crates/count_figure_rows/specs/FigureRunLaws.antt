@@ -12,7 +12,7 @@ use Rattle.forms.specs.SchemeMemory.{schemeIn}
 use Rattle.forms.specs.declared.memory.Scheme.{Scheme}
 use Rattle.scheme.specs.ProperLaws.{proper}
 use Rattle.verdict.specs.Truth.{WellFormed, AllTrue}
-use Rattle.count_plan.specs.Layout.{prefixAt, widthOf, rowsOf, cellAt, numberAt, HasCell}
+use Rattle.count_plan.specs.Layout.{prefixAt, placeAt, widthOf, rowsOf, cellAt, numberAt, HasCell}
 use Rattle.count_plan.specs.ApartLaws.{cell-inside}
 use Rattle.count_plan.specs.SheetRows.{Names}
 use Rattle.count_walk.specs.Cells.{cellsOf}
@@ -45,10 +45,10 @@ module _ (P : List (List ℕ)) (s : Scheme) (formed : WellFormed P (schemeIn s))
     rows-of : f .rows ≡ rowsOf (schemeIn s)
     rows-of = o .rows-are ∙ ap (λ (x : Scheme). rowsOf (schemeIn x)) same
 
-    place-of : getD places root 0 ≡ Rattle.count_plan.specs.Layout.placeAt n s root
+    place-of : getD places root 0 ≡ placeAt n s root
     place-of =
         o .placed .at root (omega (arith, names .inside, ap (λ (x : Scheme). x .count) same)) ∙
-        ap₂ (λ (m : ℕ) (x : Scheme). Rattle.count_plan.specs.Layout.placeAt m x root) last same
+        ap₂ (λ (m : ℕ) (x : Scheme). placeAt m x root) last same
 
     rank-none : rankOf (n ∷ []) ≡ 0
     unfolding rankOf

@@ -40,11 +40,6 @@ zeros-are : (a n : ℕ) → map (λ q. let z : ℕ = 0 in z) (row a n) ≡ repli
 zeros-are a zero = refl
 zeros-are a (suc n) = ap (λ (l : List ℕ). 0 ∷ l) (zeros-are (suc a) n)
 
-pub zero-figures : (n q : ℕ) → _≡_ {A = ℕ} (getD (replicate n 0) q 0) 0
-zero-figures zero q = refl
-zero-figures (suc n) zero = refl
-zero-figures (suc n) (suc q) = zero-figures n q
-
 -- A step at the spacing G, where the figures F are zeros
 module _ (w : FigureTask) (fits : FigureTaskFits w) (parts T G : List ℕ) (whole : total G ≡ w .task .total) (F : List ℕ)
     (size : length F ≡ FIGURES) (zeros : (q : ℕ) → getD F q 0 ≡ 0) where

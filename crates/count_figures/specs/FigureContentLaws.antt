@@ -1,34 +1,22 @@
 -- Laws of the cells that hold figures: putting figures into a cell changes its numbers and no
 -- other, and a cell holds its figures at its front.
-use Prim.Native.Nat.{ℕ, zero, suc, _+_, _≤_, _<_}
+use Prim.Native.Nat.{ℕ, _+_, _≤_, _<_}
 use native.Mathlib.Omega.{arith}
-use mathlib.Core.Path.{_≡_, refl, sym, ap, _∙_}
+use mathlib.Core.Path.{_≡_, sym, ap, _∙_}
 use mathlib.Core.Logic.{_⊎_, inl, inr}
-use mathlib.Core.List.{List, [], _∷_, _++_}
+use mathlib.Core.List.{List, _++_}
 use lib.ListN.{length, getD, take, drop, length-take, length-drop}
 use lib.Seq.{take-all, take-take, take-at, drop-at, getD-take, getD-drop, length-take-le, ext-getD}
 use Rattle.word.specs.Inversions.{figureCount}
 use Rattle.word.specs.ListLaws.{below-or-not}
 use Rattle.text_page.specs.Page.{overlay}
-use Rattle.text_page.specs.PageLaws.{overlay-length, overlay-whole}
+use Rattle.text_page.specs.PageLaws.{overlay-length, overlay-whole, overlay-other}
 use Rattle.count_plan.specs.Layout.{numberAt}
 use Rattle.count_plan.specs.ApartLaws.{numbers-apart}
 use Rattle.count_walk.specs.Content.{Sound}
 use Rattle.count_figures.specs.Figures.{figuresHeld, several}
 
--- numbers written over a list change no number before or behind them
-pub overlay-other : (at : ℕ) (xs t : List ℕ) (k : ℕ) → (k < at) ⊎ (at + length xs ≤ k) → getD (overlay at xs t) k 0 ≡ getD t k 0
-overlay-other at xs [] k h = refl
-overlay-other zero [] (y ∷ t) k h = refl
-overlay-other zero (x ∷ xs) (y ∷ t) zero (inl h) = absurd (omega arith)
-overlay-other zero (x ∷ xs) (y ∷ t) zero (inr h) = absurd (omega arith)
-overlay-other zero (x ∷ xs) (y ∷ t) (suc k) (inl h) = absurd (omega arith)
-overlay-other zero (x ∷ xs) (y ∷ t) (suc k) (inr h) = overlay-other zero xs t k (inr (omega arith))
-overlay-other (suc at) xs (y ∷ t) zero h = refl
-overlay-other (suc at) xs (y ∷ t) (suc k) (inl h) = overlay-other at xs t k (inl (omega arith))
-overlay-other (suc at) xs (y ∷ t) (suc k) (inr h) = overlay-other at xs t k (inr (omega arith))
-
--- nor a part that lies before or behind them
+-- numbers written over a list change no part that lies before or behind them
 part-other : (m at b : ℕ) (xs t : List ℕ) → (b + m ≤ at) ⊎ (at + length xs ≤ b) →
     take m (drop b (overlay at xs t)) ≡ take m (drop b t)
 part-other m at b xs t h = ext-getD 0 (take m (drop b (overlay at xs t))) (take m (drop b t)) size same

@@ -12,6 +12,7 @@ use lib.Dec.{eqb}
 use borrow.Author.Tests.{eqb-true, eqb-false}
 use Rattle.word.specs.Ceilings.{COMPONENTS}
 use Rattle.word.specs.Word.{has}
+use Rattle.word.specs.ListLaws.{getD-zeros}
 use Rattle.cell.specs.Cell.{total, mergeFrom, mergeValues}
 use Rattle.spacing.specs.Flagged.{flagged}
 use Rattle.spacing.specs.FlaggedLaws.{flag-there, flag-missing}
@@ -40,14 +41,9 @@ merging-start vs (x ∷ g) k h =
       none = λ (i : ℕ) (l : 0 < i). later i l;
     })
   where
-    zeros : (n i : ℕ) → _≡_ {A = ℕ} (getD (replicate n 0) i 0) 0
-    zeros zero i = refl
-    zeros (suc n) zero = refl
-    zeros (suc n) (suc i) = zeros n i
-
     later : (i : ℕ) → 0 < i → _≡_ {A = ℕ} (getD (set (replicate COMPONENTS 0) 0 x) i 0) 0
     later zero l = absurd (omega arith)
-    later (suc i) l = zeros 6 i
+    later (suc i) l = getD-zeros 6 i
 
 -- one component more of what is still to come
 joins : (vs : List ℕ) (v x y : ℕ) (l : List ℕ) → has v vs ≡ true → mergeFrom vs v x (y ∷ l) ≡ mergeFrom vs (suc v) (x + y) l

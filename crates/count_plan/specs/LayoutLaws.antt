@@ -10,7 +10,7 @@ use lib.ListN.{length, getD, set, replicate, length-set, length-replicate}
 use lib.Seq.{getD-set-same, getD-set-other}
 use Rattle.word.specs.Ceilings.{ENTRIES, PREFIX, COMPONENTS, GAPS, LENGTH}
 use Rattle.word.specs.Lists.{row}
-use Rattle.word.specs.ListLaws.{same-or-not, row-in}
+use Rattle.word.specs.ListLaws.{same-or-not, row-in, getD-zeros}
 use Rattle.cell.specs.Cell.{total}
 use Rattle.cell.specs.Binomial.{binomial}
 use Rattle.spacing.specs.Sizes.{CHOICES, NEAR}
@@ -120,13 +120,8 @@ places-start n s =
       size = length-replicate {A = ℕ} (ENTRIES + 1) 0;
       upto = λ (d : ℕ) (h : d ≤ 0). let z : d ≡ 0 = omega arith in rw z refl;
       here = refl;
-      near = λ (d : ℕ). go (ENTRIES + 1) d;
+      near = λ (d : ℕ). omega (arith, getD-zeros (ENTRIES + 1) d);
     }
-  where
-    go : (m d : ℕ) → getD (replicate m 0) d 0 ≤ NEAR
-    go zero d = omega arith
-    go (suc m) zero = omega arith
-    go (suc m) (suc d) = go m d
 
 pub places-more : (n : ℕ) (s : Scheme) (i : ℕ) (places : List ℕ) (at c : ℕ) → PlacesTo n s i places at →
     i < ENTRIES → n ≤ LENGTH → c ≡ binomial n

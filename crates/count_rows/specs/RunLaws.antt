@@ -9,7 +9,7 @@ use mathlib.Core.List.{List, [], _∷_, _++_}
 use lib.ListN.{length, getD, set, drop, replicate, length-set, length-drop, length-replicate}
 use lib.Seq.{getD-set-same, getD-set-other, getD-drop, drop-cons, set-at, ext-getD}
 use Rattle.word.specs.Ceilings.{LENGTH, COUNTS}
-use Rattle.word.specs.ListLaws.{below-or-not}
+use Rattle.word.specs.ListLaws.{below-or-not, getD-zeros}
 use Rattle.cell.specs.Cell.{total}
 use Rattle.forms.specs.SchemeMemory.{schemeIn}
 use Rattle.forms.specs.declared.memory.Scheme.{Scheme}
@@ -64,18 +64,13 @@ module _ (P : List (List ℕ)) (s : Scheme) (formed : WellFormed P (schemeIn s))
 
 -- The values row by row
 
-zeros : (m i : ℕ) → _≡_ {A = ℕ} (getD (replicate m 0) i 0) 0
-zeros zero i = refl
-zeros (suc m) zero = refl
-zeros (suc m) (suc i) = zeros m i
-
 module _ (P : List (List ℕ)) (n : ℕ) (s : Scheme) (root : ℕ) (T : List ℕ) where
   pub values-start : ValuesTo P n s root T 0 (replicate COUNTS 0)
   values-start =
       record {
         size = length-replicate {A = ℕ} COUNTS 0;
         below = λ (i : ℕ) (h : i < 0). absurd (omega arith);
-        rest = λ (i : ℕ) (h : 0 ≤ i). zeros COUNTS i;
+        rest = λ (i : ℕ) (h : 0 ≤ i). getD-zeros COUNTS i;
       }
 
   pub values-more : (j x : ℕ) (values : List ℕ) → j < COUNTS → x ≡ rootValue P n s root T j → ValuesTo P n s root T j values →

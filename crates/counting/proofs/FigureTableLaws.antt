@@ -1,15 +1,13 @@
 -- What counting by inversions in a measured table is given, and what it gives.
 -- Assumes nothing.
-use Prim.Native.Nat.{ℕ, _+_, _*_, _≤_}
+use Prim.Native.Nat.{ℕ, _*_, _≤_}
 use native.Mathlib.Omega.{arith}
-use native.Mathlib.Nat.{zero-add, mul-le-mul-right}
+use native.Mathlib.Nat.{mul-le-mul-right}
 use mathlib.Core.Path.{_≡_, refl, ap, ap₂, _∙_}
-use mathlib.Core.List.{List, [], _++_}
-use lib.ListN.{length, drop}
+use mathlib.Core.List.{List, []}
+use lib.ListN.{length}
 use Rattle.word.specs.Ceilings.{FIGURES}
 use Rattle.word.specs.Inversions.{figureCount, figures}
-use Rattle.text_page.specs.Page.{overlay}
-use Rattle.text_page.specs.PageLaws.{overlay-whole}
 use Rattle.spacing.specs.Sizes.{FAR}
 use Rattle.forms.specs.SchemeMemory.{patternsIn, schemeIn}
 use Rattle.forms.specs.declared.memory.Patterns.{Patterns}
@@ -32,12 +30,6 @@ use Rattle.count_figure_answer.specs.FigureCounting.{figureNeed}
 use Rattle.count_figure_answer.specs.FigureMeasuring.{FiguresGiven}
 use Rattle.count_figure_answer.proofs.FigureMeasureLaws.{figure-need}
 use Rattle.counting.proofs.TableLaws.{framed-by}
-
--- numbers over the front of a slice that is long enough
-pub front-over : (x r : List ℕ) → length x ≤ length r → overlay 0 x r ≡ x ++ drop (length x) r
-front-over x r h =
-    let e : 0 + length x ≡ length x = zero-add (length x) in
-    overlay-whole 0 x r (omega arith) ∙ ap (λ m. x ++ drop m r) e
 
 module _ (patterns : Patterns) (s : Scheme) (m : Measure) (T R : List ℕ) (g : FiguresGiven patterns s m T R)
     (sheet : List ℕ) (t : SheetTo (patternsIn patterns) s (s .count) sheet) where

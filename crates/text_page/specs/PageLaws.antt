@@ -1,10 +1,11 @@
 -- Laws of a page with bytes written over it, and of writing one part after another.
-use Prim.Native.Nat.{ℕ, zero, suc, _+_, _≤_}
+use Prim.Native.Nat.{ℕ, zero, suc, _+_, _≤_, _<_}
 use native.Mathlib.Nat.{suc-add, add-suc, zero-add}
 use native.Mathlib.Omega.{arith}
 use mathlib.Core.Path.{_≡_, refl, sym, ap, _∙_}
+use mathlib.Core.Logic.{_⊎_, inl, inr}
 use mathlib.Core.List.{List, [], _∷_, _++_}
-use lib.ListN.{length, take, drop, set, length-append}
+use lib.ListN.{length, getD, take, drop, set, length-append}
 use lib.Seq.{set-out}
 use Rattle.text_page.specs.Page.{overlay, Writes, Room}
 
@@ -40,6 +41,18 @@ overlay-whole (suc at) xs [] h = absurd (omega arith)
 overlay-whole zero [] (y ∷ t) h = refl
 overlay-whole zero (x ∷ xs) (y ∷ t) h = rw (add-suc 0 (length xs)) (ap (λ (l : List ℕ). x ∷ l) (overlay-whole zero xs t (omega arith)))
 overlay-whole (suc at) xs (y ∷ t) h = rw (suc-add at (length xs)) (ap (λ (l : List ℕ). y ∷ l) (overlay-whole at xs t (omega arith)))
+
+-- no number before the bytes or behind them is changed
+pub overlay-other : (at : ℕ) (xs t : List ℕ) (k : ℕ) → (k < at) ⊎ (at + length xs ≤ k) → getD (overlay at xs t) k 0 ≡ getD t k 0
+overlay-other at xs [] k h = refl
+overlay-other zero [] (y ∷ t) k h = refl
+overlay-other zero (x ∷ xs) (y ∷ t) zero (inl h) = absurd (omega arith)
+overlay-other zero (x ∷ xs) (y ∷ t) zero (inr h) = absurd (omega arith)
+overlay-other zero (x ∷ xs) (y ∷ t) (suc k) (inl h) = absurd (omega arith)
+overlay-other zero (x ∷ xs) (y ∷ t) (suc k) (inr h) = overlay-other zero xs t k (inr (omega arith))
+overlay-other (suc at) xs (y ∷ t) zero h = refl
+overlay-other (suc at) xs (y ∷ t) (suc k) (inl h) = overlay-other at xs t k (inl (omega arith))
+overlay-other (suc at) xs (y ∷ t) (suc k) (inr h) = overlay-other at xs t k (inr (omega arith))
 
 -- one byte
 

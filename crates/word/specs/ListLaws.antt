@@ -11,7 +11,7 @@ use mathlib.Core.List.{List·Memᴰ·cases-cons, List·Memᴰ·append-cases, Lis
 use mathlib.Core.List.{Memᴰ·cast, Memᴰ·append-left, Memᴰ·append-right, Memᴰ·map, Memᴰ·of-map}
 use mathlib.Core.List.{Sublistᴰ, Sublistᴰ·slnil, Sublistᴰ·cons, Sublistᴰ·cons-cons, Sublistᴰ·nil-sublist}
 use mathlib.Core.Option.{some}
-use lib.ListN.{length, getD, length-append}
+use lib.ListN.{length, getD, replicate, length-append}
 use lib.Dec.{ltb, eqb}
 use borrow.Author.Tests.{ltb-true, ltb-false, eqb-true, eqb-false}
 use Rattle.word.specs.Lists.{all, any, keep, first, each, sublists, row}
@@ -295,3 +295,9 @@ row-in a (suc n) x h k = step (below-or-not a x) (λ (p : suc a ≤ x) (q : x < 
     step : (a < x) ⊎ (x ≤ a) → (suc a ≤ x → x < suc a + n → List·Memᴰ x (row (suc a) n)) → List·Memᴰ x (a ∷ row (suc a) n)
     step (inl p) below = List·Memᴰ·tail (below p (omega arith))
     step (inr p) below = let q : x ≡ a = omega arith in List·Memᴰ·head q
+
+-- a list of zeros, read at any place
+pub getD-zeros : (n i : ℕ) → _≡_ {A = ℕ} (getD (replicate n 0) i 0) 0
+getD-zeros zero i = refl
+getD-zeros (suc n) zero = refl
+getD-zeros (suc n) (suc i) = getD-zeros n i

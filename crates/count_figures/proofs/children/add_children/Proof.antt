@@ -11,7 +11,7 @@ use mathlib.Core.Path.{_≡_, refl, sym, ap, _∙_, subst}
 use mathlib.Core.List.{List, [], _++_, map}
 use lib.ListN.{length, getD, take, drop, length-map}
 use lib.Seq.{length-take-le, getD-take, drop-cons}
-use Rattle.word.specs.Ceilings.{COMPONENTS, LENGTH}
+use Rattle.word.specs.Ceilings.{COMPONENTS, LENGTH, COLUMNS}
 use Rattle.word.specs.Lists.{row}
 use Rattle.word.specs.ListLaws.{length-row}
 use Rattle.cell.specs.Cell.{total}
@@ -19,10 +19,11 @@ use Rattle.cell.specs.Binomial.{binomial}
 use Rattle.spacing.specs.PascalLaws.{binomial-small}
 use Rattle.spacing.specs.Sizes.{CHOICES, RANKS, FAR}
 use Rattle.count_step.specs.Sums.{partPlaces, placesOf}
+use Rattle.count_step.specs.Task.{REACH}
 use Rattle.count_step.proofs.SumLaws.{Coming, coming-start, above-small, component-small, above-enough, coming-more, coming-end}
 use Rattle.count_figures.specs.Figures.{spreadAt}
 use Rattle.count_figures.specs.Adding.{Adds}
-use Rattle.count_figures.specs.Steps.{numbersFrom}
+use Rattle.count_figures.specs.Steps.{numbersFrom, PartFits}
 use Rattle.count_figures.specs.declared.children.Shape.{Shape}
 use Rattle.count_figures.proofs.AddLaws.{Left, left-part, left-end}
 use Rattle.count_figures.proofs.children.add_children.Statement.{statement}
@@ -146,6 +147,24 @@ loop-holds c =
 near : (o : Loop) (j : ℕ) → getD (first o .args .task .links) j 0 ≤ FAR
 near o j = first o .pre .0 .fits .near j
 
+-- what the children in a component are given, which has x values
+part-fits : (o : Loop) (x at col : ℕ) → x ≡ getD (spacing (first o)) (o .loop .i) 0 → at ≤ REACH → col < COLUMNS →
+    PartFits (record { at = at; col = col; first = o .loop .z; values = x; moved = o .loop .moved }) (first o .args .shape)
+    (length (o .loop .figures))
+part-fits o x at col is near low =
+    let start = first o in
+    let a = start .args in
+    let l = o .loop in
+    let fits = component-small (a .task .links) (spacing start) (a .task .length) (spacing-size start) (kept o)
+    (l .above) (l .below) (l .z) (l .i) (l .inv .coming) x is in
+    record {
+      near = near;
+      col = low;
+      sum = omega (arith, fits);
+      few = start .pre .0 .few;
+      room = omega (arith, moved-low o x is, start .pre .0 .room, l .inv .size);
+    }
+
 add-t28 : tie.Need-add-t28 Inv-loop μ-loop
 add-t28 c =
     let o = c .before .before in
@@ -160,21 +179,12 @@ add-part-requires : tie.Need-add-part-requires Inv-loop μ-loop
 add-part-requires c κs =
     let at-wide = c .before in
     let o = at-wide .before .before in
-    let start = first o in
+    let p = first o .pre in
     let l = o .loop in (
-      record {
-        near = omega (arith, start .pre .0 .fits .short, above-fits o, l .inv .coming .low, l .inv .coming .reach, near o (l .i));
-        col = omega (arith, start .pre .0 .fits .short);
-        sum = omega (arith, component-fits at-wide);
-        few = start .pre .0 .few;
-        room = omega (
-          arith,
-          moved-low o (at-wide .wide .result) (component at-wide),
-          start .pre .0 .room,
-          l .inv .size,
-        );
-      },
-      start .pre .1,
+      part-fits o (at-wide .wide .result) _ _ (component at-wide)
+          (omega (arith, p .0 .fits .short, above-fits o, l .inv .coming .low, l .inv .coming .reach, near o (l .i)))
+          (omega (arith, p .0 .fits .short)),
+      p .1,
     )
 
 add-moved : tie.Need-add-moved Inv-loop μ-loop
@@ -276,24 +286,12 @@ add-part-requires-2 : tie.Need-add-part-requires-2 Inv-loop μ-loop
 add-part-requires-2 c κs =
     let at-wide2 = c .before in
     let o = at-wide2 .before .before in
-    let start = first o in
-    let a = start .args in
-    let l = o .loop in
-    let fits = component-small (a .task .links) (spacing start) (a .task .length) (spacing-size start) (kept o)
-    (l .above) (l .below) (l .z) (l .i) (l .inv .coming) (at-wide2 .wide2 .result) (last at-wide2) in (
-      record {
-        near = omega (arith, start .pre .0 .fits .short, l .inv .coming .low, l .inv .coming .reach, near o (a .task .length));
-        col = omega (arith, start .pre .0 .fits .short);
-        sum = omega (arith, fits);
-        few = start .pre .0 .few;
-        room = omega (
-          arith,
-          moved-low o (at-wide2 .wide2 .result) (last at-wide2),
-          start .pre .0 .room,
-          l .inv .size,
-        );
-      },
-      start .pre .1,
+    let p = first o .pre in
+    let l = o .loop in (
+      part-fits o (at-wide2 .wide2 .result) _ _ (last at-wide2)
+          (omega (arith, p .0 .fits .short, l .inv .coming .low, l .inv .coming .reach, near o (first o .args .task .length)))
+          (omega (arith, p .0 .fits .short)),
+      p .1,
     )
 
 same-length : tie.Need-same-length Inv-loop μ-loop

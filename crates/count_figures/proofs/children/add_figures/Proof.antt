@@ -6,6 +6,7 @@ use native.Mathlib.Nat.{mul-le-mul-right}
 use Prim.Native.Nat.{ℕ, _+_, _-_, _≤_}
 use mathlib.Core.Path.{_≡_, refl, sym, _∙_}
 use mathlib.Core.Bool.{true}
+use mathlib.Core.List.{List}
 use lib.ListN.{length, getD, take}
 use borrow.Author.Tests.{not-true, not-false}
 use Rattle.word.specs.Ceilings.{FIGURES}
@@ -23,14 +24,27 @@ use Rattle.count_figures.proofs.children.add_figures.Tie as tie
 abbrev shape : FigureTask → Shape
 shape w = record { numbers = w .numbers; figures = w .figures - (w .task .total - 1) }
 
+-- the first place, and the spacing
+abbrev first : tie.After-is-free → tie.Start
+first o = o .before .before .before .before .before .before
+
+abbrev spacing : tie.Start → List ℕ
+spacing start = take (start .args .work .task .length + 1) (start .args .g)
+
+-- where no gap vector covers the spacing
+uncovered : (o : tie.Else1) →
+    let a = first (o .before) .args in
+    let t = a .work .task in
+    free (gapsOf (now (a .gaps)) (t .length + 1) (t .«gap_count»)) (spacing (first (o .before))) ≡ true
+uncovered o = sym (o .before .is-free .ensures) ∙ not-false (o .before .is-free .result) (o .if1 .left)
+
 returns : tie.Need-returns
 returns c =
-    let start = c .before .before .before .before .before .before .before in
+    let start = first (c .before) in
     let a = start .args in
     let p = start .pre in
-    case-covered (a .work) (p .0) (now (a .gaps)) (now (a .table)) (take (a .work .task .length + 1) (a .g)) (p .2) (now (a .figures))
-    (p .4)
-    (p .5) (sym (c .before .is-free .ensures) ∙ not-true (c .before .is-free .result) (c .if1 .taken))
+    case-covered (a .work) (p .0) (now (a .gaps)) (now (a .table)) (spacing start) (p .2) (now (a .figures)) (p .4) (p .5)
+    (sym (c .before .is-free .ensures) ∙ not-true (c .before .is-free .result) (c .if1 .taken))
 
 add-add-moved : tie.Need-add-add-moved
 add-add-moved c =
@@ -57,33 +71,23 @@ returns-2 c =
     let at-rank = at-add-moved .before .before .before in
     let at-if2 = at-rank .before .before .before in
     let at-if1 = at-if2 .before .before in
-    let at-is-free = at-if1 .before in
-    let start = at-is-free .before .before .before .before .before .before in
+    let start = first (at-if1 .before) in
     let a = start .args in
     let p = start .pre in
-    let t = a .work .task in
-    let G = take (t .length + 1) (a .g) in
-    let fr : free (gapsOf (now (a .gaps)) (t .length + 1) (t .«gap_count»)) G ≡ true =
-    sym (at-is-free .is-free .ensures) ∙ not-false (at-is-free .is-free .result) (at-if1 .if1 .left) in
     let len : length (at-add-moved .add-moved .last .0) ≡ length (now (a .figures)) = search needs in
-    case-deletes (a .work) (p .0) (now (a .gaps)) (now (a .table)) G (p .2) (now (a .figures)) (p .4) (p .5)
-    (at-rank .rank-without .result) fr
+    case-deletes (a .work) (p .0) (now (a .gaps)) (now (a .table)) (spacing start) (p .2) (now (a .figures)) (p .4) (p .5)
+    (at-rank .rank-without .result) (uncovered at-if1)
     (at-if2 .if2 .taken) (at-rank .rank-without .ensures .0) (at-add-moved .add-moved .last .0) len (at-add-moved .add-moved .ensures)
 
 returns-3 : tie.Need-returns-3
 returns-3 c =
     let at-if2 = c .before .before in
     let at-if1 = at-if2 .before .before in
-    let at-is-free = at-if1 .before in
-    let start = at-is-free .before .before .before .before .before .before in
+    let start = first (at-if1 .before) in
     let a = start .args in
     let p = start .pre in
-    let t = a .work .task in
-    let G = take (t .length + 1) (a .g) in
-    let fr : free (gapsOf (now (a .gaps)) (t .length + 1) (t .«gap_count»)) G ≡ true =
-    sym (at-is-free .is-free .ensures) ∙ not-false (at-is-free .is-free .result) (at-if1 .if1 .left) in
-    case-alone (a .work) (p .0) (now (a .gaps)) (now (a .table)) G (p .2) (now (a .figures)) (p .4) (p .5) fr (at-if2 .if2 .left)
-    (p .2 ∙ c .if3 .taken)
+    case-alone (a .work) (p .0) (now (a .gaps)) (now (a .table)) (spacing start) (p .2) (now (a .figures)) (p .4) (p .5)
+    (uncovered at-if1) (at-if2 .if2 .left) (p .2 ∙ c .if3 .taken)
 
 sub-t24 : tie.Need-sub-t24
 sub-t24 c = omega arith
@@ -93,20 +97,19 @@ sub-t25 c =
     let start = c .before .before .before .before .before .before .before .before .before .before .before .before .before in
     let a = start .args in
     let p = start .pre in
-    enough-figures (a .work) (p .0) (now (a .gaps)) (now (a .table)) (take (a .work .task .length + 1) (a .g)) (p .2) (now (a .figures))
-    (p .4) (p .5) (c .before .before .if3 .left)
+    enough-figures (a .work) (p .0) (now (a .gaps)) (now (a .table)) (spacing start) (p .2) (now (a .figures)) (p .4) (p .5)
+    (c .before .before .if3 .left)
 
 add-children-requires : tie.Need-add-children-requires
 add-children-requires c κs =
     let start = c .before .before .before .before .before .before .before .before .before .before .before .before .before .before in
     let a = start .args in
-    let p = start .pre in
-    let G = take (a .work .task .length + 1) (a .g) in (
+    let p = start .pre in (
       record {
         fits = p .0 .fits;
         whole = p .2;
         few = p .0 .few;
-        room = child-room (a .work) (p .0) (now (a .gaps)) (now (a .table)) G (p .2) (now (a .figures)) (p .4) (p .5)
+        room = child-room (a .work) (p .0) (now (a .gaps)) (now (a .table)) (spacing start) (p .2) (now (a .figures)) (p .4) (p .5)
             (λ e. c .before .before .before .if3 .left (sym (p .2) ∙ e)) (shape (a .work)) refl refl;
       },
       p .3,
@@ -118,17 +121,12 @@ returns-4 c =
     let at-if3 = at-add-children .before .before .before .before in
     let at-if2 = at-if3 .before .before in
     let at-if1 = at-if2 .before .before in
-    let at-is-free = at-if1 .before in
-    let start = at-is-free .before .before .before .before .before .before in
+    let start = first (at-if1 .before) in
     let a = start .args in
     let p = start .pre in
-    let t = a .work .task in
-    let G = take (t .length + 1) (a .g) in
-    let fr : free (gapsOf (now (a .gaps)) (t .length + 1) (t .«gap_count»)) G ≡ true =
-    sym (at-is-free .is-free .ensures) ∙ not-false (at-is-free .is-free .result) (at-if1 .if1 .left) in
     let len : length (at-add-children .add-children .last .0) ≡ length (now (a .figures)) = search needs in
-    case-children (a .work) (p .0) (now (a .gaps)) (now (a .table)) G (p .2) (now (a .figures)) (p .4) (p .5)
-    (λ e. at-if3 .if3 .left (sym (p .2) ∙ e)) (shape (a .work)) refl refl fr (at-if2 .if2 .left)
+    case-children (a .work) (p .0) (now (a .gaps)) (now (a .table)) (spacing start) (p .2) (now (a .figures)) (p .4) (p .5)
+    (λ e. at-if3 .if3 .left (sym (p .2) ∙ e)) (shape (a .work)) refl refl (uncovered at-if1) (at-if2 .if2 .left)
     (at-add-children .add-children .last .0) len
     (at-add-children .add-children .ensures)
 

@@ -10,8 +10,8 @@ use mathlib.Core.List.{List}
 use lib.ListN.{length, take, length-take, length-replicate}
 use lib.Seq.{take-all}
 use Rattle.word.specs.Ceilings.{FIGURES}
+use Rattle.word.specs.ListLaws.{getD-zeros}
 use Rattle.text_page.specs.Page.{overlay}
-use Rattle.count_figures.proofs.CaseLaws.{zero-figures}
 use Rattle.count_figures.proofs.filling.fill_one.Statement.{statement}
 use Rattle.count_figures.proofs.filling.fill_one.Tie as tie
 
@@ -19,7 +19,7 @@ add-figures-requires : tie.Need-add-figures-requires
 add-figures-requires c κs =
     let start = c .before .before .before .before .before in
     let p = start .pre in
-    (p .0, p .1, p .2, p .3, length-replicate {A = ℕ} FIGURES 0, zero-figures FIGURES)
+    (p .0, p .1, p .2, p .3, length-replicate {A = ℕ} FIGURES 0, getD-zeros FIGURES)
 
 mul-put-figures : tie.Need-mul-put-figures
 mul-put-figures c =

@@ -3,14 +3,15 @@
 -- Assumes nothing.
 use denote.Ref.{now}
 use native.Mathlib.Omega.{arith}
-use Prim.Native.Nat.{ℕ, _≤_}
-use mathlib.Core.Path.{_≡_, sym, ap, _∙_}
+use Prim.Native.Nat.{ℕ, _+_, _≤_}
+use mathlib.Core.Path.{_≡_, refl, sym, ap, _∙_}
 use mathlib.Core.Bool.{false}
 use mathlib.Core.List.{List}
 use lib.ListN.{length}
 use Rattle.word.specs.Ceilings.{REFINED}
 use Rattle.word.specs.Inversions.{figureCount, figures}
 use Rattle.text_page.specs.Page.{overlay}
+use Rattle.text_page.specs.PageLaws.{page-after}
 use Rattle.word.specs.Finding.{firstFault}
 use Rattle.forms.specs.SchemeList.{EntryList}
 use Rattle.forms.specs.SchemeMemory.{patternsIn, schemeIn, faultOf, faulty}
@@ -22,7 +23,6 @@ use Rattle.count_answer.specs.CountLaws.{verdict-fault, clean-accepts}
 use Rattle.count_figure_answer.specs.FigureCounting.{figureNeed}
 use Rattle.count_figure_answer.specs.FigureCountLaws.{figures-length, refused-judging, refused-slices, served, done}
 use Rattle.count_figure_answer.proofs.FigureMeasureLaws.{given-of, last-is}
-use Rattle.counting.proofs.FigureTableLaws.{front-over}
 use borrow.Author.Needs.{needs}
 use Rattle.counting.proofs.by_inversions.count_by_inversions.Statement.{statement}
 use Rattle.counting.proofs.by_inversions.count_by_inversions.Tie as tie
@@ -125,7 +125,9 @@ returns-3 c =
     (judged o) (m .result .fault) (m .ensures .found) (clean o) _ _ (c .before .figure-count .result) (c .figures-or3 .result)
     (wrote .ensures .0 ∙ ap (λ k. cleared (figureNeed k (E o)) (now (a .table))) (last o))
     (wrote .ensures .1 ∙ ap (λ k. overlay 0 (figures (P o) k) (now (a .results))) (last o) ∙
-    front-over (figures (P o) (a .n)) (now (a .results)) (omega (arith, figures-length (P o) (a .n), good o .2)))
+    page-after {xs = figures (P o) (a .n)} {t = now (a .results)} {u = overlay 0 (figures (P o) (a .n)) (now (a .results))}
+    {next = 0 + length (figures (P o) (a .n))} (record { moved = refl; page = refl })
+    (omega (arith, figures-length (P o) (a .n), good o .2)))
     (c .before .figure-count .ensures) (c .figures-or3 .ensures)
 
 pub count-by-inversions-spec : {M : Type 1} → statement M
