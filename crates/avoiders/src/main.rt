@@ -1,6 +1,8 @@
 // The program for avoiders: reads a set of patterns and a length from standard input, and prints
 // each avoider of that length on a line, in lexicographic order, or the line of a refusal. Where
 // reading or writing fails it says so on standard error.
+#![tactic(auto)]
+
 use avoider_lines::judging::asked_for;
 use avoider_lines::writing::write_avoiders;
 use forms::memory::{Fault, Patterns};

@@ -1,5 +1,7 @@
 // The basis of a pattern set in memory: the patterns that contain no other pattern of the set; and
 // the length of the longest pattern of a set.
+#![tactic(auto)]
+
 ghost use Rattle.std.specs.Prelude.{◌≤◌, max, ◌≡◌, not, ◌||◌, length, take};
 ghost use Rattle.word.specs.Word.{contains, longest};
 ghost use Rattle.word.specs.Patterns.{patterns_of};

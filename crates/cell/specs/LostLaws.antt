@@ -3,7 +3,7 @@ use Prim.Native.Nat.{ℕ, zero, suc, ◌+◌, ◌≤◌, ◌<◌}
 use Rattle.std.proofs.Math.Nat.{add-zero}
 use native.Mathlib.Omega.{arith}
 use Rattle.std.specs.Prelude.{◌≡◌, refl, ◌⊎◌, Bool, cond, get_or, leb, ltb}
-use Rattle.std.proofs.Common.{sym, ap, ap₂, ◌∙◌, inl, inr}
+use Rattle.std.proofs.Common.{subst, sym, ap, ap₂, ◌∙◌, inl, inr}
 use Rattle.std.proofs.Math.Bool.{true, false}
 use mathlib.Core.List.{List, [], ◌∷◌, ◌++◌, map, map-map, Memᴰ}
 use Rattle.std.proofs.Math.ListN.{length}
@@ -83,12 +83,18 @@ module _ (f : ℕ → ℕ) where
   unfolding without_from total
   from_more R i [] j e h = absurd (omega arith)
   from_more R i (x ∷ w) zero e h =
-      let z : i + 0 ≡ i = add-zero i in
-      rw z (rw (rw z at e, eq-eqb i i refl) (ap (λ (v : List ℕ). f x + total (map f v)) (sym (from_passed i (suc i) R w (omega arith)))))
+      subst (λ (k : ℕ). total (map f (without_from R i (x ∷ w))) ≡ f x + total (map f (without_from (k ∷ R) i (x ∷ w))))
+      (sym (add-zero i)) (here (subst (λ (k : ℕ). has k R ≡ false) (add-zero i) e))
+    where
+      here : has i R ≡ false → total (map f (without_from R i (x ∷ w))) ≡ f x + total (map f (without_from (i ∷ R) i (x ∷ w)))
+      here q = rw (q, eq-eqb i i refl)
+          (ap (λ (v : List ℕ). f x + total (map f v)) (sym (from_passed i (suc i) R w (omega arith))))
   from_more R i (x ∷ w) (suc j) e h =
       let z : i + suc j ≡ suc i + j = omega arith in
-      rw (z, ne_eqb i (suc i + j) (λ (q : i ≡ suc i + j). omega arith))
-      (go (has i R) (from_more R (suc i) w j (rw z at e) (omega arith)))
+      subst (λ (k : ℕ). total (map f (without_from R i (x ∷ w))) ≡ f (get_or w j 0) + total (map f (without_from (k ∷ R) i (x ∷ w))))
+      (sym z)
+      (rw (ne_eqb i (suc i + j) (λ (q : i ≡ suc i + j). omega arith))
+      (go (has i R) (from_more R (suc i) w j (subst (λ (k : ℕ). has k R ≡ false) z e) (omega arith))))
     where
       go : (b : Bool) →
           total (map f (without_from R (suc i) w)) ≡ f (get_or w j 0) + total (map f (without_from ((suc i + j) ∷ R) (suc i) w)) →

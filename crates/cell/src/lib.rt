@@ -1,1 +1,2 @@
 // Cells: the definitions, the claims, and the theorems on them, in specs/.
+#![tactic(auto)]

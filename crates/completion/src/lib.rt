@@ -1,5 +1,7 @@
 // The emptiness search: whether a word of first entries can be completed to an avoider of a given
 // length.
+#![tactic(auto)]
+
 ghost use Rattle.std.specs.Prelude.{◌≡◌, true, not, [], ◌∷◌, ◌++◌, ◌+◌, ◌≤◌, ◌<◌, take};
 ghost use Rattle.word.specs.Ceilings.{WORD};
 ghost use Rattle.word.specs.Word.{avoids, has};

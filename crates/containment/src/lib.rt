@@ -1,5 +1,7 @@
 // The public operation `contains`; whether a word contains a pattern of a set, and the earliest
 // that it contains.
+#![tactic(auto)]
+
 ghost use Rattle.std.specs.Prelude.{◌≡◌, not, length, take};
 ghost use Rattle.std.proofs.Math.Option.{none};
 ghost use Rattle.word.specs.Ceilings.{DIGITS};

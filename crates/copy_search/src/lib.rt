@@ -1,4 +1,6 @@
 // The search for the lexicographically first copy of a pattern in a word.
+#![tactic(auto)]
+
 ghost use Rattle.std.specs.Prelude.{◌≡◌, min, take};
 ghost use Rattle.word.specs.Ceilings.{DIGITS};
 ghost use Rattle.word.specs.Word.{first_copy};

@@ -1,3 +1,5 @@
 // What counting answers: the refusals of n and of the table, the layout, the answer.
+#![tactic(auto)]
+
 pub mod answer;
 pub mod measure;

@@ -1,4 +1,6 @@
 // The plain evaluation: counting without a table.
+#![tactic(auto)]
+
 pub mod counting;
 pub mod evaluation;
 pub mod reading;

@@ -1,4 +1,6 @@
 // The test by which a word with too many unused values between two bounds cannot be completed.
+#![tactic(auto)]
+
 ghost use Rattle.std.specs.Prelude.{◌≡◌, ◌&&◌, cond, ◌-◌, ◌*◌, ◌≤◌, ◌<◌, take, drop, get_or};
 ghost use Rattle.word.specs.Ceilings.{DIGITS, WORD};
 ghost use Rattle.word.specs.Patterns.{patterns_of};

@@ -1,5 +1,7 @@
 // The search that puts the unused values in, one after the other, each at any place behind the
 // given entries.
+#![tactic(auto)]
+
 ghost use Rattle.std.specs.Prelude.{◌≡◌, true, false, cond, ◌||◌, ◌-◌, ◌≤◌, eqb, take};
 ghost use Rattle.word.specs.Ceilings.{WORD};
 ghost use Rattle.word.specs.Word.{is_perm};

@@ -1,5 +1,7 @@
 // Judging two texts: the set's text, then the scheme's, then the claims; with a lent page, and
 // without one.
+#![tactic(auto)]
+
 ghost use Rattle.judge_texts.specs.TextJudgement.{JudgesTexts, JudgesTextsWithoutPage, JudgesAndReads};
 
 use forms::memory::{Patterns, Scheme};

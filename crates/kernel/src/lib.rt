@@ -1,4 +1,6 @@
 // The call from C: "it calls the judge with two texts" (01).
+#![tactic(auto)]
+
 ghost use Rattle.std.specs.Prelude.{◌≡◌};
 ghost use Rattle.verdict.specs.Verdict.{told_verdict};
 ghost use Rattle.kernel.specs.Call.{Called};

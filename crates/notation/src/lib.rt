@@ -1,4 +1,6 @@
 // The published notation, read and written: the public operations.
+#![tactic(auto)]
+
 pub mod patterns;
 pub mod schemes;
 pub mod written;

@@ -1,4 +1,6 @@
 // The tests 2 to 4 of a pattern list in memory.
+#![tactic(auto)]
+
 ghost use Rattle.std.specs.Prelude.{◌≤◌, ◌<◌, ◌≡◌, not, [], length, ltb};
 ghost use Rattle.word.specs.Ceilings.{DIGITS, PATTERNS};
 ghost use Rattle.word.specs.Patterns.{is_pattern};

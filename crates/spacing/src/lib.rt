@@ -1,5 +1,7 @@
 // The spacings of one total in lexicographic order, and the number of compared spacings of an
 // entry; binomials, the rank of a spacing, and the spacing that comes next by rank.
+#![tactic(auto)]
+
 pub mod binomials;
 pub mod walk;
 

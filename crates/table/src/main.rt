@@ -1,5 +1,7 @@
 // The table program: reads a set, a scheme and the largest length from standard input, and prints a
 // b-file or the line of a refusal. Where reading or writing fails it says so on standard error.
+#![tactic(auto)]
+
 use libc::STDOUT_FILENO;
 use table_lines::input::{Lines, SCHEME, SET};
 use table_print::printing::print;

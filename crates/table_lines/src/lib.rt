@@ -1,2 +1,4 @@
 // What is kept of an input of three lines.
+#![tactic(auto)]
+
 pub mod input;

@@ -1,5 +1,7 @@
 // Standard input, read to its end: what is kept with the bytes that each read brings, and whether
 // there may be more.
+#![tactic(auto)]
+
 ghost use Rattle.std.specs.Prelude.{◌≡◌, []};
 ghost use Rattle.table_lines.specs.Kept.{memory_of, kept_of};
 ghost use Rattle.table_reading.specs.Reads.{state_after, after_of, taken_of, has_more, ReadsSome, ReadsAll};

@@ -1,2 +1,4 @@
 // The bytes that the table program prints.
+#![tactic(auto)]
+
 pub mod printing;

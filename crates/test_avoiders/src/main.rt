@@ -6,6 +6,8 @@
 //     twenty PATTERNS                the first, ten nexts and the last of length 20
 //     first LABEL PATTERNS n m       a call for the first of length n, with a page of m bytes
 //     next LABEL PATTERNS ENTRIES m  a call for the next, with such a page
+#![tactic(auto)]
+
 mod calls;
 mod cases;
 mod listed;

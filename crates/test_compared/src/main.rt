@@ -3,6 +3,8 @@
 // that listing the spacings gives: for m of the patterns that contain no other (order 3), and for m
 // of all patterns, as it was before. A further word says that they do not fit together; the last
 // line counts.
+#![tactic(auto)]
+
 mod cells;
 mod spacings;
 

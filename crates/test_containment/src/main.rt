@@ -1,5 +1,7 @@
 // A test program: containment against the direct search on listed permutations, and on the cases of
 // standard input. It prints totals and answers, a line each.
+#![tactic(auto)]
+
 mod cases;
 mod short_pairs;
 

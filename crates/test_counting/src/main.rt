@@ -2,6 +2,8 @@
 // line a pair. Its input holds the accepted schemes of the published papers; the counts that it is
 // to print are theirs. Then come the examples of document 01 on lengths and tables, and sets of
 // positions that no text gives.
+#![tactic(auto)]
+
 mod avoiders;
 mod examples;
 mod page;

@@ -7,6 +7,8 @@
 //
 // The input holds the accepted schemes of the published papers, and then single calls. Last come
 // lists in memory that no text gives.
+#![tactic(auto)]
+
 mod calls;
 mod cases;
 mod listed;

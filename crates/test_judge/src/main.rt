@@ -2,6 +2,8 @@
 // a pair, with refusal 11 the witness too. Its input holds the schemes of the published papers; the
 // lines that it is to print are theirs. A further word in a line says that a page is not as it has
 // to be, or what is wrong with a witness; the last two lines count what was compared.
+#![tactic(auto)]
+
 mod line;
 mod pages;
 

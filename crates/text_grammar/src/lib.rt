@@ -1,4 +1,6 @@
 // The notation: its marks, tokens and grammar, and a cursor that finds tokens in a text.
+#![tactic(auto)]
+
 pub mod cursor;
 pub mod items;
 pub mod kinds;

@@ -1,2 +1,4 @@
 // Bytes and numbers written over a lent page.
+#![tactic(auto)]
+
 pub mod bytes;

@@ -1,2 +1,4 @@
 // Pattern sets and schemes written over a lent page.
+#![tactic(auto)]
+
 pub mod writing;

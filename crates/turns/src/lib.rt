@@ -1,6 +1,8 @@
 // Whether a word can be completed to an avoider of a length, and a completion. No single search is
 // quick for all sets of patterns, so three of them take turns, with budgets that double from turn
 // to turn.
+#![tactic(auto)]
+
 ghost use Rattle.std.specs.Prelude.{◌≡◌, true, ◌||◌, ◌≤◌, take};
 ghost use Rattle.word.specs.Ceilings.{WORD};
 ghost use Rattle.word.specs.Word.{is_perm};

@@ -1,6 +1,8 @@
 // Counting on two texts, also by inversions, judging them with a page, containment, and the first
 // and the next avoider, with a C calling convention: for the differential test and the benchmark of
 // twin/.
+#![tactic(auto)]
+
 ghost use Rattle.std.specs.Prelude.{◌≡◌, map, ◌≤◌, min, take};
 ghost use Rattle.word.specs.Ceilings.{DIGITS};
 ghost use Rattle.text_page.specs.Page.{overlay};

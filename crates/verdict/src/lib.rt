@@ -1,2 +1,4 @@
 // The answer of judging.
+#![tactic(auto)]
+
 pub mod answer;

@@ -1,4 +1,6 @@
 // The witness of a refusal 11 on a lent page: a permutation, and a copy of a pattern in it.
+#![tactic(auto)]
+
 ghost use Rattle.std.specs.Prelude.{◌≡◌, map, ◌+◌, ◌<◌, ◌≤◌, min, length};
 ghost use Rattle.std.proofs.Math.Option.{some};
 ghost use Rattle.word.specs.Ceilings.{HALF, PAGE};

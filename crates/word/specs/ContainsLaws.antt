@@ -136,6 +136,7 @@ avoids_reduce P w = avoids_same P (reduce w) w (λ β. contains_reduce β w)
 
 pub longest_at_least : (P : List (List ℕ)) {β : List ℕ} → Memᴰ β P → length β ≤ longest P
 unfolding longest
+longest_at_least [] {β = β} m = elim m [ ]
 longest_at_least (α ∷ P) (Memᴰ.head e) = omega (arith, ap length e)
 longest_at_least (α ∷ P) (Memᴰ.tail m) = omega (arith, longest_at_least P m)
 

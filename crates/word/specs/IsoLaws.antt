@@ -160,6 +160,7 @@ under_mono (z ∷ u) x y h = go (leb z x) (leb z y) refl refl (under_mono u x y 
 -- and more, if it is an entry
 pub under_strict : (u : List ℕ) (x y : ℕ) → x < y → Memᴰ y u → under u x < under u y
 unfolding under
+under_strict [] x y h m = elim m [ ]
 under_strict (z ∷ u) x y h (Memᴰ.head e) = go (leb z x) (leb z y) refl refl (under_mono u x y (omega arith))
   where
     go : (p q : Bool) → leb z x ≡ p → leb z y ≡ q → under u x ≤ under u y

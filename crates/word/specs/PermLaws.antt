@@ -182,7 +182,7 @@ perms_all n w e l = rw (← l) (perm_induction (λ w. Memᴰ w (perms (length w)
   where
     more : (a : ℕ) (s : List ℕ) → is_perm s ≡ true → 1 ≤ a → a ≤ suc (length s) → Memᴰ s (perms (length s)) →
         Memᴰ (a ∷ map (bump a) s) (perms (suc (length (map (bump a) s))))
-    more a s e p q m = rw (length-map s (bump a))
+    more a s e p q m = subst (λ n. Memᴰ (a ∷ map (bump a) s) (perms (suc n))) (sym (length-map s (bump a)))
         (each_in (λ a. map (λ s. a ∷ map (bump a) s) (perms (length s)))
         (row_in 1 (suc (length s)) a p (omega arith)) (mathlib.Core.List.Memᴰ.map (λ s. a ∷ map (bump a) s) m))
 
@@ -247,7 +247,7 @@ under_at_most (y ∷ u) x = step (leb y x) (under_at_most u x)
     step true h = omega arith
     step false h = omega arith
 
-pub under_positive : {u : List ℕ} {x : ℕ} → Memᴰ x u → 1 ≤ under u x
+pub under_positive : {x : ℕ} {u : List ℕ} → Memᴰ x u → 1 ≤ under u x
 unfolding under
 under_positive {x = x} (mathlib.Core.List.Memᴰ.head {x = z} {xs = u} q) = rw (le-leb z x (omega arith)) (omega arith)
 under_positive {x = x} (mathlib.Core.List.Memᴰ.tail {x = z} {xs = u} m) = step (leb z x) (under_positive m)

@@ -1,0 +1,33 @@
+-- The invariant and the measure of the loop of `copy_search::first_copy`.
+use Prim.Native.Nat.{◌-◌, ◌≤◌, ◌<◌}
+use mathlib.Core.Path.{◌≡◌, sym, ap, ◌∙◌}
+use mathlib.Core.Bool.{true, false}
+use borrow.Author.Rules.{rules}
+use native.Mathlib.Omega.{arith}
+use lib.ListN.{length, get_or, take, drop}
+use Rattle.copy_search.specs.Copy.{shown}
+use Rattle.word.specs.Vocabulary.{fits}
+use Rattle.copy_search.proofs.Search.{Walk, weight, empty_copy, length_cut, walk_start, walk_skip, walk_on}
+use Rattle.copy_search.proofs.Search.{walk_found, walk_back, walk_none, pairs_none, pair_passed, pair_failed}
+use Rattle.copy_search.proofs.Search.{weight_skip, weight_place, weight_back}
+use Rattle.copy_search.proofs.first_copy.Given as goal
+
+abbrev pub invariant-pairs : goal.invariant-pairs
+invariant-pairs l =
+    (l.j ≤ l.d) ×
+    (fits (take l.d l.p) (get_or l.p l.d 0) (take l.d l.entries) l.x ≡ fits (drop l.j (take l.d l.p)) (get_or l.p l.d 0) (drop l.j (take l.d l.entries)) l.x)
+
+abbrev pub decreases-pairs : goal.decreases-pairs
+decreases-pairs l = l.d - l.j
+
+abbrev pub invariant-positions : goal.invariant-positions
+invariant-positions l = Walk (take l.len l.p) l.w l.k l.at l.entries l.d l.i × (weight l.k (length l.w) l.at l.d l.i ≤ weight l.k (length l.w) l.initial.at l.initial.d l.initial.i)
+
+abbrev pub decreases-positions : goal.decreases-positions
+decreases-positions l = length l.w - l.i
+
+abbrev pub invariant-copy : goal.invariant-copy
+invariant-copy l = Walk (take l.len l.p) l.w l.k l.at l.entries l.d l.i
+
+abbrev pub decreases-copy : goal.decreases-copy
+decreases-copy l = weight l.k (length l.w) l.at l.d l.i

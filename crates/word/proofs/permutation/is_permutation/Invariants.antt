@@ -1,0 +1,15 @@
+-- The invariant and the measure of the loop of `word::permutation::is_permutation`.
+use Prim.Native.Nat.{◌-◌, ◌<◌, ◌≤◌}
+use mathlib.Core.Path.{◌≡◌, sym, ◌∙◌}
+use borrow.Author.Rules.{rules}
+use native.Mathlib.Omega.{arith}
+use lib.ListN.{length, get_or, drop}
+use Rattle.word.specs.Word.{is_perm}
+use Rattle.word.proofs.Listed.{listed, listed_whole, listed_none, listed_above, listed_twice, listed_next, listed_end}
+use Rattle.word.proofs.permutation.is_permutation.Given as goal
+
+abbrev pub invariant-loop-i : goal.invariant-loop-i
+invariant-loop-i l = is_perm l.s ≡ listed (length l.s) (drop l.i l.s)
+
+abbrev pub decreases-loop-i : goal.decreases-loop-i
+decreases-loop-i l = length l.s - l.i
