@@ -19,7 +19,7 @@ use word::limits::{DIGITS, PATTERNS, WORD};
 // The length of the words that are sought, how many words may be tried, the lengths of the shortest
 // increasing and of the shortest decreasing pattern, and whether the unused values are also tested
 // in pairs.
-#[derive(Drop)]
+#[derive(Clone, Copy)]
 pub struct Limits {
     pub n: usize,
     pub budget: usize,

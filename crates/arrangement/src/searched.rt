@@ -5,7 +5,7 @@ use word::limits::WORD;
 
 // Yes with a completion, no, or neither where the budget did not last; and how many words of the
 // budget are left.
-#[derive(Drop)]
+#[derive(Clone, Copy)]
 pub struct Searched {
     pub found: bool,
     pub none: bool,

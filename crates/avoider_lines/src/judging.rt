@@ -19,7 +19,7 @@ use word::limits::WORD;
 use word::refusal::Refusal;
 
 // What is asked for: a set and a length; or a fault of the lines.
-#[derive(Drop)]
+#[derive(Clone, Copy)]
 pub struct Asked {
     pub fault: Fault,
     pub patterns: Patterns,

@@ -14,7 +14,7 @@ use table_lines::input::least;
 use word::limits::WORD;
 
 // An avoider, or that there is none.
-#[derive(Drop)]
+#[derive(Clone, Copy)]
 pub struct Found {
     pub there: bool,
     pub word: [u8; WORD],

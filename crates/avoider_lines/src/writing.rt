@@ -11,7 +11,7 @@ use libc::STDOUT_FILENO;
 use word::limits::WORD;
 
 // How many lines were written, and whether these are all.
-#[derive(Drop)]
+#[derive(Clone, Copy)]
 pub struct Printed {
     pub lines: u64,
     pub whole: bool,

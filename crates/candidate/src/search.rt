@@ -22,7 +22,7 @@ use word::limits::{COMPONENTS, DIGITS, PATTERNS, PREFIX, WORD};
 
 // A deletion from an entry's prefix: the prefix, the deleted positions, how many gap vectors the
 // entry has, and m, below which the totals of the compared spacings lie.
-#[derive(Drop)]
+#[derive(Clone, Copy)]
 pub struct Deletion {
     pub prefix: [u8; PREFIX],
     pub length: usize,
@@ -34,7 +34,7 @@ pub struct Deletion {
 
 // What the search keeps of a deletion: the prefix, the deleted values flagged in the place of the
 // positions, and how many gap vectors there are.
-#[derive(Drop)]
+#[derive(Clone, Copy)]
 struct Deleted {
     prefix: [u8; PREFIX],
     length: usize,
@@ -43,14 +43,14 @@ struct Deleted {
 }
 
 // The same at the spacings of one total.
-#[derive(Drop)]
+#[derive(Clone, Copy)]
 struct OfTotal {
     deleted: Deleted,
     total: usize,
 }
 
 // The same at one spacing, with its total.
-#[derive(Drop)]
+#[derive(Clone, Copy)]
 struct At {
     deleted: Deleted,
     spacing: [u8; COMPONENTS],
@@ -59,7 +59,7 @@ struct At {
 
 // What the search found: whether there is a violation, and the first spacing that has one, with its
 // total. Where there is none, spacing and total say nothing.
-#[derive(Drop)]
+#[derive(Clone, Copy)]
 pub struct Lost {
     pub found: bool,
     pub total: usize,

@@ -45,7 +45,7 @@ pub fn has_live_gap(
 }
 
 // A deletion: its positions, and m.
-#[derive(Drop)]
+#[derive(Clone, Copy)]
 struct Cut {
     positions: Positions,
     m: usize,

@@ -19,7 +19,7 @@ use word::limits::{COMPONENTS, DIGITS, PATTERNS, PREFIX, TOTAL};
 const FLAGS: usize = DIGITS + 1;
 
 // A prefix, its length, and the components of one of its gap vectors.
-#[derive(Drop)]
+#[derive(Clone, Copy)]
 struct PrefixGap {
     prefix: [u8; PREFIX],
     length: usize,

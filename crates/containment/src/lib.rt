@@ -19,7 +19,7 @@ use word::refusal::Refusal;
 
 // The answer to whether a permutation contains a pattern: yes, no, or a refusal with the index at
 // fault, which is 0.
-#[derive(Drop)]
+#[derive(Clone, Copy)]
 pub enum Contained {
     Yes,
     No,
@@ -28,7 +28,7 @@ pub enum Contained {
 
 // The answer, and with a yes the positions of the copy that is lexicographically first, counted
 // from 1, and zeros after them; with any other answer only zeros.
-#[derive(Drop)]
+#[derive(Clone, Copy)]
 pub struct CopyAnswer {
     pub contained: Contained,
     pub at: [usize; DIGITS],
@@ -121,7 +121,7 @@ pub fn any_in(
 // Whether a pattern of a set has a copy in a word: the index of the earliest that has one, its
 // length, the positions of its first copy, counted from 1, and zeros after them. Without a copy
 // there are only zeros.
-#[derive(Drop)]
+#[derive(Clone, Copy)]
 pub struct SetCopy {
     pub found: bool,
     pub pattern: usize,

@@ -9,7 +9,7 @@ ghost use Rattle.copy_search.specs.Copy.{shown};
 use word::limits::DIGITS;
 
 // Whether there is a copy; the positions of the first one, counted from 1, and zeros after them.
-#[derive(Drop)]
+#[derive(Clone, Copy)]
 pub struct FirstCopy {
     pub found: bool,
     pub at: [usize; DIGITS],

@@ -6,7 +6,7 @@ use forms::memory::Fault;
 use verdict::answer::Verdict;
 use word::refusal::Refusal;
 
-#[derive(Drop)]
+#[derive(Clone, Copy)]
 pub enum Counted {
     Count(u64),
     Refused(Refusal, usize),

@@ -13,7 +13,7 @@ use word::limits::LENGTH;
 use word::refusal::Refusal;
 
 // The refusal, and where there is none, the layout and the places of the entries in a row.
-#[derive(Drop)]
+#[derive(Clone, Copy)]
 pub struct Measure {
     pub fault: Fault,
     pub frame: Frame,

@@ -15,7 +15,7 @@ use spacing::walk::next_cell;
 use word::limits::{COMPONENTS, PREFIX};
 
 // A cell of the table: its row, its entry, its spacing, and the rank of the spacing.
-#[derive(Drop)]
+#[derive(Clone, Copy)]
 pub struct Cursor {
     pub row: usize,
     pub entry: usize,

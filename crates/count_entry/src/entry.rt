@@ -61,7 +61,7 @@ fn task_of(sheet: &[u8], places: &[usize], f: Frame, c: Cursor) -> Task
 
 // What a pass over the cells of an entry in a row is given: where they begin, how many there are,
 // and what their steps share.
-#[derive(Drop)]
+#[derive(Clone, Copy)]
 pub struct Work {
     pub at: usize,
     pub size: usize,

@@ -7,7 +7,7 @@ use count_plan::places::place_at;
 
 // The largest length, the number of cells of a row, how many rows are kept, and the number of
 // entries.
-#[derive(Drop)]
+#[derive(Clone, Copy)]
 pub struct Frame {
     pub last: usize,
     pub width: usize,

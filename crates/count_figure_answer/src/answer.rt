@@ -5,7 +5,7 @@ ghost use Rattle.count_figure_answer.specs.FigureCounting.{figured_or};
 use forms::memory::Fault;
 use word::refusal::Refusal;
 
-#[derive(Drop)]
+#[derive(Clone, Copy)]
 pub enum Figured {
     Figures(usize),
     Refused(Refusal, usize),

@@ -18,7 +18,7 @@ use word::bytes::wide;
 use word::limits::COMPONENTS;
 
 // How many numbers a cell of the table is, and how many figures the cell of a child has.
-#[derive(Drop)]
+#[derive(Clone, Copy)]
 pub struct Shape {
     pub numbers: usize,
     pub figures: usize,
@@ -27,7 +27,7 @@ pub struct Shape {
 // The children whose next entry lies in one component of a spacing: their cells stand at `at` +
 // C(z, col) for so many values z from `first` on. The figures of the first of them are moved up by
 // `moved`, those of each other by one more than those of the one before.
-#[derive(Drop)]
+#[derive(Clone, Copy)]
 pub struct Part {
     pub at: usize,
     pub col: usize,
@@ -105,7 +105,7 @@ pub fn add_children(
 
 // What the steps of an entry share, how many numbers a cell of the table is, and how many figures
 // the cells of the entry have.
-#[derive(Drop)]
+#[derive(Clone, Copy)]
 pub struct FigureTask {
     pub task: Task,
     pub numbers: usize,

@@ -9,7 +9,7 @@ use word::bytes::wide;
 use word::limits::COMPONENTS;
 
 // The component that holds a value, and its number there, from 1.
-#[derive(Drop)]
+#[derive(Clone, Copy)]
 pub struct Place {
     pub index: usize,
     pub left: usize,

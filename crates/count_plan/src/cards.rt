@@ -22,7 +22,7 @@ use word::limits::{DIGITS, LINKS, PATTERNS, PREFIX};
 // deletes, 0 where it expands, and the values there, flagged; what it has at total 0 where it
 // expands; the indices of the entries of its children, in the order of their last entries, or of
 // its target.
-#[derive(Drop)]
+#[derive(Clone, Copy)]
 pub struct Card {
     pub length: usize,
     pub deleted: usize,

@@ -12,7 +12,7 @@ use spacing::walk::rank_after;
 use word::limits::COMPONENTS;
 
 // A cell: its row, its entry and its spacing.
-#[derive(Drop)]
+#[derive(Clone, Copy)]
 pub struct CellAt {
     pub row: usize,
     pub entry: usize,

@@ -18,7 +18,7 @@ use word::limits::{COMPONENTS, LINKS};
 // spacings; how many positions the entry deletes, 0 where it expands, and the flags of the values
 // there; what an expanding entry has at total 0; where in the table the cells of its children, or
 // of its target, begin; the number of its gap vectors.
-#[derive(Drop)]
+#[derive(Clone, Copy)]
 pub struct Task {
     pub length: usize,
     pub total: usize,

@@ -36,7 +36,7 @@ pub fn count(patterns: Patterns, scheme: Scheme, n: usize, table: &mut [u64]) ->
 }
 
 // What n and the table are refused for, or the counts for the lengths from 0 to n.
-#[derive(Drop)]
+#[derive(Clone, Copy)]
 pub struct Tabled {
     pub fault: Fault,
     pub counts: [u64; COUNTS],

@@ -16,7 +16,7 @@ use word::limits::{DIGITS, PATTERNS, WORD};
 
 // How many first entries are given, the length of the words that are sought, how many words may be
 // tried, and whether that does not count.
-#[derive(Drop)]
+#[derive(Clone, Copy)]
 pub struct Span {
     pub fixed: usize,
     pub n: usize,

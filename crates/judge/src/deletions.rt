@@ -16,7 +16,7 @@ use word::limits::{DIGITS, PATTERNS};
 use word::refusal::Refusal;
 
 // What test 11 finds, and the least permutation that the entry at fault loses.
-#[derive(Drop)]
+#[derive(Clone, Copy)]
 pub struct Loss {
     pub fault: Fault,
     pub word: LostWord,

@@ -26,7 +26,7 @@ use word::refusal::Refusal;
 
 // The verdict on the claims, and with refusal 11 the least permutation that the refused entry
 // loses.
-#[derive(Drop)]
+#[derive(Clone, Copy)]
 pub struct Judged {
     pub verdict: Verdict,
     pub word: LostWord,

@@ -15,7 +15,7 @@ use word::limits::PAGE;
 use word::refusal::Refusal;
 
 // The verdict on two texts, and what they were read as.
-#[derive(Drop)]
+#[derive(Clone, Copy)]
 pub struct TextsJudged {
     pub verdict: Verdict,
     pub patterns: Patterns,

@@ -6,7 +6,7 @@ use forms::memory::Fault;
 use word::refusal::Refusal;
 
 // It was given; there is none, or it was the last; or a refusal with the index at fault.
-#[derive(Drop)]
+#[derive(Clone, Copy)]
 pub enum Listed {
     Given,
     Nothing,

@@ -20,7 +20,7 @@ use placing::tables::{Tables, VALUES, candidate_word, deleted_values, levels_of}
 use word::limits::{DIGITS, PATTERNS, PREFIX, WORD};
 
 // A word that is lost, if there is one: so many of the entries.
-#[derive(Drop)]
+#[derive(Clone, Copy)]
 pub struct LostWord {
     pub found: bool,
     pub entries: [u8; WORD],
@@ -29,7 +29,7 @@ pub struct LostWord {
 
 // What is looked up at a spacing for every pattern: the prefix, its deleted values, the levels of
 // its values, and the total.
-#[derive(Drop)]
+#[derive(Clone, Copy)]
 struct Spot {
     prefix: [u8; PREFIX],
     length: usize,

@@ -14,7 +14,7 @@ use word::refusal::Refusal;
 
 // What reading a set of patterns answers: the set where there is no fault, or a refusal with its
 // index beside a set of none.
-#[derive(Drop)]
+#[derive(Clone, Copy)]
 pub struct PatternsRead {
     pub fault: Fault,
     pub patterns: Patterns,

@@ -15,7 +15,7 @@ use word::refusal::Refusal;
 
 // What reading a scheme answers: the scheme where there is no fault, or a refusal with its index
 // beside a scheme of no entries.
-#[derive(Drop)]
+#[derive(Clone, Copy)]
 pub struct SchemeRead {
     pub fault: Fault,
     pub scheme: Scheme,

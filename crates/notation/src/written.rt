@@ -5,7 +5,7 @@ ghost use Rattle.notation.specs.Written.{written_or};
 use forms::memory::Fault;
 use word::refusal::Refusal;
 
-#[derive(Drop)]
+#[derive(Clone, Copy)]
 pub enum Written {
     Bytes(usize),
     Refused(Refusal, usize),

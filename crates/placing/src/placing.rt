@@ -12,7 +12,7 @@ use word::limits::DIGITS;
 
 // How far the head of a pattern is placed: how many of its entries are, the index in the prefix
 // from which the next one is sought, and whether a value among them is deleted.
-#[derive(Drop)]
+#[derive(Clone, Copy)]
 pub struct Placing {
     pub placed: usize,
     pub from: usize,

@@ -18,7 +18,7 @@ const LEVEL: u8 = 100;
 
 // What the search looks up by value, at one spacing and for one pattern: the level that each head
 // entry of the pattern needs, the level of each prefix value, and which prefix values are deleted.
-#[derive(Drop)]
+#[derive(Clone, Copy)]
 pub struct Tables {
     pub need: [u8; VALUES],
     pub levels: [u8; VALUES],
@@ -96,7 +96,7 @@ pub fn lifted(levels: [u8; VALUES], k: usize, s: u8) -> u8
 }
 
 // A word in memory: so many of the entries.
-#[derive(Drop)]
+#[derive(Clone, Copy)]
 pub struct Word {
     pub entries: [u8; WORD],
     pub length: usize,

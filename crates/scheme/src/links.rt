@@ -33,7 +33,7 @@ use word::limits::{ENTRIES, PREFIX};
 use word::refusal::Refusal;
 
 // The index of an entry, or that there is none.
-#[derive(Drop)]
+#[derive(Clone, Copy)]
 pub enum Found {
     At(usize),
     Nothing,
@@ -235,7 +235,7 @@ fn lacks_target(codes: &[u64], e: Entry) -> bool
 
 // What the tests 8 and 9 find: the first expanding entry that lacks a child, and the first deleting
 // entry whose shorter prefix has no entry.
-#[derive(Drop)]
+#[derive(Clone, Copy)]
 pub struct LinkFaults {
     pub child: Fault,
     pub target: Fault,

@@ -25,7 +25,7 @@ pub fn first_spacing(k: usize, t: u8) -> [u8; COMPONENTS]
 }
 
 // Whether a spacing comes after another, and the next one; the same one where there is none.
-#[derive(Drop)]
+#[derive(Clone, Copy)]
 pub struct Next {
     pub found: bool,
     pub g: [u8; COMPONENTS],

@@ -12,7 +12,7 @@ use turns::completed;
 use word::limits::{DIGITS, PATTERNS, WORD};
 
 // The values from `low` to below `high`, for an avoider of length n.
-#[derive(Drop)]
+#[derive(Clone, Copy)]
 pub struct Values {
     pub n: usize,
     pub low: usize,
@@ -20,7 +20,7 @@ pub struct Values {
 }
 
 // A value, for an avoider of length n.
-#[derive(Drop)]
+#[derive(Clone, Copy)]
 struct Wanted {
     n: usize,
     value: usize,

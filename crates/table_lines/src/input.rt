@@ -20,7 +20,7 @@ pub const LAST: usize = 3;
 // How many bytes of the first two lines were kept, in buffers of the caller; the first bytes of the
 // third, with zeros behind them, and how many they are; the number of line ends, up to three;
 // whether a byte came after the third.
-#[derive(Drop)]
+#[derive(Clone, Copy)]
 pub struct Lines {
     pub set_length: usize,
     pub scheme_length: usize,
@@ -31,7 +31,7 @@ pub struct Lines {
 }
 
 // The number in a line, or that it spells none.
-#[derive(Drop)]
+#[derive(Clone, Copy)]
 pub enum Number {
     Is(usize),
     Misspelt,

@@ -10,7 +10,7 @@ use libc::{EINTR, STDIN_FILENO};
 use table_lines::input::{Lines, keep, nothing};
 
 // Whether there may be more of the input, it has ended, or a read failed.
-#[derive(Drop)]
+#[derive(Clone, Copy)]
 pub enum State {
     More,
     End,
@@ -18,7 +18,7 @@ pub enum State {
 }
 
 // What was kept of the input so far, beside the two buffers.
-#[derive(Drop)]
+#[derive(Clone, Copy)]
 pub struct Reading {
     pub state: State,
     pub lines: Lines,

@@ -6,7 +6,7 @@ use crate::rows::{CLOSE, DIGIT, END, FIRST, NEXT, PUT, ROWS, SKIP, WRONG, row_at
 use test_support::counts::wide;
 
 // Where reading stands: the state, the number that was begun last, and the list so far.
-#[derive(Drop)]
+#[derive(Clone, Copy)]
 pub struct Machine {
     pub state: u8,
     pub value: u64,

@@ -11,7 +11,7 @@ pub const STOP: u64 = 1000;
 pub const ROOM: usize = 160;
 
 // The first `count` numbers of an array.
-#[derive(Drop)]
+#[derive(Clone, Copy)]
 pub struct Flat {
     pub numbers: [u64; ROOM],
     pub count: usize,

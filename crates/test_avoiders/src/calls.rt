@@ -13,7 +13,7 @@ pub const PAGE: usize = 24;
 const FILLING: u8 = 7;
 
 // The answer of a call, and the page behind it.
-#[derive(Drop)]
+#[derive(Clone, Copy)]
 pub struct Left {
     pub answer: Listed,
     pub page: [u8; PAGE],

@@ -18,7 +18,7 @@ const LENGTH: usize = 20;
 const NEXTS: usize = 10;
 
 // An avoider, how many nexts led to it, and whether another was given behind it.
-#[derive(Drop)]
+#[derive(Clone, Copy)]
 struct Way {
     page: [u8; PAGE],
     nexts: u64,

@@ -11,7 +11,7 @@ use test_support::parts::prefix;
 use test_support::print;
 
 // What the last call left, how many avoiders were given, and whether each was the one of the list.
-#[derive(Drop)]
+#[derive(Clone, Copy)]
 struct Walk {
     left: Left,
     given: u64,

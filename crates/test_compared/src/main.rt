@@ -19,7 +19,7 @@ use verdict::answer::Verdict;
 use word::refusal::number;
 
 // What was counted over the pairs.
-#[derive(Drop)]
+#[derive(Clone, Copy)]
 struct Tally {
     pairs: u64,
     accepted: u64,
@@ -28,7 +28,7 @@ struct Tally {
 }
 
 // A number m, and how many cells are compared for it.
-#[derive(Drop)]
+#[derive(Clone, Copy)]
 struct Listed {
     m: usize,
     cells: u64,

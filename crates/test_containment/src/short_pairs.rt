@@ -17,7 +17,7 @@ const LINES: usize = PATTERN * LENGTHS;
 const PAIRS: usize = 120960;
 
 // What was found on the pairs of a pattern and a permutation that were compared.
-#[derive(Drop)]
+#[derive(Clone, Copy)]
 struct Tally {
     contained: u64,
     pairs: u64,

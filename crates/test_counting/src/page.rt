@@ -10,7 +10,7 @@ pub const CELLS: usize = 32768;
 
 // The answer of a count, whether the page holds what it held before, and whether the cells that are
 // needed hold 0 and all others what they held.
-#[derive(Drop)]
+#[derive(Clone, Copy)]
 pub struct Left {
     pub answer: Counted,
     pub kept: bool,

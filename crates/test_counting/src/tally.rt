@@ -21,7 +21,7 @@ const PLAIN: usize = 7;
 
 // What was found of all lengths so far: each count is the listed one, and so is each one of the
 // plain evaluation; each table is as it is to be.
-#[derive(Drop)]
+#[derive(Clone, Copy)]
 struct Found {
     listed: bool,
     plain: bool,

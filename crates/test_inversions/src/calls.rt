@@ -14,7 +14,7 @@ pub const CELLS: usize = 560000;
 pub const RESULTS: usize = 70;
 
 // The answer of a call, the page for results, and whether that for tables is as it is to be.
-#[derive(Drop)]
+#[derive(Clone, Copy)]
 pub struct Left {
     pub answer: Figured,
     pub results: [u64; RESULTS],

@@ -7,7 +7,7 @@ use test_support::print;
 use test_support::spelt::decimal;
 
 // What a call is handed beside the set and the scheme.
-#[derive(Drop)]
+#[derive(Clone, Copy)]
 struct Numbers {
     n: usize,
     cells: usize,

@@ -18,7 +18,7 @@ use test_witness::check::{Finding, found, is_compared_with_all};
 use verdict::answer::Verdict;
 
 // What was counted over the pairs.
-#[derive(Drop)]
+#[derive(Clone, Copy)]
 struct Tally {
     pairs: u64,
     wrong_pages: u64,

@@ -17,7 +17,7 @@ const DAMAGES: usize = ROOM * WAYS;
 
 // What was found on the damaged texts: how many there are, how many are spelt, how many are read
 // with no fault, and on how many the two readers disagree.
-#[derive(Drop)]
+#[derive(Clone, Copy)]
 struct Tally {
     texts: u64,
     spelt: u64,
@@ -26,7 +26,7 @@ struct Tally {
 }
 
 // What reading a text answers: the number of the refusal, or 0, and the list.
-#[derive(Drop)]
+#[derive(Clone, Copy)]
 struct Answer {
     refusal: u8,
     list: Flat,

@@ -9,7 +9,7 @@ use test_support::parts::{byte_at, lent, same, suffix};
 pub const PAGE: usize = 4096;
 
 // A page and what writing to its first bytes answered.
-#[derive(Drop)]
+#[derive(Clone, Copy)]
 pub struct Filled {
     pub page: [u8; PAGE],
     pub answer: Written,

@@ -9,14 +9,14 @@ pub const WAYS: usize = 20;
 const CHANGES: [u8; 17] = *b" 012{},()\xCE\xE2\x88\x85\x9F\xA8\xA9\xFF";
 
 // What a text is to spell.
-#[derive(Drop)]
+#[derive(Clone, Copy)]
 pub enum Kind {
     Patterns,
     Scheme,
 }
 
 // The first `length` bytes of an array.
-#[derive(Drop)]
+#[derive(Clone, Copy)]
 pub struct Text {
     pub bytes: [u8; ROOM],
     pub length: usize,

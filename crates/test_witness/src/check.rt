@@ -7,7 +7,7 @@ use crate::rows::{ROW, ascending, first, number_at, row_at, same, size};
 use crate::texts::entry;
 
 // What is found: the first of these that is wrong.
-#[derive(Drop)]
+#[derive(Clone, Copy)]
 pub enum Finding {
     // all is right; beyond the lengths that are listed, all but that it is the least
     Right,

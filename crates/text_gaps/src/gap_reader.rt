@@ -17,14 +17,14 @@ use word::bytes::wide;
 use word::limits::{COMPONENTS, GAPS, PARTS};
 
 // The number that a run of digits spells.
-#[derive(Drop)]
+#[derive(Clone, Copy)]
 pub struct Numeral {
     pub spelt: bool,
     pub value: usize,
 }
 
 // How far a gap vector is read: the components so far, and the cursor behind them.
-#[derive(Drop)]
+#[derive(Clone, Copy)]
 pub struct GapPart {
     pub turn: Turn,
     pub gap: Gap,
@@ -32,7 +32,7 @@ pub struct GapPart {
 }
 
 // How far a list of gap vectors is read.
-#[derive(Drop)]
+#[derive(Clone, Copy)]
 pub struct GapsPart {
     pub turn: Turn,
     pub gaps: Gaps,

@@ -5,7 +5,7 @@ use text_grammar::cursor::Cursor;
 use word::limits::{GAPS, PARTS};
 
 // A number of one to three digits.
-#[derive(Drop)]
+#[derive(Clone, Copy)]
 pub struct NumberRead {
     pub spelt: bool,
     pub value: usize,
@@ -13,7 +13,7 @@ pub struct NumberRead {
 }
 
 // A gap vector, or the numbers of a set of positions.
-#[derive(Drop)]
+#[derive(Clone, Copy)]
 pub struct GapRead {
     pub spelt: bool,
     pub gap: Gap,
@@ -21,7 +21,7 @@ pub struct GapRead {
 }
 
 // Gap vectors, as an entry keeps them: the true number of them, the first GAPS kept.
-#[derive(Drop)]
+#[derive(Clone, Copy)]
 pub struct Gaps {
     pub parts: [u8; PARTS],
     pub widths: [u8; GAPS],
@@ -29,7 +29,7 @@ pub struct Gaps {
 }
 
 // The gap vectors of an entry: ∅, or vectors in braces.
-#[derive(Drop)]
+#[derive(Clone, Copy)]
 pub struct GapsRead {
     pub spelt: bool,
     pub gaps: Gaps,

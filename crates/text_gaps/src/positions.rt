@@ -12,7 +12,7 @@ use text_grammar::kinds::is_byte;
 use word::limits::COMPONENTS;
 
 // A number of a set as a byte, what comes after it, and the cursor behind that.
-#[derive(Drop)]
+#[derive(Clone, Copy)]
 pub struct PositionRead {
     pub spelt: bool,
     pub value: u8,

@@ -6,13 +6,13 @@ ghost use Rattle.text_grammar.specs.Cursor.{Passed, Stepped, mark_of, width_of};
 use crate::marks::{EMPTY, EPSILON, LEFT, RIGHT, begins_with};
 
 // A place in a text.
-#[derive(Drop)]
+#[derive(Clone, Copy)]
 pub struct Cursor {
     pub at: usize,
 }
 
 // What a token is: nothing where the text ends, a run of digits, a mark, or any other byte.
-#[derive(Drop)]
+#[derive(Clone, Copy)]
 pub enum Kind {
     End,
     Digits,
@@ -24,7 +24,7 @@ pub enum Kind {
 }
 
 // A token: what it is, where it begins, and the cursor behind it.
-#[derive(Drop)]
+#[derive(Clone, Copy)]
 pub struct Step {
     pub kind: Kind,
     pub from: usize,

@@ -3,7 +3,7 @@ ghost use Rattle.std.specs.Prelude.{◌≡◌};
 ghost use Rattle.text_grammar.specs.ItemReading.{goes_on, is_done, turn_of};
 
 // What comes after an item: another one, nothing, or what may not come.
-#[derive(Drop)]
+#[derive(Clone, Copy)]
 pub enum Turn {
     More,
     Done,

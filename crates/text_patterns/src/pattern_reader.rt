@@ -17,14 +17,14 @@ use word::limits::{DIGITS, PATTERNS};
 // What a text spells: whether it spells a pattern set, and the set. The count is the true number of
 // patterns, each length the true number of digits; the first 24 patterns are kept, of each the
 // first 8 digits. Where the text spells none, the set is empty.
-#[derive(Drop)]
+#[derive(Clone, Copy)]
 pub struct PatternText {
     pub spelt: bool,
     pub patterns: Patterns,
 }
 
 // A pattern: whether one is spelt, and the cursor behind it.
-#[derive(Drop)]
+#[derive(Clone, Copy)]
 pub struct PatternRead {
     pub spelt: bool,
     pub pattern: Pattern,
@@ -32,7 +32,7 @@ pub struct PatternRead {
 }
 
 // A pattern, what comes after it, and the cursor behind both.
-#[derive(Drop)]
+#[derive(Clone, Copy)]
 pub struct ItemRead {
     pub turn: Turn,
     pub pattern: Pattern,
@@ -40,7 +40,7 @@ pub struct ItemRead {
 }
 
 // A pattern set: whether one is spelt, and the cursor behind it.
-#[derive(Drop)]
+#[derive(Clone, Copy)]
 pub struct SetRead {
     pub spelt: bool,
     pub patterns: Patterns,

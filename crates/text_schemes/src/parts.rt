@@ -4,7 +4,7 @@ use forms::memory::{Entry, Rule};
 use text_grammar::cursor::Cursor;
 
 // The third part of an entry.
-#[derive(Drop)]
+#[derive(Clone, Copy)]
 pub struct RuleRead {
     pub spelt: bool,
     pub rule: Rule,
@@ -12,7 +12,7 @@ pub struct RuleRead {
 }
 
 // An entry.
-#[derive(Drop)]
+#[derive(Clone, Copy)]
 pub struct EntryRead {
     pub spelt: bool,
     pub entry: Entry,
@@ -21,7 +21,7 @@ pub struct EntryRead {
 
 // An entry and the mark behind it: whether a further entry is due, whether both are spelt, and the
 // number of bytes up to the end of the mark.
-#[derive(Drop)]
+#[derive(Clone, Copy)]
 pub struct ItemRead {
     pub more: bool,
     pub spelt: bool,

@@ -20,14 +20,14 @@ use text_patterns::digits::put_digits;
 use word::limits::{GAPS, PARTS, PREFIX};
 
 // A mark that is due.
-#[derive(Drop)]
+#[derive(Clone, Copy)]
 pub struct MarkRead {
     pub spelt: bool,
     pub next: Cursor,
 }
 
 // One of two marks that are due: whether it is the first of them.
-#[derive(Drop)]
+#[derive(Clone, Copy)]
 pub struct Choice {
     pub spelt: bool,
     pub first: bool,
@@ -35,14 +35,14 @@ pub struct Choice {
 }
 
 // The first digits of a prefix, and its true length.
-#[derive(Drop)]
+#[derive(Clone, Copy)]
 pub struct Prefix {
     pub digits: [u8; PREFIX],
     pub length: usize,
 }
 
 // A prefix.
-#[derive(Drop)]
+#[derive(Clone, Copy)]
 pub struct PrefixRead {
     pub spelt: bool,
     pub prefix: Prefix,

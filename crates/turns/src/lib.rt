@@ -29,7 +29,7 @@ const LAST: usize = 1099511627776;
 // What a turn starts from: the given entries with the unused values behind them, rising and
 // falling; how many are given; the length of the avoiders; and the lengths of the shortest
 // increasing and of the shortest decreasing pattern.
-#[derive(Drop)]
+#[derive(Clone, Copy)]
 struct Start {
     up: [u8; WORD],
     down: [u8; WORD],

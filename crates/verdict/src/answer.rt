@@ -6,7 +6,7 @@ ghost use Rattle.verdict.specs.Verdict.{answered};
 use forms::memory::Fault;
 use word::refusal::Refusal;
 
-#[derive(Drop)]
+#[derive(Clone, Copy)]
 pub enum Verdict {
     Accepted(usize),
     Refused(Refusal, usize),

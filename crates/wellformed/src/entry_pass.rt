@@ -12,7 +12,7 @@ use word::limits::PREFIX;
 use word::refusal::Refusal;
 
 // What the tests 3, 4, 6 and 7 find: the first entry at fault of each.
-#[derive(Drop)]
+#[derive(Clone, Copy)]
 pub struct EntryFaults {
     pub none: Fault,
     pub twin: Fault,

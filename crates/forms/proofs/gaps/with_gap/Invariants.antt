@@ -1,0 +1,16 @@
+-- The invariant and the measure of the loop of `forms::gaps::with_gap`.
+use Prim.Native.Nat.{◌*◌, ◌-◌, ◌≤◌, ◌<◌}
+use mathlib.Core.Path.{◌≡◌, refl, ap, ◌∙◌}
+use native.Mathlib.Omega.{arith}
+use lib.ListN.{length, take}
+use lib.Seq.{sets, take_all}
+use borrow.Author.Rules.{rules}
+use Rattle.word.specs.Ceilings.{COMPONENTS}
+use Rattle.forms.specs.StoredLaws.{stored_more}
+use Rattle.forms.proofs.gaps.with_gap.Given as goal
+
+abbrev pub invariant-loop-i : goal.invariant-loop-i
+invariant-loop-i l = (l.i ≤ COMPONENTS) × (l.stored ≡ sets l.initial.stored l.start (take l.i l.parts))
+
+abbrev pub decreases-loop-i : goal.decreases-loop-i
+decreases-loop-i l = COMPONENTS - l.i

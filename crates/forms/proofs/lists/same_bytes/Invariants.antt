@@ -1,0 +1,16 @@
+-- The invariant and the measure of the loop of `forms::lists::same_bytes`.
+use Prim.Native.Nat.{◌-◌, ◌≤◌}
+use mathlib.Core.Path.{◌≡◌, sym, ◌∙◌}
+use borrow.Author.Rules.{rules}
+use native.Mathlib.Omega.{arith}
+use lib.ListN.{length, drop}
+use Rattle.cell.specs.Basis.{same}
+use Rattle.forms.specs.MemoryLaws.{same_lengths}
+use Rattle.forms.proofs.SameWalk.{same_other, same_next, same_end}
+use Rattle.forms.proofs.lists.same_bytes.Given as goal
+
+abbrev pub invariant-loop-i : goal.invariant-loop-i
+invariant-loop-i l = (l.i ≤ length l.a) × (length l.a ≡ length l.b) × (same l.a l.b ≡ same (drop l.i l.a) (drop l.i l.b))
+
+abbrev pub decreases-loop-i : goal.decreases-loop-i
+decreases-loop-i l = length l.a - l.i

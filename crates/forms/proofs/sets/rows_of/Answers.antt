@@ -1,0 +1,30 @@
+-- `forms::sets::rows_of` meets its contract: the rows up to the index have the digits of their
+-- patterns.
+-- Assumes nothing.
+use borrow.Author.Rules.{rules}
+use Prim.Native.Nat.{ℕ, ◌-◌, ◌≤◌, ◌<◌}
+use mathlib.Core.Path.{◌≡◌, refl, ◌∙◌}
+use mathlib.Core.List.{List, []}
+use native.Mathlib.Omega.{arith}
+use lib.ListN.{length, get_or, length-set}
+use Rattle.word.specs.Ceilings.{DIGITS, PATTERNS}
+use Rattle.forms.specs.SchemeMemory.{no_pattern}
+use Rattle.forms.specs.MemoryLaws.{rows_more}
+use Rattle.forms.proofs.sets.rows_of.Goals as goal
+
+pub loop-i-init : goal.loop-i-init
+loop-i-init c = (refl, omega arith, λ i h. absurd (omega arith))
+
+pub loop-i-preserved : goal.loop-i-preserved
+loop-i-preserved c =
+    let l = c.loop-i in
+    let items = c.args.s.items in (
+      length-set l.rows l.i c.digits_of.result ∙ l.invariant.0,
+      omega arith,
+      rows_more (λ (j : ℕ) (x : List ℕ). (x ≡ (get_or items j no_pattern).digits) × (length x ≡ DIGITS)) l.rows []
+          l.i c.digits_of.result
+          (omega (arith, l.invariant.0)) c.digits_of.ensures l.invariant.2,
+    )
+
+pub returns : goal.returns
+returns c = λ j h. c.loop-i.invariant.2 j (omega arith)

@@ -1,0 +1,17 @@
+-- The invariant and the measure of the loop of `placing::placing::pairs_fit`.
+use Prim.Native.Nat.{◌-◌, ◌≤◌}
+use mathlib.Core.Path.{◌≡◌, sym, ◌∙◌}
+use borrow.Author.Rules.{rules}
+use native.Mathlib.Omega.{arith}
+use lib.ListN.{length, take, drop}
+use Rattle.word.specs.Vocabulary.{fits}
+use Rattle.copy_search.proofs.Search.{pairs_none, pair_passed, pair_failed}
+use Rattle.placing.proofs.placing.pairs_fit.Given as goal
+
+abbrev pub invariant-loop-j : goal.invariant-loop-j
+invariant-loop-j l =
+    (l.j ≤ l.s) ×
+    (fits (take l.s l.head) l.x (take l.s l.chosen) l.a ≡ fits (drop l.j (take l.s l.head)) l.x (drop l.j (take l.s l.chosen)) l.a)
+
+abbrev pub decreases-loop-j : goal.decreases-loop-j
+decreases-loop-j l = l.s - l.j

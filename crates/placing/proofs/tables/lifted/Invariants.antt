@@ -1,0 +1,17 @@
+-- The invariant and the measure of the loop of `placing::tables::lifted`.
+use Prim.Native.Nat.{suc, ◌+◌, ◌-◌, ◌≤◌}
+use mathlib.Core.Path.{◌≡◌}
+use mathlib.Core.Logic.{⊎_elim}
+use native.Mathlib.Omega.{arith}
+use borrow.Author.Rules.{rules}
+use Rattle.placing.specs.Lookup.{entry_of}
+use Rattle.placing.proofs.LookupLaws.{lower, lower_counted, lower_passed, lower_end, lower_lifts}
+use Rattle.placing.proofs.tables.lifted.Given as goal
+
+abbrev pub invariant-loop-v : goal.invariant-loop-v
+invariant-loop-v l =
+    (1 ≤ l.v) × (l.v ≤ l.k + 1) × (l.r ≤ l.s + l.v) ×
+    (l.r + lower (entry_of l.levels) l.s l.v (suc l.k - l.v) ≡ l.s + lower (entry_of l.levels) l.s 1 (suc l.k - 1))
+
+abbrev pub decreases-loop-v : goal.decreases-loop-v
+decreases-loop-v l = suc l.k - l.v

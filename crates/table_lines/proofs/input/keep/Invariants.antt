@@ -1,0 +1,16 @@
+-- The invariant and the measure of the loop of `table_lines::input::keep`.
+use Prim.Native.Nat.{◌-◌}
+use native.Mathlib.Omega.{arith}
+use mathlib.Core.Path.{◌≡◌, refl}
+use lib.ListN.{length, get_or, length-set}
+use borrow.Author.Rules.{rules}
+use Rattle.table_lines.specs.Kept.{memory_of}
+use Rattle.table_lines.specs.KeptLaws.{Walk, turn, chunk_end, turn_fourth, turn_end}
+use Rattle.table_lines.specs.KeptLaws.{turn_set, turn_scheme, turn_last, drop_set, drop_scheme, drop_last}
+use Rattle.table_lines.proofs.input.keep.Given as goal
+
+abbrev pub invariant-loop-i : goal.invariant-loop-i
+invariant-loop-i l = Walk (memory_of l.initial.kept l.initial.set l.initial.scheme) l.chunk l.set_room l.scheme_room (memory_of l.kept l.set l.scheme) l.i
+
+abbrev pub decreases-loop-i : goal.decreases-loop-i
+decreases-loop-i l = length l.chunk - l.i
