@@ -1,6 +1,6 @@
 -- The copies of the patterns of a set, from a place on: what is shown of the earliest.
 -- Assumes nothing.
-use Prim.Native.Nat.{ℕ, ◌+◌, ◌-◌, ◌<◌}
+use Prim.Native.Nat.{ℕ, ◌+◌, ◌<◌}
 use mathlib.Core.Path.{◌≡◌, refl, sym, ap, ◌∙◌}
 use mathlib.Core.Bool.{true, false}
 use mathlib.Core.List.{List, []}
@@ -12,7 +12,6 @@ use Rattle.copy_search.specs.Copy.{shown}
 use Rattle.containment.specs.SetCopies.{shown_in}
 use Rattle.word.proofs.PatternSet.{from, early_cons}
 use Rattle.word.specs.ListLaws.{true_not_false}
-use Rattle.word.specs.CopyLaws.{found}
 use Rattle.word.specs.EarliestLaws.{copy_length}
 use Rattle.copy_search.specs.declared.FirstCopy.{FirstCopy}
 use Rattle.containment.specs.declared.SetCopy.{SetCopy}

@@ -1,7 +1,7 @@
 -- `containment::any_in` meets its contract: a pattern of the set stands in the word if one
 -- from the index on does.
 -- Assumes nothing.
-use Prim.Native.Nat.{ℕ, ◌-◌}
+use Prim.Native.Nat.{ℕ}
 use mathlib.Core.Path.{◌≡◌, sym, ap, ◌∙◌}
 use mathlib.Core.Bool.{not}
 use mathlib.Core.List.{List, []}
@@ -9,8 +9,7 @@ use borrow.Author.Rules.{rules}
 use native.Mathlib.Omega.{arith}
 use lib.ListN.{length, get_or, take}
 use Rattle.word.specs.Word.{avoids}
-use Rattle.word.specs.Patterns.{patterns_of}
-use Rattle.word.proofs.PatternSet.{from, from_start, from_counted, from_end, some_none, some_here, some_later}
+use Rattle.word.proofs.PatternSet.{from_start, from_counted, from_end, some_none, some_here, some_later}
 use Rattle.copy_search.specs.ShownLaws.{found_contains}
 use Rattle.containment.proofs.any_in.Goals as goal
 

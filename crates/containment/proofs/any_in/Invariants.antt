@@ -1,15 +1,10 @@
 -- The invariant and the measure of the loop of `containment::any_in`.
-use Prim.Native.Nat.{ℕ, ◌-◌}
-use mathlib.Core.Path.{◌≡◌, sym, ap, ◌∙◌}
+use Prim.Native.Nat.{◌-◌}
+use mathlib.Core.Path.{◌≡◌}
 use mathlib.Core.Bool.{not}
-use mathlib.Core.List.{List, []}
-use borrow.Author.Rules.{rules}
-use native.Mathlib.Omega.{arith}
-use lib.ListN.{length, get_or, take}
 use Rattle.word.specs.Word.{avoids}
 use Rattle.word.specs.Patterns.{patterns_of}
-use Rattle.word.proofs.PatternSet.{from, from_start, from_counted, from_end, some_none, some_here, some_later}
-use Rattle.copy_search.specs.ShownLaws.{found_contains}
+use Rattle.word.proofs.PatternSet.{from}
 use Rattle.containment.proofs.any_in.Given as goal
 
 abbrev pub invariant-loop-i : goal.invariant-loop-i

@@ -1,12 +1,10 @@
 -- `containment::earliest_in` meets its contract: the earliest pattern of the set that has a
 -- copy is the earliest from the index on.
 -- Assumes nothing.
-use Prim.Native.Nat.{◌-◌}
 use mathlib.Core.Path.{◌≡◌, sym, ap, ◌∙◌}
 use borrow.Author.Rules.{rules}
 use native.Mathlib.Omega.{arith}
 use lib.ListN.{length}
-use Rattle.word.specs.Earliest.{earliest_from, earliest}
 use Rattle.containment.specs.SetCopies.{shown_in}
 use Rattle.word.specs.Patterns.{patterns_of}
 use Rattle.containment.specs.declared.SetCopy.{SetCopy}

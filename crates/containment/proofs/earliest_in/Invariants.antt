@@ -1,15 +1,9 @@
 -- The invariant and the measure of the loop of `containment::earliest_in`.
 use Prim.Native.Nat.{◌-◌}
-use mathlib.Core.Path.{◌≡◌, sym, ap, ◌∙◌}
-use borrow.Author.Rules.{rules}
-use native.Mathlib.Omega.{arith}
-use lib.ListN.{length}
+use mathlib.Core.Path.{◌≡◌}
 use Rattle.word.specs.Earliest.{earliest_from, earliest}
-use Rattle.containment.specs.SetCopies.{shown_in}
 use Rattle.word.specs.Patterns.{patterns_of}
-use Rattle.containment.specs.declared.SetCopy.{SetCopy}
-use Rattle.word.proofs.PatternSet.{from, from_start, from_counted, from_end, early_start, early_none}
-use Rattle.containment.proofs.SetSearch.{early_here, early_later}
+use Rattle.word.proofs.PatternSet.{from}
 use Rattle.containment.proofs.earliest_in.Given as goal
 
 abbrev pub invariant-loop-i : goal.invariant-loop-i
