@@ -22,7 +22,7 @@ use Rattle.text_grammar.specs.GrammarLaws.{numeral_one, numeral_two, numeral_thr
 use Rattle.text_page.specs.Page.{Writes, Room}
 use Rattle.text_page.specs.PageLaws.{ToCome, step, again, finish, room_next, writes_join}
 use Rattle.text_page.specs.Decimal.{decimal}
-use Rattle.text_page.specs.DecimalLaws.{decimal_one, decimal_more}
+use Rattle.text_page.proofs.DecimalLaws.{decimal_one, decimal_more}
 use Rattle.text_writer.specs.Writable.{PositionsFit, text, next, further, number, pattern_at, vector_at, gap_pieces, entry_at}
 
 -- the first items, by their places

@@ -8,7 +8,7 @@ use lib.ListN.{length, take, drop}
 use Rattle.word.specs.Ceilings.{WORD}
 use Rattle.text_page.specs.PageLaws.{writes_as, writes_join, ToCome, start, step, again, finish_by, same_size}
 use Rattle.text_page.specs.Decimal.{NUMERAL, decimal}
-use Rattle.text_page.specs.DecimalLaws.{room_decimal}
+use Rattle.text_page.proofs.DecimalLaws.{room_decimal}
 use Rattle.avoider_lines.specs.LineText.{further_text}
 use Rattle.avoider_lines.specs.LineTextLaws.{written_size, line_none, line_first, line_step, line_end}
 use borrow.Author.Rules.{rules}

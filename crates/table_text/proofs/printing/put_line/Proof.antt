@@ -3,7 +3,7 @@
 -- Assumes nothing.
 use native.Mathlib.Omega.{arith}
 use Rattle.text_page.specs.PageLaws.{writes_join}
-use Rattle.text_page.specs.DecimalLaws.{decimal_two, room_decimal}
+use Rattle.text_page.proofs.DecimalLaws.{decimal_two, room_decimal}
 use borrow.Author.Rules.{rules}
 use Rattle.table_text.proofs.printing.put_line.Statement.{statement}
 use Rattle.table_text.proofs.printing.put_line.Tie as tie

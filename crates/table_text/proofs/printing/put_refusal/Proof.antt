@@ -5,7 +5,7 @@ use native.Mathlib.Omega.{arith}
 use mathlib.Core.Path.{ap, ◌∙◌}
 use Rattle.text_page.specs.PageLaws.{writes_as, writes_join}
 use Rattle.text_page.specs.Decimal.{decimal}
-use Rattle.text_page.specs.DecimalLaws.{room_decimal}
+use Rattle.text_page.proofs.DecimalLaws.{room_decimal}
 use borrow.Author.Rules.{rules}
 use Rattle.table_text.proofs.printing.put_refusal.Statement.{statement}
 use Rattle.table_text.proofs.printing.put_refusal.Tie as tie

@@ -1,12 +1,11 @@
 -- `text_page::bytes::put_bytes` meets its contract: what is still to come are the bytes from the
 -- index on.
 -- Assumes nothing.
-use Prim.Native.Nat.{◌-◌}
 use borrow.Author.Rules.{rules}
 use native.Mathlib.Numerals.{add-one}
-use lib.ListN.{length, drop, drop_of_length-le}
+use lib.ListN.{drop_of_length-le}
 use lib.Seq.{drop-cons}
-use Rattle.text_page.specs.PageLaws.{ToCome, start, step, again, finish, same_size, room_next}
+use Rattle.text_page.specs.PageLaws.{start, step, again, finish, same_size, room_next}
 use Rattle.text_page.proofs.bytes.put_bytes.Goals as goal
 
 pub loop-i-init : goal.loop-i-init

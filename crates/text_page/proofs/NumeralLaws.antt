@@ -4,7 +4,7 @@ use Rattle.std.proofs.Common.{arith, ap, ◌∙◌, le-leb}
 use Rattle.word.specs.Lists.{all}
 use Rattle.word.specs.ListLaws.{all_append}
 use Rattle.text_page.specs.Decimal.{digits_of, decimal}
-use Rattle.text_page.specs.DecimalLaws.{digits_none}
+use Rattle.text_page.proofs.DecimalLaws.{digits_none}
 use Rattle.text_page.specs.Numeral.{is_digit, denotes_after, denotes}
 
 abbrev last : ℕ → List ℕ

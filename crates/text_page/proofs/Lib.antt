@@ -1,0 +1,3 @@
+-- The laws of numbers in base ten.
+pub mod DecimalLaws
+pub mod NumeralLaws
