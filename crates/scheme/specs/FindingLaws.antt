@@ -61,13 +61,13 @@ clean_test r false e = refl
 
 module _ {A : Type 0} (r : Refusal) (f : A → Bool) where
   -- a test of each item
-  pub first_out : (i : ℕ) {x : A} {l : List A} → first_at r f i l ≡ clean → Memᴰ x l → f x ≡ false
-  first_out i {x} e (Memᴰ.head {x = y} {xs = l} q) = ap f q ∙ go (f y) refl e
+  pub first_out : {x : A} (i : ℕ) {l : List A} → first_at r f i l ≡ clean → Memᴰ x l → f x ≡ false
+  first_out {x} i e (Memᴰ.head {x = y} {xs = l} q) = ap f q ∙ go (f y) refl e
     where
       go : (b : Bool) → f y ≡ b → cond b (fault r i) (first_at r f (suc i) l) ≡ clean → f y ≡ false
       go true p h = absurd (fault_not_clean h)
       go false p h = p
-  first_out i {x} e (Memᴰ.tail {x = y} {xs = l} m) = first_out (suc i) (go (f y) e) m
+  first_out {x} i e (Memᴰ.tail {x = y} {xs = l} m) = first_out (suc i) (go (f y) e) m
     where
       go : (b : Bool) → cond b (fault r i) (first_at r f (suc i) l) ≡ clean → first_at r f (suc i) l ≡ clean
       go true h = absurd (fault_not_clean h)

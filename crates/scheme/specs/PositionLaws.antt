@@ -1,7 +1,7 @@
 -- Laws of a set of positions that passes test 7: it rises within 1 to k, so it is no longer than k,
 -- and a word without these positions is shorter by their number.
 use Rattle.std.specs.Prelude.{ℕ, zero, suc, ◌+◌, ◌≤◌, ◌<◌, ◌≡◌, refl, Bool, true, false, cond, ◌||◌, List, [], ◌∷◌, ◌⊎◌, length, get_or, drop, leb, ltb, eqb}
-use Rattle.std.proofs.Common.{arith, ap, ◌∙◌, inl, inr, leb-false, ltb-false, eq-eqb, ne_eqb, le-ltb}
+use Rattle.std.proofs.Common.{subst, arith, ap, ◌∙◌, inl, inr, leb-false, ltb-false, eq-eqb, ne_eqb, le-ltb}
 use Rattle.std.proofs.lemmas.Bool.{eqb-false, lt-leb}
 use Rattle.word.specs.Lists.{all}
 use Rattle.word.specs.Word.{within, has, distinct}
@@ -113,7 +113,7 @@ from_size i (r ∷ R) (x ∷ w) e =
     k = omega arith
 
     moved : astray (suc i + length w) i (r ∷ R) ≡ false
-    moved = rw k at e
+    moved = subst (λ (n : ℕ). astray n i (r ∷ R) ≡ false) k e
 
     go : (astray (suc i + length w) (suc i) R ≡ false → length (without_from R (suc (suc i)) w) + length R ≡ length w) →
         (astray (suc i + length w) (suc i) (r ∷ R) ≡ false →

@@ -7,15 +7,11 @@ use native.Mathlib.Omega.{arith}
 use lib.ListN.{length}
 use Rattle.word.specs.Ceilings.{PREFIX}
 use Rattle.forms.specs.MemoryLaws.{padded_within}
-use Rattle.scheme.proofs.links.entry_code.Statement.{statement}
-use Rattle.scheme.proofs.links.entry_code.Tie as tie
+use Rattle.scheme.proofs.links.entry_code.Goals as goal
 
-returns : tie.Need-returns
+pub returns : goal.returns
 returns c =
-    let e = c.before.before.args.e in
+    let e = c.args.e in
     let six : length e.prefix ≡ PREFIX = search rules in
     let short : e.length ≤ PREFIX = search rules in
-    rw (padded_within e.length e.prefix (omega arith)) c.code_of_lem.ensures
-
-pub entry-code-spec : {M : Type 1} → statement M
-entry-code-spec = tie.close (tie.spec (λ c κs. search rules) returns)
+    rw (padded_within e.length e.prefix (omega arith)) c.code_of.ensures
