@@ -63,12 +63,12 @@ distinct_front (x ∷ u) r e =
     let (f, d) = distinct_out x (u ++ r) e in
     distinct_in x u (λ (m : Memᴰ x u). f (Memᴰ.append_left r m)) (distinct_front u r d)
 
-distinct_behind : (u : List ℕ) (v : ℕ) (r : List ℕ) → distinct (u ++ (v ∷ r)) ≡ true → Memᴰ v u → ⊥
-distinct_behind u v r e (Memᴰ.head {xs = t} q) =
+distinct_behind : (v : ℕ) (u r : List ℕ) → distinct (u ++ (v ∷ r)) ≡ true → Memᴰ v u → ⊥
+distinct_behind v u r e (Memᴰ.head {xs = t} q) =
     let (f, d) = distinct_out _ (t ++ (v ∷ r)) e in
     f (Memᴰ.cast (sym q) (Memᴰ.append_right t (Memᴰ.head refl)))
-distinct_behind u v r e (Memᴰ.tail {x = x} {xs = t} m) =
-    let (f, d) = distinct_out x (t ++ (v ∷ r)) e in distinct_behind t v r d m
+distinct_behind v u r e (Memᴰ.tail {x = x} {xs = t} m) =
+    let (f, d) = distinct_out x (t ++ (v ∷ r)) e in distinct_behind v t r d m
 
 distinct_snoc : (u : List ℕ) (v : ℕ) → distinct u ≡ true → (Memᴰ v u → ⊥) → distinct (u ++ (v ∷ [])) ≡ true
 unfolding distinct has
@@ -127,7 +127,7 @@ begun_last n u v r e =
     (h, k, fresh (has v u) refl)
   where
     fresh : (b : Bool) → has v u ≡ b → has v u ≡ false
-    fresh true q = absurd (distinct_behind u v r (and_right (all (within n) (u ++ (v ∷ r))) (distinct (u ++ (v ∷ r))) e) (has_out v u q))
+    fresh true q = absurd (distinct_behind v u r (and_right (all (within n) (u ++ (v ∷ r))) (distinct (u ++ (v ∷ r))) e) (has_out v u q))
     fresh false q = q
 
 -- a begun word of length n is a permutation: whether it can be completed is whether it avoids the
@@ -156,7 +156,7 @@ completable_next P n u h = same_test (completable P n u) (any (goes_on P n u) (o
         let q = append_assoc u (v ∷ []) r in
         any_in (goes_on P n u) (row_in 1 n v low (omega arith))
         (and_in (not (has v u)) (completable P n (u ++ (v ∷ [])))
-        (not_in (has v u) (λ (e : has v u ≡ true). distinct_behind u v r (perm_distinct (u ++ (v ∷ r)) p) (has_out v u e)))
+        (not_in (has v u) (λ (e : has v u ≡ true). distinct_behind v u r (perm_distinct (u ++ (v ∷ r)) p) (has_out v u e)))
         (completable_in P n (u ++ (v ∷ [])) r (ap is_perm q ∙ p) (ap length q ∙ l) (ap (avoids P) q ∙ a)))
 
     there : completable P n u ≡ true → any (goes_on P n u) (one_to n) ≡ true

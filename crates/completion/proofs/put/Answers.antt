@@ -5,14 +5,10 @@ use Prim.Native.Nat.{◌<◌}
 use lib.ListN.{length}
 use lib.Seq.{take-suc-set}
 use borrow.Author.Rules.{rules}
-use Rattle.completion.proofs.put.Statement.{statement}
-use Rattle.completion.proofs.put.Tie as tie
+use Rattle.completion.proofs.put.Goals as goal
 
-returns : tie.Need-returns
+pub returns : goal.returns
 returns c =
     let a = c.args in
     let room : a.len < length a.word = search rules in
     rw (add-one a.len) (take-suc-set a.word a.len a.v room)
-
-pub put_spec : {M : Type 1} → statement M
-put_spec = tie.close (tie.spec (λ c. search rules) returns)

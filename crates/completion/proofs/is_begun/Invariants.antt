@@ -1,0 +1,13 @@
+-- The invariant and the measure of the loop of `completion::is_begun`.
+use Prim.Native.Nat.{◌-◌, ◌≤◌}
+use mathlib.Core.Path.{◌≡◌}
+use mathlib.Core.Bool.{true}
+use lib.ListN.{take}
+use Rattle.completion.specs.Completion.{begun}
+use Rattle.completion.proofs.is_begun.Given as goal
+
+abbrev pub invariant-loop-i : goal.invariant-loop-i
+invariant-loop-i l = (begun l.n (take l.i l.word) ≡ true) × (l.i ≤ l.len)
+
+abbrev pub decreases-loop-i : goal.decreases-loop-i
+decreases-loop-i l = l.len - l.i
