@@ -1,11 +1,9 @@
 -- `placing::placing::pairs_fit` meets its contract: the pairs from the index on decide.
 -- Assumes nothing.
-use Prim.Native.Nat.{◌-◌, ◌≤◌}
 use mathlib.Core.Path.{◌≡◌, sym, ◌∙◌}
 use borrow.Author.Rules.{rules}
 use native.Mathlib.Omega.{arith}
-use lib.ListN.{length, take, drop}
-use Rattle.word.specs.Vocabulary.{fits}
+use lib.ListN.{length}
 use Rattle.copy_search.proofs.Search.{pairs_none, pair_passed, pair_failed}
 use Rattle.placing.proofs.placing.pairs_fit.Goals as goal
 

@@ -1,11 +1,8 @@
 -- The invariant and the measure of the loop of `placing::placing::pairs_fit`.
 use Prim.Native.Nat.{◌-◌, ◌≤◌}
-use mathlib.Core.Path.{◌≡◌, sym, ◌∙◌}
-use borrow.Author.Rules.{rules}
-use native.Mathlib.Omega.{arith}
-use lib.ListN.{length, take, drop}
+use mathlib.Core.Path.{◌≡◌}
+use lib.ListN.{take, drop}
 use Rattle.word.specs.Vocabulary.{fits}
-use Rattle.copy_search.proofs.Search.{pairs_none, pair_passed, pair_failed}
 use Rattle.placing.proofs.placing.pairs_fit.Given as goal
 
 abbrev pub invariant-loop-j : goal.invariant-loop-j

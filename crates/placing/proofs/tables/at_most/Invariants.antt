@@ -1,12 +1,8 @@
 -- The invariant and the measure of the loop of `placing::tables::at_most`.
 use Prim.Native.Nat.{◌+◌, ◌-◌, ◌≤◌}
 use mathlib.Core.Path.{◌≡◌}
-use mathlib.Core.Logic.{⊎_elim}
-use native.Mathlib.Omega.{arith}
-use borrow.Author.Rules.{rules}
-use lib.ListN.{length, take, drop}
+use lib.ListN.{take, drop}
 use Rattle.word.specs.Word.{under}
-use Rattle.placing.proofs.LookupLaws.{under_counted, under_passed, under_end}
 use Rattle.placing.proofs.tables.at_most.Given as goal
 
 abbrev pub invariant-loop-j : goal.invariant-loop-j

@@ -1,15 +1,12 @@
 -- `placing::tables::deleted_values` meets its contract: what is flagged, and what stands at the
 -- positions still to come, is the whole.
 -- Assumes nothing.
-use Prim.Native.Nat.{ℕ, ◌-◌, ◌≤◌, ◌<◌}
+use Prim.Native.Nat.{◌-◌, ◌≤◌}
 use mathlib.Core.Path.{◌≡◌, sym, ◌∙◌}
-use mathlib.Core.Bool.{◌||◌}
-use mathlib.Core.List.{map}
 use native.Mathlib.Omega.{arith}
 use borrow.Author.Rules.{rules}
-use lib.ListN.{length, get_or, take, drop}
-use Rattle.word.specs.Word.{has, entry}
-use Rattle.placing.specs.Lookup.{flagged}
+use lib.ListN.{length, get_or, take}
+use Rattle.word.specs.Word.{entry}
 use Rattle.placing.proofs.LookupLaws.{position_bounds, position_small, flag_none, flag_next, flag_end}
 use Rattle.placing.proofs.tables.deleted_values.Goals as goal
 

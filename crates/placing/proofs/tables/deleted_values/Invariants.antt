@@ -1,14 +1,11 @@
 -- The invariant and the measure of the loop of `placing::tables::deleted_values`.
 use Prim.Native.Nat.{ℕ, ◌-◌, ◌≤◌, ◌<◌}
-use mathlib.Core.Path.{◌≡◌, sym, ◌∙◌}
+use mathlib.Core.Path.{◌≡◌}
 use mathlib.Core.Bool.{◌||◌}
 use mathlib.Core.List.{map}
-use native.Mathlib.Omega.{arith}
-use borrow.Author.Rules.{rules}
-use lib.ListN.{length, get_or, take, drop}
+use lib.ListN.{length, take, drop}
 use Rattle.word.specs.Word.{has, entry}
 use Rattle.placing.specs.Lookup.{flagged}
-use Rattle.placing.proofs.LookupLaws.{position_bounds, position_small, flag_none, flag_next, flag_end}
 use Rattle.placing.proofs.tables.deleted_values.Given as goal
 
 abbrev pub invariant-loop-j : goal.invariant-loop-j

@@ -1,12 +1,9 @@
 -- The invariant and the measure of the loop of `placing::tables::kept`.
-use Prim.Native.Nat.{ℕ, ◌+◌, ◌-◌, ◌≤◌, min}
-use mathlib.Core.Path.{◌≡◌, sym, ap, ◌∙◌}
-use mathlib.Core.List.{List, ◌++◌}
-use native.Mathlib.Omega.{arith}
-use borrow.Author.Rules.{rules}
-use lib.ListN.{length, get_or, take, drop}
+use Prim.Native.Nat.{◌-◌, ◌≤◌}
+use mathlib.Core.Path.{◌≡◌}
+use mathlib.Core.List.{◌++◌}
+use lib.ListN.{length, take, drop}
 use Rattle.placing.specs.Tabled.{kept_values}
-use Rattle.placing.proofs.CandidateMade.{push, pushed, kept_here, kept_gone, kept_end}
 use Rattle.placing.proofs.tables.kept.Given as goal
 
 abbrev pub invariant-loop-i : goal.invariant-loop-i

@@ -1,14 +1,13 @@
 -- `placing::tables::levels_of` meets its contract: the table says the levels up to v, and the sum
 -- is the level of v.
 -- Assumes nothing.
-use Prim.Native.Nat.{◌+◌, ◌-◌, ◌≤◌}
+use Prim.Native.Nat.{◌+◌}
 use mathlib.Core.Path.{◌≡◌, sym}
 use native.Mathlib.Omega.{arith}
 use borrow.Author.Rules.{rules}
 use lib.ListN.{length, get_or, take, replicate}
 use Rattle.cell.specs.Built.{level}
 use Rattle.cell.specs.BuiltWords.{level_at_most}
-use Rattle.placing.specs.Lookup.{Says}
 use Rattle.placing.proofs.LookupLaws.{says_more, says_first, level_more, level_zero}
 use Rattle.placing.proofs.tables.levels_of.Goals as goal
 

@@ -1,13 +1,9 @@
 -- The invariant and the measure of the loop of `placing::tables::levels_of`.
 use Prim.Native.Nat.{◌+◌, ◌-◌, ◌≤◌}
-use mathlib.Core.Path.{◌≡◌, sym}
-use native.Mathlib.Omega.{arith}
-use borrow.Author.Rules.{rules}
-use lib.ListN.{length, get_or, take, replicate}
+use mathlib.Core.Path.{◌≡◌}
+use lib.ListN.{length, take}
 use Rattle.cell.specs.Built.{level}
-use Rattle.cell.specs.BuiltWords.{level_at_most}
 use Rattle.placing.specs.Lookup.{Says}
-use Rattle.placing.proofs.LookupLaws.{says_more, says_first, level_more, level_zero}
 use Rattle.placing.proofs.tables.levels_of.Given as goal
 
 abbrev pub invariant-loop-v : goal.invariant-loop-v

@@ -1,21 +1,20 @@
 -- `placing::tables::lifted` meets its contract: what is added, and what is still to be added, is
 -- the count of the lower levels.
 -- Assumes nothing.
-use Prim.Native.Nat.{suc, ◌+◌, ◌-◌, ◌≤◌}
-use mathlib.Core.Path.{◌≡◌}
-use mathlib.Core.Logic.{⊎_elim}
 use native.Mathlib.Omega.{arith}
-use borrow.Author.Rules.{rules}
 use Rattle.placing.specs.Lookup.{entry_of}
-use Rattle.placing.proofs.LookupLaws.{lower, lower_counted, lower_passed, lower_end, lower_lifts}
+use Rattle.placing.proofs.LookupLaws.{lower_counted, lower_passed, lower_end, lower_lifts}
 use Rattle.placing.proofs.tables.lifted.Goals as goal
+use Rattle.placing.proofs.tables.lifted.Goals.{then-levels-v, else-levels-v}
 
 pub loop-v-preserved : goal.loop-v-preserved
 loop-v-preserved c =
     let a = c.args in
     let l = c.loop-v in
-    ⊎_elim (λ w. omega (arith, lower_counted (entry_of a.levels) a.s a.k l.v (omega arith) w.0.taken))
-    (λ w. omega (arith, lower_passed (entry_of a.levels) a.s a.k l.v (omega arith) w.0.left)) c.if-levels-v.branch
+    elim c.if-levels-v.branch [
+      | then-levels-v w ↦ omega (arith, lower_counted (entry_of a.levels) a.s a.k l.v (omega arith) w.if-levels-v.true)
+      | else-levels-v w ↦ omega (arith, lower_passed (entry_of a.levels) a.s a.k l.v (omega arith) w.if-levels-v.false)
+    ]
 
 pub returns : goal.returns
 returns c =

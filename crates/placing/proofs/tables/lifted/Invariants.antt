@@ -1,11 +1,8 @@
 -- The invariant and the measure of the loop of `placing::tables::lifted`.
 use Prim.Native.Nat.{suc, ◌+◌, ◌-◌, ◌≤◌}
 use mathlib.Core.Path.{◌≡◌}
-use mathlib.Core.Logic.{⊎_elim}
-use native.Mathlib.Omega.{arith}
-use borrow.Author.Rules.{rules}
 use Rattle.placing.specs.Lookup.{entry_of}
-use Rattle.placing.proofs.LookupLaws.{lower, lower_counted, lower_passed, lower_end, lower_lifts}
+use Rattle.placing.proofs.LookupLaws.{lower}
 use Rattle.placing.proofs.tables.lifted.Given as goal
 
 abbrev pub invariant-loop-v : goal.invariant-loop-v

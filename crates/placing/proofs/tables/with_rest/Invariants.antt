@@ -1,14 +1,11 @@
 -- The invariant and the measure of the loop of `placing::tables::with_rest`.
 use Prim.Native.Nat.{ℕ, ◌+◌, ◌-◌, ◌≤◌}
-use mathlib.Core.Path.{◌≡◌, refl, ap, ◌∙◌}
+use mathlib.Core.Path.{◌≡◌}
 use mathlib.Core.List.{List, ◌++◌, map}
-use native.Mathlib.Omega.{arith}
-use borrow.Author.Rules.{rules}
-use lib.ListN.{length, get_or, take, drop}
+use lib.ListN.{length, take, drop}
 use Rattle.cell.specs.Built.{lift}
 use Rattle.placing.specs.Lookup.{entry_of}
 use Rattle.placing.specs.Tabled.{Reached}
-use Rattle.placing.proofs.CandidateMade.{push, pushed, rest_here, rest_end}
 use Rattle.placing.proofs.tables.with_rest.Given as goal
 
 abbrev pub invariant-loop-j : goal.invariant-loop-j
