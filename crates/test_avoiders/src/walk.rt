@@ -47,7 +47,7 @@ fn with_permutation(walk: Walk, patterns: Patterns, w: [u8; LONGEST], n: usize) 
         return walk;
     }
     let left = walk.left;
-    let right = is_right_lem(walk.right, left, prefix(&w, n));
+    let right = is_right(walk.right, left, prefix(&w, n));
     Walk {
         left: next(patterns, prefix(&w, n), PAGE),
         given: one_more_if(is_given(left), walk.given),
@@ -56,7 +56,7 @@ fn with_permutation(walk: Walk, patterns: Patterns, w: [u8; LONGEST], n: usize) 
 }
 
 // Whether all was right so far and is with what was given here. Only what differs first is printed.
-fn is_right_lem(before: bool, left: Left, expected: &[u8]) -> bool {
+fn is_right(before: bool, left: Left, expected: &[u8]) -> bool {
     if !before {
         return false;
     }

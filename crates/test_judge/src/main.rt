@@ -75,13 +75,13 @@ fn with_witness(t: Tally, set: &[u8], scheme: &[u8], verdict: Verdict, page: &[u
         pairs: t.pairs,
         wrong_pages: t.wrong_pages,
         witnesses: one_more_if(true, t.witnesses),
-        wrong_witnesses: one_more_if(!is_right_lem(finding), t.wrong_witnesses),
+        wrong_witnesses: one_more_if(!is_right(finding), t.wrong_witnesses),
         listed: one_more_if(is_compared_with_all(page), t.listed),
     }
 }
 
 // Whether nothing is wrong with a witness.
-fn is_right_lem(finding: Finding) -> bool {
+fn is_right(finding: Finding) -> bool {
     match finding {
         Finding::Right => true,
         Finding::Form => false,

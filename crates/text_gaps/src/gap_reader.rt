@@ -12,7 +12,7 @@ use forms::gaps::with_gap;
 use forms::memory::Gap;
 use text_grammar::cursor::Cursor;
 use text_grammar::items::{Turn, goes_on, is_done, turn_of};
-use text_grammar::kinds::{is_byte, is_digits, is_empty, is_left, is_right_lem};
+use text_grammar::kinds::{is_byte, is_digits, is_empty, is_left, is_right};
 use word::bytes::wide;
 use word::limits::{COMPONENTS, GAPS, PARTS};
 
@@ -70,10 +70,10 @@ fn number_of(s: &[u8], from: usize, len: usize) -> Numeral
     ensures { Numbered (run (drop from s.now)) result }
 {
     if len == 0 {
-        return no_number_lem();
+        return no_number();
     }
     if 3 < len {
-        return no_number_lem();
+        return no_number();
     }
     let a = digit_of(s, from, 0);
     if len == 1 {
@@ -83,7 +83,7 @@ fn number_of(s: &[u8], from: usize, len: usize) -> Numeral
         };
     }
     if a == 0 {
-        return no_number_lem();
+        return no_number();
     }
     let b = digit_of(s, from, 1);
     if len == 2 {
@@ -100,7 +100,7 @@ fn number_of(s: &[u8], from: usize, len: usize) -> Numeral
 }
 
 // No number.
-fn no_number_lem() -> Numeral
+fn no_number() -> Numeral
     ensures { result ≡ no_number }
 {
     Numeral {
@@ -185,7 +185,7 @@ fn with_part(s: &[u8], m: GapPart) -> GapPart
     let kind = t.kind;
     let next = t.next;
     GapPart {
-        turn: turn_of(is_right_lem(kind), is_byte(kind, b',')),
+        turn: turn_of(is_right(kind), is_byte(kind, b',')),
         gap,
         next,
     }

@@ -1,5 +1,5 @@
 -- A test of a kind of token tells the kind.
-use Rattle.std.specs.Prelude.{ℕ, zero, suc, ◌<◌, ◌≡◌, refl, true, false, eqb}
+use Rattle.std.specs.Prelude.{ℕ, zero, suc, ◌<◌, ◌≡◌, refl, true, eqb}
 use Rattle.std.proofs.Common.{arith, ap, ◌∙◌, eqb-true}
 use Rattle.std.proofs.lemmas.Bool.{false≢true}
 use Rattle.text_grammar.specs.declared.cursor.Kind.{Kind}

@@ -62,7 +62,7 @@ pub fn is_left(kind: Kind) -> bool
 }
 
 // Whether a token is ⟩.
-pub fn is_right_lem(kind: Kind) -> bool
+pub fn is_right(kind: Kind) -> bool
     ensures { result ≡ is_right kind }
 {
     has_code(kind, 5)

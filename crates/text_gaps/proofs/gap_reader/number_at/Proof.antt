@@ -14,22 +14,22 @@ returns c =
     let at-step = c.before.before.before in
     let start = at-step.before.before in
     number_other start.args.s.now start.args.c.at at-step.step.result at-step.step.ensures
-    (sym c.before.is_digits_lem.ensures ∙ not-true _ c.if1.true)
+    (sym c.before.is_digits.ensures ∙ not-true _ c.if1.true)
 
 number-of-requires : tie.Need-number-of-requires
 number-of-requires c κs =
     let at-step = c.before.before.before.before in
     let start = at-step.before.before in
     run_length start.args.s.now start.args.c.at at-step.step.result at-step.step.ensures
-    (sym c.before.before.is_digits_lem.ensures ∙ not-false _ c.before.if1.false)
+    (sym c.before.before.is_digits.ensures ∙ not-false _ c.before.if1.false)
 
 returns-2 : tie.Need-returns-2
 returns-2 c =
     let at-step = c.before.before.before.before.before in
     let start = at-step.before.before in
     number_run start.args.s.now start.args.c.at at-step.step.result at-step.step.ensures
-    (sym c.before.before.before.is_digits_lem.ensures ∙ not-false _ c.before.before.if1.false) c.number_of_lem.result
-    c.number_of_lem.ensures
+    (sym c.before.before.before.is_digits.ensures ∙ not-false _ c.before.before.if1.false) c.number_of.result
+    c.number_of.ensures
 
 pub number-at-spec : {M : Type 1} → statement M
 number-at-spec =

@@ -12,8 +12,8 @@ use Rattle.text_gaps.proofs.gap_reader.number_of.Tie as tie
 returns : tie.Need-returns
 returns c =
     let start = c.before.before.before in
-    number_empty (run (drop start.args.from start.args.s.now)) c.no_number_lem.result
-    c.no_number_lem.ensures (sym start.requires ∙ c.before.if1.true)
+    number_empty (run (drop start.args.from start.args.s.now)) c.no_number.result
+    c.no_number.ensures (sym start.requires ∙ c.before.if1.true)
 
 returns-2 : tie.Need-returns-2
 returns-2 c =

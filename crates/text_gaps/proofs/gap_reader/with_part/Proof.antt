@@ -28,7 +28,7 @@ returns-2 c =
     at-number-at.number_at.ensures (not-false _ at-stored-part.before.if1.false) at-step.step.result
     at-step.step.ensures
     c.turn-of.result at-stored-part.stored-part.result
-    (c.turn-of.ensures ∙ ap₂ turn_of c.before.before.is_right_lem.ensures c.before.is_byte_lem.ensures)
+    (c.turn-of.ensures ∙ ap₂ turn_of c.before.before.is_right.ensures c.before.is_byte.ensures)
     at-stored-part.stored-part.ensures
 
 pub with-part-spec : {M : Type 1} → statement M

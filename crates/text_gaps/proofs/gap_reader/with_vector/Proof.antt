@@ -27,7 +27,7 @@ returns-2 c =
     at-gap-at.gap_at.ensures (not-false _ at-stored-gap.before.before.if1.false) at-step.step.result
     at-step.step.ensures
     c.turn-of.result at-stored-gap.stored-gap.result
-    (c.turn-of.ensures ∙ ap₂ turn_of c.before.before.is_byte_lem.ensures c.before.is-byte2.ensures)
+    (c.turn-of.ensures ∙ ap₂ turn_of c.before.before.is_byte.ensures c.before.is-byte2.ensures)
     at-stored-gap.stored-gap.ensures
 
 pub with-vector-spec : {M : Type 1} → statement M

@@ -31,7 +31,7 @@ returns-2 c =
       advances = λ t m ready. part_stored true a.s.now t m a.c.at ready at-number-at.number_at.result
           at-number-at.number_at.ensures (not-false _ at_part.before.if1.false) at-step.step.result
           at-step.step.ensures c.turn-of.result (stored_if true m at_part.part.result)
-          (c.turn-of.ensures ∙ ap₂ turn_of c.before.before.is_byte_lem.ensures c.before.is-byte2.ensures)
+          (c.turn-of.ensures ∙ ap₂ turn_of c.before.before.is_byte.ensures c.before.is-byte2.ensures)
           (ap (λ (x : ℕ). stored_if true m x) at_part.part.ensures);
     }
 

@@ -22,7 +22,7 @@ returns-2 c =
     item_read begin.args.s.now begin.args.c p.pattern-at.result p.pattern-at.ensures
     (not-false _ step.before.before.if1.false)
     step.step.result step.step.ensures c.turn-of.result
-    (c.turn-of.ensures ∙ ap₂ turn_of c.before.before.is_byte_lem.ensures c.before.is-byte2.ensures)
+    (c.turn-of.ensures ∙ ap₂ turn_of c.before.before.is_byte.ensures c.before.is-byte2.ensures)
 
 pub item-at-spec : {M : Type 1} → statement M
 item-at-spec =

@@ -20,7 +20,7 @@ returns-2 c =
     let set = step.before.before.before.before in
     text_more set.before.before.args.s.now set.set_at.result set.set_at.ensures
     (not-false _ step.before.before.if1.false) step.step.result step.step.ensures
-    (sym c.before.before.is_end_lem.ensures ∙ not-true _ c.before.if2.true)
+    (sym c.before.before.is_end.ensures ∙ not-true _ c.before.if2.true)
     c.misspelt2.result c.misspelt2.ensures
 
 returns-3 : tie.Need-returns-3
@@ -29,7 +29,7 @@ returns-3 c =
     let set = step.before.before.before.before in
     text_end set.before.before.args.s.now set.set_at.result set.set_at.ensures
     (not-false _ step.before.before.if1.false) step.step.result step.step.ensures
-    (sym c.before.before.is_end_lem.ensures ∙ not-false _ c.before.if2.false)
+    (sym c.before.before.is_end.ensures ∙ not-false _ c.before.if2.false)
 
 pub load-patterns-spec : {M : Type 1} → statement M
 load-patterns-spec =

@@ -13,21 +13,21 @@ digits-at-requires c κs =
     let step = c.before.before.before.before in
     let begin = step.before.before in
     run_length begin.args.s.now begin.args.c.at step.step.result step.step.ensures
-    (sym c.before.before.is_digits_lem.ensures ∙ c.before.if1.true)
+    (sym c.before.before.is_digits.ensures ∙ c.before.if1.true)
 
 returns : tie.Need-returns
 returns c =
     let step = c.before.before.before.before.before in
     let begin = step.before.before in
     pattern_run begin.args.s.now begin.args.c.at step.step.result step.step.ensures
-    (sym c.before.before.before.is_digits_lem.ensures ∙ c.before.before.if1.true) c.digits-at.result c.digits-at.ensures
+    (sym c.before.before.before.is_digits.ensures ∙ c.before.before.if1.true) c.digits-at.result c.digits-at.ensures
 
 returns-2 : tie.Need-returns-2
 returns-2 c =
     let step = c.before.before.before.before in
     let begin = step.before.before in
     pattern_other begin.args.s.now begin.args.c.at step.step.result step.step.ensures
-    (sym c.before.before.is_digits_lem.ensures ∙ c.before.if1.false) c.is_epsilon_lem.result c.is_epsilon_lem.ensures
+    (sym c.before.before.is_digits.ensures ∙ c.before.if1.false) c.is_epsilon.result c.is_epsilon.ensures
 
 pub pattern-at-spec : {M : Type 1} → statement M
 pattern-at-spec =

@@ -13,7 +13,7 @@ returns c =
     let step = c.before.before.before.before in
     let begin = step.before.before in
     set_empty begin.args.s.now begin.args.c.at step.step.result step.step.ensures
-    (sym c.before.before.is_empty_lem.ensures ∙ c.before.if1.true) c.no-patterns.result c.no-patterns.ensures
+    (sym c.before.before.is_empty.ensures ∙ c.before.if1.true) c.no-patterns.result c.no-patterns.ensures
 
 returns-2 : tie.Need-returns-2
 returns-2 c =
@@ -21,8 +21,8 @@ returns-2 c =
     let step = at-is-empty.before.before in
     let begin = step.before.before in
     set_none begin.args.s.now begin.args.c.at step.step.result step.step.ensures
-    (sym at-is-empty.is_empty_lem.ensures ∙ c.before.before.before.if1.false)
-    (sym c.before.before.is_byte_lem.ensures ∙ not-true _ c.before.if2.true)
+    (sym at-is-empty.is_empty.ensures ∙ c.before.before.before.if1.false)
+    (sym c.before.before.is_byte.ensures ∙ not-true _ c.before.if2.true)
     c.no-patterns2.result
 
 items-at-requires : tie.Need-items-at-requires
@@ -30,14 +30,14 @@ items-at-requires c κs =
     let step = c.before.before.before.before.before in
     let begin = step.before.before in
     brace_within begin.args.s.now begin.args.c.at step.step.result step.step.ensures
-    (sym c.before.is_byte_lem.ensures ∙ not-false _ c.if2.false)
+    (sym c.before.is_byte.ensures ∙ not-false _ c.if2.false)
 
 returns-3 : tie.Need-returns-3
 returns-3 c =
     let step = c.before.before.before.before.before.before in
     let begin = step.before.before in
     set_items begin.args.s.now begin.args.c.at step.step.result step.step.ensures
-    (sym c.before.before.is_byte_lem.ensures ∙ not-false _ c.before.if2.false) c.items_at.result c.items_at.ensures
+    (sym c.before.before.is_byte.ensures ∙ not-false _ c.before.if2.false) c.items_at.result c.items_at.ensures
 
 pub set-at-spec : {M : Type 1} → statement M
 set-at-spec =

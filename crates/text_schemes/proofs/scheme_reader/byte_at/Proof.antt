@@ -11,7 +11,7 @@ returns c =
     let at-step = c.before.before in
     let start = at-step.before.before in
     marked start.args.s.now start.args.c.at at-step.step.result at-step.step.ensures
-    start.args.b c.is_byte_lem.result c.is_byte_lem.ensures
+    start.args.b c.is_byte.result c.is_byte.ensures
 
 pub byte-at-spec : {M : Type 1} → statement M
 byte-at-spec = tie.close (tie.spec (λ c κs. search rules) (λ c κs. search rules) returns)

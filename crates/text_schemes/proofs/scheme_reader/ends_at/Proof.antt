@@ -13,7 +13,7 @@ returns : tie.Need-returns
 returns c =
     let t = c.before.step in
     let s = c.before.before.before.args.s.now in
-    c.is_end_lem.ensures ∙ end_seen t.result.kind (drop t.result.from s) (tokens (drop t.result.next.at s)) ∙
+    c.is_end.ensures ∙ end_seen t.result.kind (drop t.result.from s) (tokens (drop t.result.next.at s)) ∙
     ap no_tokens (sym t.ensures.gives)
 
 pub ends-at-spec : {M : Type 1} → statement M

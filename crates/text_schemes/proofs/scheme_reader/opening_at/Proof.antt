@@ -11,7 +11,7 @@ returns c =
     let at-step = c.before.before.before in
     let start = at-step.before.before in
     opened start.args.s.now start.args.c.at at-step.step.result at-step.step.ensures
-    c.before.is_empty_lem.result c.before.is_empty_lem.ensures c.if1.true
+    c.before.is_empty.result c.before.is_empty.ensures c.if1.true
 
 returns-2 : tie.Need-returns-2
 returns-2 c =
@@ -19,8 +19,8 @@ returns-2 c =
     let at-step = at-is-empty.before.before in
     let start = at-step.before.before in
     opened_other start.args.s.now start.args.c.at at-step.step.result at-step.step.ensures
-    at-is-empty.is_empty_lem.result c.is_byte_lem.result at-is-empty.is_empty_lem.ensures c.before.if1.false
-    c.is_byte_lem.ensures
+    at-is-empty.is_empty.result c.is_byte.result at-is-empty.is_empty.ensures c.before.if1.false
+    c.is_byte.ensures
 
 pub opening-at-spec : {M : Type 1} → statement M
 opening-at-spec =

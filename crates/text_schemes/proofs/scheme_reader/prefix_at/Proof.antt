@@ -13,22 +13,22 @@ digits-at-requires c κs =
     let at-step = c.before.before.before.before in
     let start = at-step.before.before in
     run_length start.args.s.now start.args.c.at at-step.step.result at-step.step.ensures
-    (sym c.before.before.is_digits_lem.ensures ∙ c.before.if1.true)
+    (sym c.before.before.is_digits.ensures ∙ c.before.if1.true)
 
 returns : tie.Need-returns
 returns c =
     let at-step = c.before.before.before.before.before in
     let start = at-step.before.before in
     prefixed start.args.s.now start.args.c.at at-step.step.result at-step.step.ensures
-    (sym c.before.before.before.is_digits_lem.ensures ∙ c.before.before.if1.true) c.digits-at.result c.digits-at.ensures
+    (sym c.before.before.before.is_digits.ensures ∙ c.before.before.if1.true) c.digits-at.result c.digits-at.ensures
 
 returns-2 : tie.Need-returns-2
 returns-2 c =
     let at-step = c.before.before.before.before in
     let start = at-step.before.before in
     prefixed_other start.args.s.now start.args.c.at at-step.step.result at-step.step.ensures
-    (sym c.before.before.is_digits_lem.ensures ∙ c.before.if1.false) c.is_epsilon_lem.result
-    c.is_epsilon_lem.ensures
+    (sym c.before.before.is_digits.ensures ∙ c.before.if1.false) c.is_epsilon.result
+    c.is_epsilon.ensures
 
 pub prefix-at-spec : {M : Type 1} → statement M
 prefix-at-spec =

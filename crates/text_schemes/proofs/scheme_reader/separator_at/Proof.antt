@@ -11,7 +11,7 @@ returns c =
     let at-step = c.before.before.before in
     let start = at-step.before.before in
     closed start.args.s.now start.args.c.at at-step.step.result at-step.step.ensures
-    c.before.is_byte_lem.result c.before.is_byte_lem.ensures c.if1.true
+    c.before.is_byte.result c.before.is_byte.ensures c.if1.true
 
 returns-2 : tie.Need-returns-2
 returns-2 c =
@@ -19,7 +19,7 @@ returns-2 c =
     let at-step = at-is-byte.before.before in
     let start = at-step.before.before in
     closed_other start.args.s.now start.args.c.at at-step.step.result at-step.step.ensures
-    at-is-byte.is_byte_lem.result c.is-byte2.result at-is-byte.is_byte_lem.ensures c.before.if1.false
+    at-is-byte.is_byte.result c.is-byte2.result at-is-byte.is_byte.ensures c.before.if1.false
     c.is-byte2.ensures
 
 pub separator-at-spec : {M : Type 1} → statement M
