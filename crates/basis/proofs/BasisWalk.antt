@@ -1,6 +1,6 @@
 -- Whether a word contains no other pattern of a set in memory, and the basis as it is gathered.
 -- Assumes nothing.
-use Prim.Native.Nat.{ℕ, zero, suc, ◌+◌, ◌-◌, ◌≤◌, ◌<◌, max}
+use Prim.Native.Nat.{ℕ, zero, suc, ◌+◌, ◌≤◌, ◌<◌, max}
 use mathlib.Core.Path.{◌≡◌, refl, sym, ap, ap₂, ◌∙◌}
 use mathlib.Core.Logic.{◌⊎◌, inl, inr}
 use mathlib.Core.Bool.{Bool, true, false, not, ◌&&◌, ◌||◌, cond}
@@ -11,7 +11,6 @@ use native.Mathlib.Omega.{arith}
 use lib.ListN.{length, get_or, take, length-set, length-take}
 use lib.ListN.{set as set_at}
 use lib.Seq.{get_or-set_same, get_or-set_other}
-use borrow.Author.Tests.{not-true, not-false}
 use Rattle.word.specs.Lists.{keep, row}
 use Rattle.word.specs.Word.{contains, longest}
 use Rattle.word.specs.Patterns.{patterns_of}
@@ -45,11 +44,11 @@ module _ (rows : List (List ℕ)) (lengths : List ℕ) (n : ℕ) (β : List ℕ)
   unfolding basic
   basic_cons = rw (from_cons rows lengths n j h l k, e) refl
 
-  pub basic_here : not t ≡ true → basic (from rows lengths n j) β ≡ false
-  basic_here f = basic_cons ∙ rw (not-true t f) refl
+  pub basic_here : t ≡ false → basic (from rows lengths n j) β ≡ false
+  basic_here f = basic_cons ∙ rw f refl
 
-  pub basic_later : not t ≡ false → basic (from rows lengths n j) β ≡ basic (from rows lengths n (j + 1)) β
-  basic_later f = basic_cons ∙ rw (not-false t f) refl
+  pub basic_later : t ≡ true → basic (from rows lengths n j) β ≡ basic (from rows lengths n (j + 1)) β
+  basic_later f = basic_cons ∙ rw f refl
 
 -- a pattern in memory, and the patterns of an array of them
 abbrev held : List Pattern → ℕ → List ℕ

@@ -4,20 +4,16 @@ use mathlib.Core.Path.{◌≡◌}
 use borrow.Author.Rules.{rules}
 use native.Mathlib.Omega.{arith}
 use lib.ListN.{length, length-take}
-use Rattle.basis.proofs.digits.Statement.{statement}
-use Rattle.basis.proofs.digits.Tie as tie
+use Rattle.basis.proofs.digits.Goals as goal
 
-returns : tie.Need-returns
-returns c =
-    let a = c.before.args in
+pub returns-then-len-lt8 : goal.returns-then-len-lt8
+returns-then-len-lt8 c =
+    let a = c.args in
     let p : length a.p ≡ 8 = search rules in
     omega (arith, length-take a.len a.p)
 
-returns-2 : tie.Need-returns-2
-returns-2 c =
-    let a = c.before.args in
+pub returns-else-len-lt8 : goal.returns-else-len-lt8
+returns-else-len-lt8 c =
+    let a = c.args in
     let p : length a.p ≡ 8 = search rules in
     omega (arith, length-take a.len a.p)
-
-pub digits-spec : {M : Type 1} → statement M
-digits-spec = tie.close (tie.spec returns returns-2)
