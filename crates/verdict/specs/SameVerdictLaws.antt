@@ -1,7 +1,7 @@
 -- "the verdict on every scheme must be shown to be the same as under the old m" (02, order 3): the
 -- finding and the witness under `longest P`, the m of document 01 before that order, are those
 -- under `m_of P`, and the number of compared cells is at most the old one.
-use Rattle.std.specs.Prelude.{ℕ, ◌+◌, ◌≤◌, ◌<◌, ◌≡◌, ◌⊎◌, Bool, true, false, cond, length, eqb}
+use Rattle.std.specs.Prelude.{ℕ, ◌≤◌, ◌<◌, ◌≡◌, ◌⊎◌, Bool, true, false, cond, length, eqb}
 use Rattle.std.proofs.Common.{arith, ◌∙◌, inl, inr, length-append, eqb-true}
 use Rattle.std.proofs.Math.Path.{refl, sym, ap}
 use mathlib.Core.List.{List, [], ◌∷◌, ◌++◌, Memᴰ}
