@@ -1,5 +1,5 @@
 -- What the candidate search is given, what the lists that it looks up say, and what it answers.
-use Rattle.std.specs.Prelude.{ℕ, suc, ◌+◌, ◌-◌, ◌≤◌, ◌<◌, ◌≡◌, Bool, true, false, ◌&&◌, ◌↔◌, List, map, length, take, drop}
+use Rattle.std.specs.Prelude.{ℕ, suc, ◌+◌, ◌≤◌, ◌<◌, ◌≡◌, Bool, true, false, ◌&&◌, ◌↔◌, List, map, length, take, drop}
 use Rattle.std.proofs.Math.Option.{Option, none, some}
 use Rattle.forms.specs.SetMemory.{pattern_at}
 use Rattle.word.specs.Ceilings.{DIGITS, PATTERNS, PREFIX}
