@@ -26,7 +26,7 @@ use Rattle.lost_word.specs.Shown.{ShowsWord}
 use Rattle.lost_word.specs.declared.least.LostWord.{LostWord}
 use Rattle.claims.specs.EntryMemory.{rule_candidate}
 use Rattle.verdict.specs.Witness.{rule_word_under, indexed_entry, entry_word_under, word_shown_under}
-use Rattle.verdict.specs.WitnessLaws.{shown_candidate, indexed_member}
+use Rattle.verdict.proofs.WitnessLaws.{shown_candidate, indexed_member}
 use Rattle.judge.specs.SetMemory.{entry_loss, loss_shown}
 
 -- the entry of a scheme in memory at an index

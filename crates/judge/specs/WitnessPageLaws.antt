@@ -38,9 +38,9 @@ use Rattle.verdict.specs.Verdict.{live_gap, sizes_differ, differs_under, differs
 use Rattle.verdict.specs.Verdict.{verdict_of, told_verdict, accepted}
 use Rattle.verdict.specs.Truth.{WellFormed}
 use Rattle.verdict.specs.VerdictLaws.{accepted_exactly}
-use Rattle.verdict.specs.SameVerdictLaws.{formed_behind}
+use Rattle.verdict.proofs.SameVerdictLaws.{formed_behind}
 use Rattle.verdict.specs.Witness.{half, witness_bytes, shown_word, rule_word, indexed_entry, entry_word, bytes_shown, Witnesses}
-use Rattle.verdict.specs.WitnessLaws.{half_length, shown_there, shown_length, witnesses}
+use Rattle.verdict.proofs.WitnessLaws.{half_length, shown_there, shown_length, witnesses}
 use Rattle.verdict.specs.declared.answer.Verdict.{Verdict}
 use Rattle.verdict.specs.declared.answer.Verdict.TheVariants.{Accepted, Refused}
 use Rattle.judge.specs.Judgement.{page_test, page_tests, verdict_on, page_after, EntryWitness, Judges}

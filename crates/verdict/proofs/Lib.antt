@@ -1,1 +1,3 @@
 -- The laws that the proofs of the crate verdict use.
+pub mod WitnessLaws
+pub mod SameVerdictLaws

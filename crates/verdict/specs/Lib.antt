@@ -3,8 +3,6 @@ pub mod Verdict
 pub mod Truth
 pub mod Witness
 pub mod VerdictLaws
-pub mod WitnessLaws
-pub mod SameVerdictLaws
 pub mod Value
 pub mod Size
 pub mod ValueLaws

@@ -13,7 +13,7 @@ use Rattle.word.specs.Earliest.{earliest}
 use Rattle.containment.specs.declared.SetCopy.{SetCopy}
 use Rattle.text_page.specs.PageLaws.{writes_join, writes_as}
 use Rattle.verdict.specs.Witness.{half}
-use Rattle.verdict.specs.WitnessLaws.{half_length}
+use Rattle.verdict.proofs.WitnessLaws.{half_length}
 use Rattle.witness.proofs.ShownLaws.{byte, shown_short, shown_positions}
 use Rattle.witness.proofs.show_witness.Statement.{statement}
 use Rattle.witness.proofs.show_witness.Tie as tie

@@ -32,7 +32,7 @@ use Rattle.verdict.specs.VerdictLaws.{sizes_agree, differs_law}
 use Rattle.verdict.specs.Truth.{WellFormed}
 use Rattle.verdict.specs.Witness.{shown_spacing_under, shown_at, shown_word_under, witness_bytes, rule_word_under, indexed_entry}
 use Rattle.verdict.specs.Witness.{entry_word_under, word_shown_under, bytes_shown_under, shown_spacing, shown_word, bytes_shown}
-use Rattle.verdict.specs.WitnessLaws.{indexed_member}
+use Rattle.verdict.proofs.WitnessLaws.{indexed_member}
 
 -- tests behind others that find nothing
 behind : (l a b : List Finding) → (first_fault l ≡ clean → first_fault a ≡ first_fault b) → first_fault (l ++ a) ≡ first_fault (l ++ b)
