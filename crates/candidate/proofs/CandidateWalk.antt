@@ -16,7 +16,7 @@ use Rattle.word.specs.Lists.{all, any, keep, first, each, row}
 use Rattle.word.specs.Word.{contains, avoids, longest, under, reduce, has, distinct, entry, within, is_perm}
 use Rattle.word.specs.PermLaws.{perm_bounds, perm_distinct}
 use Rattle.cell.specs.Claim.{DeletionClaim}
-use Rattle.cell.specs.CandidateLaws.{irreversible_law}
+use Rattle.cell.proofs.CandidateLaws.{irreversible_law}
 use Rattle.placing.specs.Tabled.{Tabled, IsCandidate}
 use Rattle.word.specs.Patterns.{patterns_of}
 use Rattle.word.specs.ListLaws.{true_not_false, first_some}
@@ -24,7 +24,7 @@ use Rattle.word.specs.CopyLaws.{found, first_found}
 use Rattle.word.specs.ContainsLaws.{avoids_none}
 use Rattle.word.proofs.PatternSet.{from, from_start, from_counted, from_cons}
 use Rattle.cell.specs.Cell.{total, without, free, vectors, compared_to}
-use Rattle.cell.specs.SpacingWalk.{compared_are}
+use Rattle.cell.proofs.SpacingWalk.{compared_are}
 use Rattle.cell.specs.Built.{level, built}
 use Rattle.cell.specs.Candidate.{head_length, hit, violates, violated, irreversible, violated_first}
 use Rattle.placing.specs.Lookup.{need_at, Says, Flags}

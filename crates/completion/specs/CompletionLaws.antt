@@ -15,7 +15,7 @@ use Rattle.word.specs.ContainsLaws.{avoids_sublist}
 use Rattle.word.specs.PermLaws.{has_out, has_in, within_out, within_in, distinct_out, distinct_in, perm_bounds}
 use Rattle.word.specs.PermLaws.{perm_distinct, perm_in, perm_has}
 use Rattle.word.specs.AscendLaws.{avoiders_are, avoiders_all}
-use Rattle.cell.specs.BuiltCells.{same_out, same_refl}
+use Rattle.cell.proofs.BuiltCells.{same_out, same_refl}
 use Rattle.completion.specs.Completion.{begins, completable, begun, allowed, all_allowed, goes_on}
 
 -- a word that begins with u is u and a rest

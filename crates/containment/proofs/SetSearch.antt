@@ -12,7 +12,7 @@ use Rattle.copy_search.specs.Copy.{shown}
 use Rattle.containment.specs.SetCopies.{shown_in}
 use Rattle.word.proofs.PatternSet.{from, early_cons}
 use Rattle.word.specs.ListLaws.{true_not_false}
-use Rattle.word.specs.EarliestLaws.{copy_length}
+use Rattle.word.proofs.EarliestLaws.{copy_length}
 use Rattle.copy_search.specs.declared.FirstCopy.{FirstCopy}
 use Rattle.containment.specs.declared.SetCopy.{SetCopy}
 

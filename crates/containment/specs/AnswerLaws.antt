@@ -7,7 +7,7 @@ use Rattle.word.specs.Word.{contains, first_copy, avoids}
 use Rattle.word.specs.Finding.{clean, first_fault}
 use Rattle.word.specs.Earliest.{Earliest, nowhere, stands, earliest, is_nowhere}
 use Rattle.word.specs.CopyLaws.{found, copy_exactly}
-use Rattle.word.specs.EarliestLaws.{earliest_avoids}
+use Rattle.word.proofs.EarliestLaws.{earliest_avoids}
 use Rattle.containment.specs.SetCopies.{shown_in}
 use Rattle.containment.specs.Containment.{containment_tests, answer_of, containment}
 use Rattle.containment.specs.declared.Contained.{Contained}

@@ -11,7 +11,7 @@ use Rattle.word.specs.Lists.{row, one_to}
 use Rattle.word.specs.ListLaws.{map_same, row_out}
 use Rattle.cell.specs.Cell.{total}
 use Rattle.cell.specs.Child.{slot, split}
-use Rattle.cell.specs.ChildLaws.{split_length, slot_bounds}
+use Rattle.cell.proofs.ChildLaws.{split_length, slot_bounds}
 use Rattle.cell.specs.Binomial.{binomial}
 use Rattle.spacing.specs.Rank.{rank_from, rank_after, rank_of}
 use Rattle.spacing.specs.TotalLaws.{row_cut, row_moved}

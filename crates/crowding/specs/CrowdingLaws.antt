@@ -13,7 +13,7 @@ use Rattle.word.specs.Lists.{any, keep, row}
 use Rattle.word.specs.Word.{avoids, is_perm}
 use Rattle.word.specs.ListLaws.{and_left, and_right, below_or_not, any_out, keep_out, row_out, sublist_mem}
 use Rattle.word.specs.PermLaws.{perm_bounds, perm_distinct}
-use Rattle.cell.specs.WithoutLaws.{distinct_sublist}
+use Rattle.cell.proofs.WithoutLaws.{distinct_sublist}
 use Rattle.completion.specs.Completion.{completable}
 use Rattle.completion.specs.CompletionLaws.{completable_out}
 use Rattle.crowding.specs.Crowding.{precedes, monotone, monotone_length, shorter, shortest, shortest_rising, shortest_falling}

@@ -8,7 +8,7 @@ use mathlib.Core.List.{Sublistᴰ}
 use Rattle.word.specs.Word.{distinct}
 use Rattle.word.specs.ListLaws.{below_or_not}
 use Rattle.word.specs.PermLaws.{distinct_out}
-use Rattle.cell.specs.WithoutLaws.{distinct_sublist}
+use Rattle.cell.proofs.WithoutLaws.{distinct_sublist}
 use Rattle.crowding.specs.Crowding.{monotone}
 use Rattle.crowding.specs.MonotoneLaws.{monotone_in, precedes_all}
 

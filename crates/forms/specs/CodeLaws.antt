@@ -9,7 +9,7 @@ use Rattle.word.specs.Ceilings.{PREFIX}
 use Rattle.word.specs.Lists.{row}
 use Rattle.word.specs.ListLaws.{same_test, map_same, row_out}
 use Rattle.cell.specs.Basis.{same}
-use Rattle.cell.specs.BuiltCells.{same_refl, same_out}
+use Rattle.cell.proofs.BuiltCells.{same_refl, same_out}
 use Rattle.forms.specs.Codes.{code_of, Bytes, IsCode, Codes}
 use Rattle.forms.specs.MemoryLaws.{take_row}
 

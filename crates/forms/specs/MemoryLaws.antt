@@ -10,7 +10,7 @@ use Rattle.word.specs.Lists.{all, row}
 use Rattle.word.specs.ListLaws.{same_or_not}
 use Rattle.word.specs.Word.{is_perm, within}
 use Rattle.cell.specs.Basis.{same}
-use Rattle.cell.specs.BuiltCells.{same_refl}
+use Rattle.cell.proofs.BuiltCells.{same_refl}
 use Rattle.forms.specs.SchemeMemory.{padded}
 
 -- the first n numbers of an array

@@ -17,8 +17,8 @@ use Rattle.word.specs.ListLaws.{map_same, keep_out, get_or_mem, all_out, same_te
 use Rattle.word.specs.PermLaws.{has_out, has_in, within_out, perm_bounds, perm_distinct, under_at_most}
 use Rattle.cell.specs.Cell.{total, without}
 use Rattle.cell.specs.Built.{level, val, lift, built}
-use Rattle.cell.specs.BuiltWords.{level_at_most}
-use Rattle.cell.specs.WithoutLaws.{without_from, without_from_lem, entry_injective}
+use Rattle.cell.proofs.BuiltWords.{level_at_most}
+use Rattle.cell.proofs.WithoutLaws.{without_from, without_from_lem, entry_injective}
 use Rattle.placing.specs.Lookup.{entry_of, flagged, Says, Flags}
 use Rattle.placing.specs.Tabled.{kept_values, Reached, Tabled}
 use Rattle.placing.proofs.LookupLaws.{part_cons, part_end}

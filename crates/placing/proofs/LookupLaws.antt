@@ -19,8 +19,8 @@ use Rattle.word.specs.ListLaws.{below_or_not, same_or_not, all_out, get_or_mem}
 use Rattle.word.specs.PermLaws.{within_out, perm_bounds}
 use Rattle.cell.specs.Cell.{total}
 use Rattle.cell.specs.Built.{level, lift}
-use Rattle.cell.specs.BuiltWords.{lift_low, lift_high}
-use Rattle.cell.specs.WithoutLaws.{entry_mem}
+use Rattle.cell.proofs.BuiltWords.{lift_low, lift_high}
+use Rattle.cell.proofs.WithoutLaws.{entry_mem}
 use Rattle.placing.specs.Lookup.{entry_of, flagged, Says}
 
 -- the first n entries of a list, from index j on

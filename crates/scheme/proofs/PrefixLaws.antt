@@ -17,9 +17,9 @@ use Rattle.word.specs.Vocabulary.{unbump}
 use Rattle.word.specs.BumpLaws.{Bumped, stays, moves, bumped}
 use Rattle.word.specs.PermLaws.{perm_bounds}
 use Rattle.cell.specs.Cell.{deleted, children}
-use Rattle.cell.specs.BuiltLaws.{get_d_map}
+use Rattle.cell.proofs.BuiltLaws.{get_d_map}
 use Rattle.cell.specs.Child.{child_at}
-use Rattle.cell.specs.ChildLaws.{children_all, children_are}
+use Rattle.cell.proofs.ChildLaws.{children_all, children_are}
 use Rattle.forms.specs.SchemeList.{deletes}
 use Rattle.scheme.specs.TestLaws.{any_members}
 use Rattle.scheme.specs.WellFormed.{outside}

@@ -13,9 +13,9 @@ use Rattle.word.specs.BumpLaws.{unbump_below, unbump_above}
 use Rattle.word.specs.IsoLaws.{iso_refl, iso_map_on, under_order}
 use Rattle.word.specs.PermLaws.{under_perm, perm_distinct, perm_reduce, reduce_perm}
 use Rattle.cell.specs.Cell.{without, deleted}
-use Rattle.cell.specs.WithoutLaws.{without_from, without_from_lem, without_map, without_sublist, from_none, from_passed}
-use Rattle.cell.specs.MergeLaws.{kept_bounds, kept_distinct}
-use Rattle.cell.specs.DeletionLaws.{iso_reduces}
+use Rattle.cell.proofs.WithoutLaws.{without_from, without_from_lem, without_map, without_sublist, from_none, from_passed}
+use Rattle.cell.proofs.MergeLaws.{kept_bounds, kept_distinct}
+use Rattle.cell.proofs.DeletionLaws.{iso_reduces}
 use Rattle.scheme.specs.WellFormed.{astray}
 use Rattle.scheme.specs.PositionLaws.{has_none}
 

@@ -6,7 +6,7 @@ use mathlib.Core.List.{List, Memᴰ}
 use Rattle.word.specs.Inversions.{inversions}
 use Rattle.cell.specs.Cell.{cell, deleted}
 use Rattle.cell.specs.Lost.{lost_inversions}
-use Rattle.cell.specs.LostLaws.{cell_loses}
+use Rattle.cell.proofs.LostLaws.{cell_loses}
 use Rattle.forms.specs.SchemeList.{deletes, EntryList}
 use Rattle.scheme.specs.WellFormed.{outside}
 use Rattle.scheme.specs.PositionLaws.{positions_inside, positions_distinct}

@@ -8,8 +8,8 @@ use Rattle.word.specs.Word.{within, has, distinct}
 use Rattle.word.specs.ListLaws.{and_in, same_or_not}
 use Rattle.word.specs.PermLaws.{within_in}
 use Rattle.cell.specs.Cell.{deleted}
-use Rattle.cell.specs.WithoutLaws.{without_from, without_from_lem, from_passed}
-use Rattle.cell.specs.DeletionLaws.{deleted_length}
+use Rattle.cell.proofs.WithoutLaws.{without_from, without_from_lem, from_passed}
+use Rattle.cell.proofs.DeletionLaws.{deleted_length}
 use Rattle.forms.specs.SchemeList.{deletes}
 use Rattle.scheme.specs.WellFormed.{astray, outside}
 use Rattle.scheme.specs.TestLaws.{or_left, or_right}

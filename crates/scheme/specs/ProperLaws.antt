@@ -12,9 +12,9 @@ use Rattle.word.specs.Finding.{clean, first_fault}
 use Rattle.word.specs.declared.refusal.Refusal.TheVariants.{Oversize, NoPermutation, Rootless, Width, NoPosition, Childless, NoTarget}
 use Rattle.cell.specs.Basis.{same}
 use Rattle.cell.specs.Cell.{total, children}
-use Rattle.cell.specs.BuiltCells.{same_out}
+use Rattle.cell.proofs.BuiltCells.{same_out}
 use Rattle.cell.specs.Child.{child_at}
-use Rattle.cell.specs.ChildLaws.{child_length, children_all}
+use Rattle.cell.proofs.ChildLaws.{child_length, children_all}
 use Rattle.forms.specs.SchemeList.{expands, EntryList}
 use Rattle.forms.specs.SchemeMemory.{entry_at, scheme_in}
 use Rattle.forms.specs.declared.memory.Scheme.{Scheme}

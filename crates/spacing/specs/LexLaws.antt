@@ -9,8 +9,8 @@ use Rattle.word.specs.ListLaws.{below_or_not, true_not_false, and_left, and_righ
 use Rattle.word.specs.CopyLaws.{before_cons}
 use Rattle.word.specs.AscendLaws.{ascends, before_first, ascends_map, ascends_append}
 use Rattle.cell.specs.Cell.{total, vectors}
-use Rattle.cell.specs.SpacingWalk.{vectors_are, vectors_all}
-use Rattle.cell.specs.ListedLaws.{vectors_ascend}
+use Rattle.cell.proofs.SpacingWalk.{vectors_are, vectors_all}
+use Rattle.cell.proofs.ListedLaws.{vectors_ascend}
 use Rattle.spacing.specs.Following.{above, later, Follows}
 
 -- the vectors with a larger first component

@@ -6,7 +6,7 @@ use Rattle.word.specs.ListLaws.{below_or_not}
 use Rattle.word.specs.Word.{has}
 use Rattle.cell.specs.Cell.{total, merge_from, merge_values}
 use Rattle.cell.specs.Binomial.{binomial}
-use Rattle.cell.specs.BinomialLaws.{binomial_above}
+use Rattle.cell.proofs.BinomialLaws.{binomial_above}
 use Rattle.spacing.specs.Following.{first_vector}
 use Rattle.spacing.specs.SpacingOrder.{first_length}
 use Rattle.spacing.specs.Rank.{rank_from, rank_after, rank_of, carry, next_of}

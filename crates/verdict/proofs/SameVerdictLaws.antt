@@ -15,8 +15,8 @@ use Rattle.word.specs.Refusal.{number_of}
 use Rattle.word.specs.declared.refusal.Refusal.TheVariants.{LiveGap, Irreversible}
 use Rattle.cell.specs.Basis.{basis}
 use Rattle.cell.specs.Cell.{total, m_of, compared_to}
-use Rattle.cell.specs.ListedLaws.{compared_more}
-use Rattle.cell.specs.BasisLaws.{longest_basis, m_reaches, m_at_most, m_of_basis, m_of_whole, sizes_alike}
+use Rattle.cell.proofs.ListedLaws.{compared_more}
+use Rattle.cell.proofs.BasisLaws.{longest_basis, m_reaches, m_at_most, m_of_basis, m_of_whole, sizes_alike}
 use Rattle.forms.specs.SchemeList.{Does, expands, deletes, EntryList}
 use Rattle.forms.specs.SchemeMemory.{fault_of}
 use Rattle.forms.specs.declared.memory.Fault.{Fault}

@@ -17,22 +17,22 @@ use Rattle.word.specs.AscendLaws.{ascends, before_first, perms_ascend}
 use Rattle.word.specs.FirstLaws.{first_agree, none_first, first_is, first_ordered}
 use Rattle.word.specs.FirstLaws.{ascends_behind, ascends_in_order}
 use Rattle.word.specs.Earliest.{Earliest, positions_of}
-use Rattle.word.specs.EarliestLaws.{fails_stands, earliest_is}
+use Rattle.word.proofs.EarliestLaws.{fails_stands, earliest_is}
 use Rattle.word.specs.Ceilings.{PAGE, HALF}
 use Rattle.cell.specs.Basis.{same, basis}
 use Rattle.cell.specs.Cell.{total, spacing, cell, without, deleted, merged, free, compared_to}
 use Rattle.cell.specs.Built.{built}
 use Rattle.cell.specs.Candidate.{violates, violated, violated_first, rest_of, lost_words, least_of, least_at, least_candidate}
-use Rattle.cell.specs.SpacingWalk.{compared_are, compared_all}
-use Rattle.cell.specs.BuiltWords.{built_length, built_perm, built_prefix, built_reduces, built_spacing, rest_perm, rest_length, built_onto}
-use Rattle.cell.specs.BuiltCells.{same_out, same_in, cell_are}
-use Rattle.cell.specs.FiniteTest.{Agrees}
-use Rattle.cell.specs.DeletionLaws.{built_deleted_avoids}
-use Rattle.cell.specs.Theorems.{shorter_in, removed, agrees_of_sizes, sizes_of_agrees}
-use Rattle.cell.specs.CandidateLaws.{violates_out, candidates_of_agrees}
-use Rattle.cell.specs.LeastLaws.{CleanBelow, agrees_first, lost_candidate, least_is}
-use Rattle.cell.specs.ListedLaws.{totalled, compared_ascend, spacing_total}
-use Rattle.cell.specs.BasisLaws.{basis_in, basis_avoids, basis_agrees}
+use Rattle.cell.proofs.SpacingWalk.{compared_are, compared_all}
+use Rattle.cell.proofs.BuiltWords.{built_length, built_perm, built_prefix, built_reduces, built_spacing, rest_perm, rest_length, built_onto}
+use Rattle.cell.proofs.BuiltCells.{same_out, same_in, cell_are}
+use Rattle.cell.proofs.FiniteTest.{Agrees}
+use Rattle.cell.proofs.DeletionLaws.{built_deleted_avoids}
+use Rattle.cell.proofs.Theorems.{shorter_in, removed, agrees_of_sizes, sizes_of_agrees}
+use Rattle.cell.proofs.CandidateLaws.{violates_out, candidates_of_agrees}
+use Rattle.cell.proofs.LeastLaws.{CleanBelow, agrees_first, lost_candidate, least_is}
+use Rattle.cell.proofs.ListedLaws.{totalled, compared_ascend, spacing_total}
+use Rattle.cell.proofs.BasisLaws.{basis_in, basis_avoids, basis_agrees}
 use Rattle.word.specs.declared.refusal.Refusal.TheVariants.{LiveGap, Irreversible}
 use Rattle.forms.specs.SchemeList.{EntryList}
 use Rattle.forms.specs.declared.memory.Fault.TheVariants.{At}

@@ -21,12 +21,12 @@ use Rattle.cell.specs.Cell.{total, cell, deleted, merged, free, at_least}
 use Rattle.cell.specs.Claim.{DeletionClaim}
 use Rattle.cell.specs.Child.{slot, child_at, split}
 use Rattle.cell.specs.Built.{built, lift}
-use Rattle.cell.specs.BuiltWords.{lift_low}
-use Rattle.cell.specs.SpacingWalk.{keep_same}
-use Rattle.cell.specs.BuiltCells.{same_out, cell_size, cell_at_most}
-use Rattle.cell.specs.ChildLaws.{slot_bounds, split_length, split_total, child_length, children_all, size_children, cell_zero}
-use Rattle.cell.specs.MergeLaws.{merged_length, merged_total}
-use Rattle.cell.specs.Theorems.{agrees_of_claim, sizes_of_agrees}
+use Rattle.cell.proofs.BuiltWords.{lift_low}
+use Rattle.cell.proofs.SpacingWalk.{keep_same}
+use Rattle.cell.proofs.BuiltCells.{same_out, cell_size, cell_at_most}
+use Rattle.cell.proofs.ChildLaws.{slot_bounds, split_length, split_total, child_length, children_all, size_children, cell_zero}
+use Rattle.cell.proofs.MergeLaws.{merged_length, merged_total}
+use Rattle.cell.proofs.Theorems.{agrees_of_claim, sizes_of_agrees}
 use Rattle.forms.specs.SchemeList.{Does, expands, deletes, EntryList}
 use Rattle.scheme.specs.WellFormed.{listed, outside, lacks_child, lacks_target, prefixes}
 use Rattle.scheme.specs.PositionLaws.{positions_inside, positions_some, deleted_size}

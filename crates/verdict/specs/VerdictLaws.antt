@@ -11,8 +11,8 @@ use Rattle.word.specs.declared.refusal.Refusal.TheVariants.{LiveGap, Irreversibl
 use Rattle.cell.specs.Basis.{basis}
 use Rattle.cell.specs.Cell.{cell, deleted, merged, m_of, compared_to}
 use Rattle.cell.specs.Claim.{GapClaim, SizesAgreeTo}
-use Rattle.cell.specs.Theorems.{gap_law}
-use Rattle.cell.specs.BasisLaws.{m_reaches, finite_basis}
+use Rattle.cell.proofs.Theorems.{gap_law}
+use Rattle.cell.proofs.BasisLaws.{m_reaches, finite_basis}
 use Rattle.forms.specs.SchemeList.{Does, expands, deletes, EntryList}
 use Rattle.scheme.specs.WellFormed.{first_at, outside, pattern_tests, scheme_tests}
 use Rattle.forms.specs.SchemeMemory.{fault_of}

@@ -14,10 +14,8 @@ pub mod ListLaws
 pub mod IsoLaws
 pub mod ContainsLaws
 pub mod CopyLaws
-pub mod EarliestLaws
 pub mod BumpLaws
 pub mod PermLaws
 pub mod AscendLaws
 pub mod FirstLaws
 pub mod ListingLaws
-pub mod InversionLaws

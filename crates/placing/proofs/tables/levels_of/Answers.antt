@@ -7,7 +7,7 @@ use native.Mathlib.Omega.{arith}
 use borrow.Author.Rules.{rules}
 use lib.ListN.{length, get_or, take, replicate}
 use Rattle.cell.specs.Built.{level}
-use Rattle.cell.specs.BuiltWords.{level_at_most}
+use Rattle.cell.proofs.BuiltWords.{level_at_most}
 use Rattle.placing.proofs.LookupLaws.{says_more, says_first, level_more, level_zero}
 use Rattle.placing.proofs.tables.levels_of.Goals as goal
 

@@ -11,7 +11,7 @@ use lib.Seq.{length-take-le}
 use Rattle.word.specs.Ceilings.{PREFIX}
 use Rattle.word.specs.Word.{is_perm}
 use Rattle.cell.specs.Cell.{deleted}
-use Rattle.cell.specs.DeletionLaws.{deleted_perm}
+use Rattle.cell.proofs.DeletionLaws.{deleted_perm}
 use Rattle.scheme.specs.DeletedLaws.{deleted_nothing}
 use Rattle.scheme.proofs.PrefixLaws.{next_position}
 use Rattle.scheme.proofs.links.shorter.Goals as goal

@@ -6,7 +6,7 @@ use mathlib.Core.Path.{◌≡◌, sym, ap, ap₂, ◌∙◌}
 use lib.ListN.{get_or}
 use Rattle.word.specs.Ceilings.{COLUMNS}
 use Rattle.cell.specs.Binomial.{binomial}
-use Rattle.cell.specs.BinomialLaws.{binomial_above}
+use Rattle.cell.proofs.BinomialLaws.{binomial_above}
 use Rattle.spacing.specs.RankLaws.{binomial_zero}
 use Rattle.spacing.specs.PascalLaws.{pascal_sum, binomial_small}
 use Rattle.spacing.proofs.binomials.pascal_sum.Goals as goal

@@ -11,12 +11,12 @@ use Rattle.word.specs.IsoLaws.{iso_length}
 use Rattle.word.specs.ContainsLaws.{contains_out, contains_in, avoids_fails, avoids_not, avoids_sublist, longest_at_least}
 use Rattle.cell.specs.Cell.{total, at_least}
 use Rattle.cell.specs.Built.{val, lift, built}
-use Rattle.cell.specs.SpacingWalk.{at_least_refl, at_least_trans}
+use Rattle.cell.proofs.SpacingWalk.{at_least_refl, at_least_trans}
 use Rattle.word.specs.ListLaws.{sublist_mem}
 use Rattle.cell.specs.SublistLaws.{sublist_length, sublist_whole, sublist_spare, sublist_of_append, sublist_of_map}
-use Rattle.cell.specs.BuiltWords.{built_length}
-use Rattle.cell.specs.RestLaws.{lowered, total_lowered, at_least_lowered}
-use Rattle.cell.specs.RestLaws.{take_out, Within, within_lowered, copy_lowered, avoids_lowered, built_sublist}
+use Rattle.cell.proofs.BuiltWords.{built_length}
+use Rattle.cell.proofs.RestLaws.{lowered, total_lowered, at_least_lowered}
+use Rattle.cell.proofs.RestLaws.{take_out, Within, within_lowered, copy_lowered, avoids_lowered, built_sublist}
 
 -- at spacing g: if q with a rest avoids the patterns, p with that rest does
 abbrev pub Agrees : List (List ℕ) → List ℕ → List ℕ → List ℕ → Type 0

@@ -7,7 +7,7 @@ use Rattle.word.specs.Vocabulary.{factorial}
 use Rattle.word.specs.Lists.{sublists, one_to}
 use Rattle.word.specs.ListLaws.{length_row}
 use Rattle.cell.specs.Binomial.{binomial}
-use Rattle.cell.specs.BinomialLaws.{binomial_above}
+use Rattle.cell.proofs.BinomialLaws.{binomial_above}
 
 -- Pascal's rule is the recursion of sublists: the first element is chosen, or it is not
 pub sublists_number : {A : Type 0} (k : ℕ) (l : List A) → length (sublists k l) ≡ binomial (length l) k

@@ -13,18 +13,18 @@ use Rattle.word.specs.Word.{under, has, entry, distinct, within, is_perm}
 use Rattle.word.specs.Inversions.{smaller, inversions}
 use Rattle.word.specs.ListLaws.{and_left, and_right, not_in, below_or_not, map_same}
 use Rattle.word.specs.PermLaws.{has_out, within_out, distinct_out, perm_bounds, perms_are, under_perm}
-use Rattle.word.specs.InversionLaws.{inversions_map, inversions_reduce, inversions_sublist, smaller_append}
+use Rattle.word.proofs.InversionLaws.{inversions_map, inversions_reduce, inversions_sublist, smaller_append}
 use Rattle.cell.specs.Cell.{total, cell, without, deleted}
 use Rattle.cell.specs.Built.{level, val, lift, built}
 use Rattle.cell.specs.Lost.{lost_inversions}
-use Rattle.cell.specs.BuiltLaws.{lift_keeps, val_keeps, val_lift}
-use Rattle.cell.specs.BuiltWords.{level_at_most, val_not_lift}
-use Rattle.cell.specs.BuiltCells.{cell_wide, cell_out}
-use Rattle.cell.specs.RestLaws.{Within}
-use Rattle.cell.specs.WithoutLaws.{without_from, without_from_lem, without_sublist, from_none, from_passed}
-use Rattle.cell.specs.MergeLaws.{kept_bounds}
-use Rattle.cell.specs.DeletionLaws.{without_built}
-use Rattle.cell.specs.Theorems.{prefix_within}
+use Rattle.cell.proofs.BuiltLaws.{lift_keeps, val_keeps, val_lift}
+use Rattle.cell.proofs.BuiltWords.{level_at_most, val_not_lift}
+use Rattle.cell.proofs.BuiltCells.{cell_wide, cell_out}
+use Rattle.cell.proofs.RestLaws.{Within}
+use Rattle.cell.proofs.WithoutLaws.{without_from, without_from_lem, without_sublist, from_none, from_passed}
+use Rattle.cell.proofs.MergeLaws.{kept_bounds}
+use Rattle.cell.proofs.DeletionLaws.{without_built}
+use Rattle.cell.proofs.Theorems.{prefix_within}
 
 -- the inversions of two words one after the other: those of each, and for each entry of the first
 -- the smaller ones of the second

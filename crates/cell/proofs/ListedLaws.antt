@@ -20,12 +20,12 @@ use Rattle.word.specs.AscendLaws.{ascends, before_first, ascends_map, ascends_ap
 use Rattle.cell.specs.Basis.{same}
 use Rattle.cell.specs.Cell.{total, sort, between, spacing, children, free, vectors, compared_to}
 use Rattle.cell.specs.Child.{child_at}
-use Rattle.cell.specs.SpacingWalk.{vectors_are}
-use Rattle.cell.specs.SpacingLaws.{Up, length_sort, sort_out, sort_up, length_spacing}
-use Rattle.cell.specs.BuiltWords.{perm_parts}
-use Rattle.cell.specs.BuiltCells.{ascends_same}
-use Rattle.cell.specs.EachLaws.{keep_map, keep_append, map_each}
-use Rattle.cell.specs.ChildLaws.{children_are, children_all}
+use Rattle.cell.proofs.SpacingWalk.{vectors_are}
+use Rattle.cell.proofs.SpacingLaws.{Up, length_sort, sort_out, sort_up, length_spacing}
+use Rattle.cell.proofs.BuiltWords.{perm_parts}
+use Rattle.cell.proofs.BuiltCells.{ascends_same}
+use Rattle.cell.proofs.EachLaws.{keep_map, keep_append, map_each}
+use Rattle.cell.proofs.ChildLaws.{children_are, children_all}
 
 -- "A spacing vector for a prefix p of length k has k + 1 numbers" and "Its total is n − k" (01)
 

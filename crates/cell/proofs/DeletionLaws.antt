@@ -16,10 +16,10 @@ use Rattle.word.specs.IsoLaws.{iso_refl, iso_reduce}
 use Rattle.word.specs.ContainsLaws.{avoids_word_iso, avoids_sublist}
 use Rattle.word.specs.PermLaws.{distinct_out, perm_distinct, perm_reduce, reduce_perm, length_reduce, under_at_most}
 use Rattle.cell.specs.Cell.{without, deleted, merged}
-use Rattle.cell.specs.BuiltLaws.{iso_built, get_d_map}
+use Rattle.cell.proofs.BuiltLaws.{iso_built, get_d_map}
 use Rattle.cell.specs.Built.{level, val, lift, built}
-use Rattle.cell.specs.WithoutLaws.{without_map, without_append, without_sublist, distinct_sublist}
-use Rattle.cell.specs.MergeLaws.{kept_bounds, kept_distinct, merged_length, merged_level}
+use Rattle.cell.proofs.WithoutLaws.{without_map, without_append, without_sublist, distinct_sublist}
+use Rattle.cell.proofs.MergeLaws.{kept_bounds, kept_distinct, merged_length, merged_level}
 
 -- Isomorphic words of distinct entries reduce to the same word
 

@@ -15,11 +15,11 @@ use Rattle.word.specs.PermLaws.{perm_cons, perm_uncons, perms_are, perms_all, un
 use Rattle.cell.specs.Basis.{same}
 use Rattle.cell.specs.Cell.{total, cell, children}
 use Rattle.cell.specs.Child.{slot, child_at, split}
-use Rattle.cell.specs.BuiltLaws.{lift_rises}
+use Rattle.cell.proofs.BuiltLaws.{lift_rises}
 use Rattle.cell.specs.Built.{val, lift, built}
-use Rattle.cell.specs.EachLaws.{keep_map, keep_each, each_same, map_each, length_each_total}
-use Rattle.cell.specs.BuiltWords.{lift_low, lift_high}
-use Rattle.cell.specs.BuiltCells.{same_out, same_in, cell_built}
+use Rattle.cell.proofs.EachLaws.{keep_map, keep_each, each_same, map_each, length_each_total}
+use Rattle.cell.proofs.BuiltWords.{lift_low, lift_high}
+use Rattle.cell.proofs.BuiltCells.{same_out, same_in, cell_built}
 
 -- s lies in the first component or in a later one
 data Held (x : ℕ) (g : List ℕ) (s : ℕ) : Type 0 where

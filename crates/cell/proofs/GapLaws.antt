@@ -7,10 +7,10 @@ use Rattle.word.specs.ListLaws.{below_or_not, and_in, and_left, and_right, true_
 use Rattle.word.specs.PermLaws.{has_out, perm_has}
 use Rattle.cell.specs.Cell.{total, at_least}
 use Rattle.cell.specs.Built.{built}
-use Rattle.cell.specs.SpacingWalk.{at_least_total}
+use Rattle.cell.proofs.SpacingWalk.{at_least_total}
 use Rattle.cell.specs.SublistLaws.{mem_split}
-use Rattle.cell.specs.RestLaws.{lowered, Lowered, here, later, lowers, total_lowered}
-use Rattle.cell.specs.RestLaws.{take_out, Within, within_lowered, avoids_lowered}
+use Rattle.cell.proofs.RestLaws.{lowered, Lowered, here, later, lowers, total_lowered}
+use Rattle.cell.proofs.RestLaws.{take_out, Within, within_lowered, avoids_lowered}
 
 -- a spacing that is at least b, with the same total, is b
 pub at_least_same : (g b : List ℕ) → at_least g b ≡ true → total g ≤ total b → g ≡ b

@@ -16,9 +16,9 @@ use Rattle.word.specs.AscendLaws.{ascends, ascends_map, ascends_keep, perms_asce
 use Rattle.cell.specs.Basis.{same}
 use Rattle.cell.specs.Cell.{total, spacing, in_cell, cell}
 use Rattle.cell.specs.Built.{built}
-use Rattle.cell.specs.SpacingLaws.{length_spacing}
-use Rattle.cell.specs.BuiltWords.{perm_parts, built_length, built_perm, built_prefix, built_reduces, built_spacing}
-use Rattle.cell.specs.BuiltWords.{rest_perm, rest_length, built_onto, built_before}
+use Rattle.cell.proofs.SpacingLaws.{length_spacing}
+use Rattle.cell.proofs.BuiltWords.{perm_parts, built_length, built_perm, built_prefix, built_reduces, built_spacing}
+use Rattle.cell.proofs.BuiltWords.{rest_perm, rest_length, built_onto, built_before}
 
 -- two ascending lists with the same members are the same
 

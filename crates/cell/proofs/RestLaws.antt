@@ -15,9 +15,9 @@ use Rattle.word.specs.ContainsLaws.{contains_word_iso, avoids_word_iso, avoids_s
 use Rattle.word.specs.BumpLaws.{Bumped, stays, moves, bumped, bump_below, bump_keeps}
 use Rattle.word.specs.PermLaws.{distinct_out, distinct_in, perm_bounds, perm_distinct, perm_in, perm_uncons}
 use Rattle.cell.specs.Cell.{total, at_least}
-use Rattle.cell.specs.BuiltLaws.{iso_built}
+use Rattle.cell.proofs.BuiltLaws.{iso_built}
 use Rattle.cell.specs.Built.{level, val, lift, built}
-use Rattle.cell.specs.SpacingWalk.{at_least_refl}
+use Rattle.cell.proofs.SpacingWalk.{at_least_refl}
 use Rattle.word.specs.ListLaws.{sublist_mem}
 use Rattle.cell.specs.SublistLaws.{sublist_map, sublist_without}
 

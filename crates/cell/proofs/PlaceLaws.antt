@@ -19,13 +19,13 @@ use Rattle.word.specs.Vocabulary.{fits}
 use Rattle.word.specs.IsoLaws.{iso_snoc, iso_prefix, iso_map, iso_length, iso_reduce, under_mono, under_strict}
 use Rattle.word.specs.PermLaws.{perm_distinct, reduce_perm, under_perm}
 use Rattle.cell.specs.Cell.{total}
-use Rattle.cell.specs.BuiltLaws.{val_keeps, lift_keeps, val_lift, iso_append, get_d_map}
+use Rattle.cell.proofs.BuiltLaws.{val_keeps, lift_keeps, val_lift, iso_append, get_d_map}
 use Rattle.cell.specs.Built.{level, val, lift, built}
 use Rattle.cell.specs.Candidate.{place, head_length}
-use Rattle.cell.specs.BuiltWords.{level_at_most, built_length}
-use Rattle.cell.specs.RestLaws.{Within}
-use Rattle.cell.specs.WithoutLaws.{distinct_sublist}
-use Rattle.cell.specs.DeletionLaws.{iso_reduces}
+use Rattle.cell.proofs.BuiltWords.{level_at_most, built_length}
+use Rattle.cell.proofs.RestLaws.{Within}
+use Rattle.cell.proofs.WithoutLaws.{distinct_sublist}
+use Rattle.cell.proofs.DeletionLaws.{iso_reduces}
 
 -- a disjunction that is true
 or_cases : (a b : Bool) → a || b ≡ true → (a ≡ true) ⊎ (b ≡ true)

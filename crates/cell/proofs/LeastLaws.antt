@@ -18,15 +18,15 @@ use Rattle.word.specs.FirstLaws.{before_chain, before_asym}
 use Rattle.cell.specs.Cell.{total, without, at_least, free}
 use Rattle.cell.specs.Built.{built}
 use Rattle.cell.specs.Candidate.{hit, violates, violated, rest_of, least_of}
-use Rattle.cell.specs.SpacingWalk.{at_least_length, at_least_total, free_down}
+use Rattle.cell.proofs.SpacingWalk.{at_least_length, at_least_total, free_down}
 use Rattle.word.specs.ListLaws.{sublist_mem}
 use Rattle.cell.specs.SublistLaws.{sublist_whole}
-use Rattle.cell.specs.RestLaws.{built_sublist}
-use Rattle.cell.specs.FiniteTest.{Agrees, Copied, Smaller, one_less, finite_test, sublist_of_built}
-use Rattle.cell.specs.WithoutLaws.{without_sublist}
-use Rattle.cell.specs.PlaceLaws.{Cut, copy_out}
-use Rattle.cell.specs.Theorems.{prefix_within}
-use Rattle.cell.specs.CandidateLaws.{gone, sublist_kept, hit_in, clean_of_candidates}
+use Rattle.cell.proofs.RestLaws.{built_sublist}
+use Rattle.cell.proofs.FiniteTest.{Agrees, Copied, Smaller, one_less, finite_test, sublist_of_built}
+use Rattle.cell.proofs.WithoutLaws.{without_sublist}
+use Rattle.cell.proofs.PlaceLaws.{Cut, copy_out}
+use Rattle.cell.proofs.Theorems.{prefix_within}
+use Rattle.cell.proofs.CandidateLaws.{gone, sublist_kept, hit_in, clean_of_candidates}
 
 -- a spacing that is at least one of the same total is equal to it
 pub at_least_equal : (g b : List ℕ) → at_least g b ≡ true → total g ≤ total b → g ≡ b

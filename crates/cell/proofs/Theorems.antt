@@ -10,15 +10,15 @@ use Rattle.word.specs.PermLaws.{perm_bounds, perms_are, perms_all}
 use Rattle.cell.specs.Cell.{cell, without, deleted, merged, at_least, free, total}
 use Rattle.cell.specs.Claim.{GapClaim, Carries, DeletionClaim, SizesAgreeTo}
 use Rattle.cell.specs.Built.{built}
-use Rattle.cell.specs.SpacingWalk.{at_least_refl, at_least_length, free_down, compared_are, compared_all, keep_sizes, keep_same}
-use Rattle.cell.specs.BuiltWords.{built_perm, built_injective}
-use Rattle.cell.specs.BuiltCells.{cell_size, cell_out, cell_in, cell_width}
-use Rattle.cell.specs.RestLaws.{Within}
-use Rattle.cell.specs.GapLaws.{gap_core}
-use Rattle.cell.specs.FiniteTest.{Agrees, Clean, Violation, minimal_violation, finite_test, clean_of_agrees}
-use Rattle.cell.specs.WithoutLaws.{without_sublist}
-use Rattle.cell.specs.MergeLaws.{merged_length, merged_total}
-use Rattle.cell.specs.DeletionLaws.{deleted_perm, deleted_avoids, built_deleted_avoids, deleted_built}
+use Rattle.cell.proofs.SpacingWalk.{at_least_refl, at_least_length, free_down, compared_are, compared_all, keep_sizes, keep_same}
+use Rattle.cell.proofs.BuiltWords.{built_perm, built_injective}
+use Rattle.cell.proofs.BuiltCells.{cell_size, cell_out, cell_in, cell_width}
+use Rattle.cell.proofs.RestLaws.{Within}
+use Rattle.cell.proofs.GapLaws.{gap_core}
+use Rattle.cell.proofs.FiniteTest.{Agrees, Clean, Violation, minimal_violation, finite_test, clean_of_agrees}
+use Rattle.cell.proofs.WithoutLaws.{without_sublist}
+use Rattle.cell.proofs.MergeLaws.{merged_length, merged_total}
+use Rattle.cell.proofs.DeletionLaws.{deleted_perm, deleted_avoids, built_deleted_avoids, deleted_built}
 
 -- a list without members is empty
 no_members : (l : List (List ℕ)) → ((w : List ℕ) → Memᴰ w l → ⊥) → l ≡ []

@@ -9,7 +9,7 @@ use Rattle.std.proofs.lemmas.Bool.{lt-leb}
 use Rattle.word.specs.Word.{under, reduce, before}
 use Rattle.word.specs.ListLaws.{below_or_not, same_or_not, map_same}
 use Rattle.cell.specs.Cell.{insert, sort}
-use Rattle.cell.specs.BuiltLaws.{rises_keeps}
+use Rattle.cell.proofs.BuiltLaws.{rises_keeps}
 
 module _ (f : ℕ → ℕ) (up : (s t : ℕ) → s < t → f s < f t) where
   pub rises_same : (s t : ℕ) → f s ≡ f t → s ≡ t

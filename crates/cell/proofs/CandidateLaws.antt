@@ -17,14 +17,14 @@ use Rattle.cell.specs.Cell.{total, without, compared_to}
 use Rattle.cell.specs.Claim.{DeletionClaim}
 use Rattle.cell.specs.Built.{level, built}
 use Rattle.cell.specs.Candidate.{place, hit, violates, violated, rest_of, irreversible}
-use Rattle.cell.specs.SpacingWalk.{compared_are, compared_all}
+use Rattle.cell.proofs.SpacingWalk.{compared_are, compared_all}
 use Rattle.word.specs.ListLaws.{sublist_mem}
-use Rattle.cell.specs.RestLaws.{Within, built_sublist}
-use Rattle.cell.specs.FiniteTest.{Agrees, Clean}
-use Rattle.cell.specs.WithoutLaws.{without_from, without_from_lem}
-use Rattle.cell.specs.PlaceLaws.{Placed, place_out, place_in, head_of, tail_of, cut_joined, tail_length}
-use Rattle.cell.specs.PlaceLaws.{tail_distinct, copy_in, Cut, copy_out}
-use Rattle.cell.specs.Theorems.{prefix_within, claim_of_clean, agrees_of_claim}
+use Rattle.cell.proofs.RestLaws.{Within, built_sublist}
+use Rattle.cell.proofs.FiniteTest.{Agrees, Clean}
+use Rattle.cell.proofs.WithoutLaws.{without_from, without_from_lem}
+use Rattle.cell.proofs.PlaceLaws.{Placed, place_out, place_in, head_of, tail_of, cut_joined, tail_length}
+use Rattle.cell.proofs.PlaceLaws.{tail_distinct, copy_in, Cut, copy_out}
+use Rattle.cell.proofs.Theorems.{prefix_within, claim_of_clean, agrees_of_claim}
 
 module _ {A : Type 0} where
   -- where no element passes, each fails

@@ -14,10 +14,10 @@ use Rattle.word.specs.CopyLaws.{before_cons}
 use Rattle.word.specs.PermLaws.{has_out, distinct_out, distinct_in, distinct_map, perm_bounds, perm_distinct, perm_in, perm_has}
 use Rattle.word.specs.PermLaws.{under_perm, reduce_perm, length_reduce, perm_reduce}
 use Rattle.cell.specs.Cell.{total, sort, between, spacing}
-use Rattle.cell.specs.BuiltLaws.{lift_rises, val_rises}
+use Rattle.cell.proofs.BuiltLaws.{lift_rises, val_rises}
 use Rattle.cell.specs.Built.{level, val, lift, built}
-use Rattle.cell.specs.RisingLaws.{rises_same, map_rises_same, sort_map, under_map, reduce_map, before_map}
-use Rattle.cell.specs.SpacingLaws.{sort_in, under_sort, sort_up, sort_perm, between_val, val_spacing}
+use Rattle.cell.proofs.RisingLaws.{rises_same, map_rises_same, sort_map, under_map, reduce_map, before_map}
+use Rattle.cell.proofs.SpacingLaws.{sort_in, under_sort, sort_up, sort_perm, between_val, val_spacing}
 
 -- the bounds of the values
 

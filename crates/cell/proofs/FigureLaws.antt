@@ -9,10 +9,10 @@ use Rattle.word.specs.Word.{avoids, perms, avoiders}
 use Rattle.word.specs.Inversions.{inversions, pairs, inverted, figure_count, tally, figures}
 use Rattle.word.specs.ListLaws.{below_or_not, keep_out, length_row}
 use Rattle.word.specs.PermLaws.{perms_are}
-use Rattle.word.specs.InversionLaws.{inversions_at_most, tally_length}
+use Rattle.word.proofs.InversionLaws.{inversions_at_most, tally_length}
 use Rattle.cell.specs.Cell.{total}
-use Rattle.cell.specs.BuiltLaws.{get_d_map}
-use Rattle.cell.specs.BinomialLaws.{keep_shorter}
+use Rattle.cell.proofs.BuiltLaws.{get_d_map}
+use Rattle.cell.proofs.BinomialLaws.{keep_shorter}
 
 -- no words
 tally_none : (a k : ℕ) → total (map (inverted []) (row a k)) ≡ 0

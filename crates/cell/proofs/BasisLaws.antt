@@ -18,10 +18,10 @@ use Rattle.cell.specs.Basis.{same, basic, basis}
 use Rattle.cell.specs.Cell.{spacing, in_cell, cell, total, deleted, merged, m_of}
 use Rattle.cell.specs.Claim.{GapClaim, DeletionClaim, SizesAgreeTo, SizesAgree}
 use Rattle.cell.specs.SublistLaws.{sublist_length, sublist_whole}
-use Rattle.cell.specs.BuiltCells.{same_in, same_out}
-use Rattle.cell.specs.FiniteTest.{Agrees, clean_basis}
-use Rattle.cell.specs.DeletionLaws.{iso_reduces}
-use Rattle.cell.specs.Theorems.{finite_law}
+use Rattle.cell.proofs.BuiltCells.{same_in, same_out}
+use Rattle.cell.proofs.FiniteTest.{Agrees, clean_basis}
+use Rattle.cell.proofs.DeletionLaws.{iso_reduces}
+use Rattle.cell.proofs.Theorems.{finite_law}
 
 -- permutations that are isomorphic are equal
 pub iso_perms : (α β : List ℕ) → is_perm α ≡ true → is_perm β ≡ true → iso α β ≡ true → α ≡ β

@@ -15,7 +15,7 @@ use Rattle.word.specs.PermLaws.{has_out, has_in, within_out, distinct_out, perm_
 use Rattle.cell.specs.Cell.{total, without, deleted, merge_from, merged}
 use Rattle.cell.specs.Built.{level}
 use Rattle.word.specs.ListLaws.{sublist_mem}
-use Rattle.cell.specs.WithoutLaws.{without_sublist, entry_onto, entry_injective, without_out, without_in, distinct_sublist}
+use Rattle.cell.proofs.WithoutLaws.{without_sublist, entry_onto, entry_injective, without_out, without_in, distinct_sublist}
 
 -- how many of the n numbers from v on are not in the list
 unfoldable pub kept_from : List ℕ → ℕ → ℕ → ℕ

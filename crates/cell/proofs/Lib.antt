@@ -1,0 +1,25 @@
+-- The theorems on cells, and the laws that they rest on.
+pub mod BasisLaws
+pub mod BinomialLaws
+pub mod BuiltCells
+pub mod BuiltLaws
+pub mod BuiltWords
+pub mod CandidateLaws
+pub mod ChildLaws
+pub mod ChoiceLaws
+pub mod DeletionLaws
+pub mod EachLaws
+pub mod FigureLaws
+pub mod FiniteTest
+pub mod GapLaws
+pub mod LeastLaws
+pub mod ListedLaws
+pub mod LostLaws
+pub mod MergeLaws
+pub mod PlaceLaws
+pub mod RestLaws
+pub mod RisingLaws
+pub mod SpacingLaws
+pub mod SpacingWalk
+pub mod Theorems
+pub mod WithoutLaws
