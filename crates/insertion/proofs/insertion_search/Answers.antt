@@ -6,18 +6,14 @@ use native.Mathlib.Omega.{arith}
 use lib.ListN.{length}
 use Rattle.word.specs.Patterns.{patterns_of}
 use Rattle.insertion.specs.InsertionLaws.{puts_searches}
-use Rattle.insertion.proofs.insertion_search.Statement.{statement}
-use Rattle.insertion.proofs.insertion_search.Tie as tie
+use Rattle.insertion.proofs.insertion_search.Goals as goal
 
-returns : tie.Need-returns
+pub returns : goal.returns
 returns c =
-    let a = c.before.args in
+    let a = c.args in
     let long : length a.word ≡ 20 = search rules in
     let answer = c.put_in.ensures in (
       puts_searches (patterns_of a.set a.lengths a.count) a.span.n a.span.fixed a.word a.span.endless
           c.put_in.result (omega arith) answer,
       answer.ends,
     )
-
-pub insertion-search-spec : {M : Type 1} → statement M
-insertion-search-spec = tie.close (tie.spec (λ c κs. search rules) returns)
