@@ -3,12 +3,8 @@
 use mathlib.Core.Path.{refl}
 use Rattle.text_gaps.specs.GapMemory.{parts_of_all, widths_of}
 use Rattle.text_gaps.specs.PartReading.{loaded_gaps}
-use Rattle.text_gaps.proofs.gap_reader.no_gaps.Statement.{statement}
-use Rattle.text_gaps.proofs.gap_reader.no_gaps.Tie as tie
+use Rattle.text_gaps.proofs.gap_reader.no_gaps.Goals as goal
 
-returns : tie.Need-returns
+pub returns : goal.returns
 unfolding loaded_gaps parts_of_all widths_of
 returns c = refl
-
-pub no-gaps-spec : {M : Type 1} → statement M
-no-gaps-spec = tie.close (tie.spec returns)
