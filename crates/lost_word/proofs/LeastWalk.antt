@@ -20,7 +20,7 @@ use Rattle.word.specs.CopyLaws.{found}
 use Rattle.word.specs.ListLaws.{true_not_false, first_some}
 use Rattle.word.proofs.PatternSet.{from, from_start, from_counted, from_cons}
 use Rattle.cell.specs.Cell.{total, without, compared_to}
-use Rattle.cell.specs.WithoutLaws.{without_from_lem, from_none}
+use Rattle.cell.proofs.WithoutLaws.{without_from_lem, from_none}
 use Rattle.cell.specs.Built.{built}
 use Rattle.cell.specs.Candidate.{violates, violated, rest_of, violated_first, lost_words, least_of, least_at, least_candidate}
 use Rattle.placing.specs.Lookup.{VALUES, need_at, flagged}
