@@ -10,9 +10,9 @@ use Rattle.count_plan.specs.LayoutLaws.{count_few, entry_short}
 use Rattle.count_plan.specs.SheetRows.{field_of, Sheet}
 use Rattle.count_walk.specs.Content.{Content, Sound}
 use Rattle.count_walk.specs.Cells.{TableCell, entry_cells, row_cells, rows_from, cells_of}
-use Rattle.count_walk.specs.CellLaws.{rows_append}
+use Rattle.count_walk.proofs.CellLaws.{rows_append}
 use Rattle.count_walk.specs.Walk.{Makes, walked}
-use Rattle.count_walk.specs.WalkLaws.{walked_append}
+use Rattle.count_walk.proofs.WalkLaws.{walked_append}
 use Rattle.count_cursor.specs.Cursor.{AtCell, later_of, rest_of, RowStart, Later, NextEntry}
 use Rattle.count_cursor.specs.CursorLaws.{rest_none, rest_entry}
 use Rattle.count_cursor.specs.declared.cursor.Cursor.{Cursor}

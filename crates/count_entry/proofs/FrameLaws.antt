@@ -31,9 +31,9 @@ use Rattle.count_plan.specs.SheetRows.{field_of, link_at, links_at, item_of, par
 use Rattle.count_plan.proofs.SheetRowLaws.{link_at_lem, parts_long, sheet_plan}
 use Rattle.count_walk.specs.Content.{Content, single}
 use Rattle.count_walk.specs.Cells.{entry_cells}
-use Rattle.count_walk.specs.CellLaws.{spacings_out}
+use Rattle.count_walk.proofs.CellLaws.{spacings_out}
 use Rattle.count_walk.specs.Walk.{place_of, Makes, step_at, walked, count_makes, count_walked}
-use Rattle.count_walk.specs.ReadLaws.{step_reads, made_alone, step_is, stored_walked}
+use Rattle.count_walk.proofs.ReadLaws.{step_reads, made_alone, step_is, stored_walked}
 use Rattle.count_cursor.specs.Cursor.{Listed, spacing_of, cell_of, AtCell, CursorGiven}
 use Rattle.count_cursor.specs.declared.cursor.Cursor.{Cursor}
 use Rattle.count_entry.specs.Frames.{FrameFits, Framed, CellGiven, begins_at, offset_of, task_at, WorkFor}

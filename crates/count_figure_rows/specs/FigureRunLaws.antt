@@ -17,7 +17,7 @@ use Rattle.count_plan.specs.Layout.{prefix_at, place_at, width_of, rows_of, cell
 use Rattle.count_plan.specs.ApartLaws.{cell_inside}
 use Rattle.count_plan.specs.SheetRows.{Names}
 use Rattle.count_walk.specs.Cells.{cells_of}
-use Rattle.count_walk.specs.WalkLaws.{row_value}
+use Rattle.count_walk.proofs.WalkLaws.{row_value}
 use Rattle.count_entry.specs.Frames.{Framed}
 use Rattle.count_entry.specs.declared.frame.Frame.{Frame}
 use Rattle.count_figures.specs.Figures.{cell_figures, figures_makes, figures_held, several, figures_walked}

@@ -33,12 +33,12 @@ use Rattle.count_plan.specs.Layout.{entry_at, prefix_at, rows_of, need_of, HasCe
 use Rattle.count_plan.specs.LayoutLaws.{prefix_length, entry_member, width_sum}
 use Rattle.count_walk.specs.Content.{single}
 use Rattle.count_walk.specs.Cells.{TableCell, cells_of}
-use Rattle.count_walk.specs.CellLaws.{rows_out}
+use Rattle.count_walk.proofs.CellLaws.{rows_out}
 use Rattle.count_walk.specs.Values.{sum_from}
 use Rattle.count_walk.specs.Walk.{place_of, count_makes, count_walked}
-use Rattle.count_walk.specs.FeedLaws.{child_fed}
-use Rattle.count_walk.specs.WalkLaws.{fed_value}
-use Rattle.count_walk.specs.SolutionLaws.{single_sound, solution_of, sizes_solved}
+use Rattle.count_walk.proofs.FeedLaws.{child_fed}
+use Rattle.count_walk.proofs.WalkLaws.{fed_value}
+use Rattle.count_walk.proofs.SolutionLaws.{single_sound, solution_of, sizes_solved}
 
 -- a sum that is made for the cell at the prefix p and the spacing g
 pub record SumFits (P : List (List ℕ)) (p g : List ℕ) (sum : ℕ) : Type 0 where

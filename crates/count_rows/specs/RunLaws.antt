@@ -19,10 +19,10 @@ use Rattle.count_plan.specs.SheetRows.{Names}
 use Rattle.count_step.specs.Step.{held}
 use Rattle.count_walk.specs.Content.{Content, Sound, single}
 use Rattle.count_walk.specs.Cells.{cells_of}
-use Rattle.count_walk.specs.CellLaws.{rows_out}
+use Rattle.count_walk.proofs.CellLaws.{rows_out}
 use Rattle.count_walk.specs.Walk.{Makes, walked, count_makes, count_walked}
-use Rattle.count_walk.specs.WalkLaws.{walked_size, walked_kept, row_value}
-use Rattle.count_walk.specs.SolutionLaws.{single_sound, solution_of, sizes_solved}
+use Rattle.count_walk.proofs.WalkLaws.{walked_size, walked_kept, row_value}
+use Rattle.count_walk.proofs.SolutionLaws.{single_sound, solution_of, sizes_solved}
 use Rattle.count_rows.specs.Run.{cleared, root_value, ValuesTo, Counts}
 
 -- the cell of ε in row j

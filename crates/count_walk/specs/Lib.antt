@@ -2,10 +2,5 @@
 pub mod Content
 pub mod Cells
 pub mod Walk
+pub mod Feeds
 pub mod Values
-pub mod FeedLaws
-pub mod CellLaws
-pub mod WalkLaws
-pub mod SolutionLaws
-pub mod ReadLaws
-pub mod NumberLaws

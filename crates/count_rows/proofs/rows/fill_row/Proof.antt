@@ -7,7 +7,7 @@ use lib.ListN.{length}
 use Rattle.forms.specs.SchemeMemory.{scheme_in}
 use Rattle.count_plan.specs.Layout.{rows_of}
 use Rattle.count_walk.specs.Content.{single}
-use Rattle.count_walk.specs.SolutionLaws.{single_sound}
+use Rattle.count_walk.proofs.SolutionLaws.{single_sound}
 use Rattle.count_walk.specs.Walk.{count_makes}
 use Rattle.count_cursor.specs.RowLaws.{Going, going_start, going_more, going_end, weight, weight_falls}
 use Rattle.count_entry.specs.Frames.{Framed}

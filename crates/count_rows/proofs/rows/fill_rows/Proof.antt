@@ -8,7 +8,7 @@ use Rattle.count_walk.specs.Cells.{rows_from}
 use Rattle.forms.specs.SchemeMemory.{scheme_in}
 use Rattle.count_plan.specs.Layout.{rows_of}
 use Rattle.count_walk.specs.Content.{single}
-use Rattle.count_walk.specs.SolutionLaws.{single_sound}
+use Rattle.count_walk.proofs.SolutionLaws.{single_sound}
 use Rattle.count_walk.specs.Walk.{count_makes, count_walked}
 use Rattle.count_entry.specs.Frames.{Framed}
 use Rattle.count_cursor.specs.RowLaws.{rows_none, rows_more, rows_end}

@@ -6,7 +6,7 @@ use mathlib.Core.Path.{ap, ap₂, ◌∙◌}
 use Rattle.forms.specs.SchemeMemory.{scheme_in}
 use Rattle.count_plan.specs.Layout.{rows_of}
 use Rattle.count_walk.specs.Content.{single}
-use Rattle.count_walk.specs.SolutionLaws.{single_sound}
+use Rattle.count_walk.proofs.SolutionLaws.{single_sound}
 use Rattle.count_walk.specs.Walk.{count_makes}
 use Rattle.count_rows.specs.Run.{cleared}
 use Rattle.count_rows.specs.RunLaws.{walked_cleared}

@@ -1,6 +1,6 @@
 -- Which cells feed which: each has a place in the table, comes before the cell that it feeds, and
 -- is less rows back than the table keeps.
-use Rattle.std.specs.Prelude.{ℕ, suc, ◌+◌, ◌≤◌, ◌<◌, ◌≡◌, ◌⊎◌, Bool, cond, length, eqb}
+use Rattle.std.specs.Prelude.{ℕ, suc, ◌+◌, ◌≤◌, ◌≡◌, Bool, cond, length, eqb}
 use Rattle.std.proofs.Common.{arith, sym, ap, ◌∙◌, inl, inr, ne_eqb}
 use Rattle.std.proofs.Math.Path.{refl, subst}
 use Rattle.std.proofs.Math.Bool.{true, false}
@@ -20,12 +20,12 @@ use Rattle.scheme.specs.Proper.{Proper}
 use Rattle.scheme.specs.PositionLaws.{positions_inside, positions_some, deleted_size}
 use Rattle.verdict.specs.ValueLaws.{child_listed, target_listed}
 use Rattle.count_step.specs.Feed.{Feed, covered, alone, target, children, map_feed, fed, CellOf, rule_feed, feed_of}
-use Rattle.count_plan.specs.Layout.{entry_at, prefix_at, length_at, deleted_by, largest_set, rows_of, HasCell}
+use Rattle.count_plan.specs.Layout.{entry_at, prefix_at, length_at, deleted_by, largest_set, HasCell}
 use Rattle.count_plan.specs.LayoutLaws.{prefix_length, entry_member, entry_proper, set_at_most}
 use Rattle.count_plan.specs.Cards.{index_of}
 use Rattle.count_plan.specs.SheetRows.{Names}
 use Rattle.count_plan.proofs.CardLaws.{found_names}
-use Rattle.count_walk.specs.Walk.{row_of}
+use Rattle.count_walk.specs.Feeds.{Feeds}
 
 -- contents that agree at the cells that feed are the same feed
 pub map_feed_same : {A B : Type 0} (f h : A → B) (F : Feed A) → ((x : A) → Memᴰ x (fed F) → f x ≡ h x) → map_feed f F ≡ map_feed h F
@@ -41,14 +41,6 @@ unfolding feed_of
 child_fed e g r f q low high =
     rw (f, r, ne_eqb (total g) 0 (λ z. omega arith))
     (Memᴰ.map (λ (i : ℕ). record { prefix = child_at e.prefix (slot g i); spacing = split g i }) (row_in 1 (total g) q low (omega arith)))
-
--- a cell that feeds the cell of the entry with index d in row j
-pub record Feeds (n : ℕ) (s : Scheme) (j d : ℕ) (f : CellOf) : Type 0 where
-  pub cell : HasCell n s (row_of f) (index_of s f.prefix) f.spacing
-  pub named : prefix_at s (index_of s f.prefix) ≡ f.prefix
-  -- it stands in an earlier row, or is of a longer entry of this row
-  pub before : (row_of f < j) ⊎ ((row_of f ≡ j) × (length_at s d < length_at s (index_of s f.prefix)))
-  pub near : j < row_of f + rows_of (scheme_in s)
 
 module _ (n : ℕ) (s : Scheme) (proper : Proper (scheme_in s)) (j d : ℕ) (g : List ℕ) (c : HasCell n s j d g) where
   size : length (prefix_at s d) ≡ length_at s d

@@ -24,7 +24,7 @@ use Rattle.count_step.specs.Step.{spacings_from}
 use Rattle.count_plan.specs.Layout.{entry_at, length_at}
 use Rattle.count_plan.specs.LayoutLaws.{prefix_length, entry_short}
 use Rattle.count_walk.specs.Cells.{entry_cells, cells_if, length_cells, shorter_cells, row_cells, rows_from, cells_of}
-use Rattle.count_walk.specs.CellLaws.{spacings_length}
+use Rattle.count_walk.proofs.CellLaws.{spacings_length}
 
 -- sums of two functions, and of zeros
 total_both : (f h : ℕ → ℕ) (l : List ℕ) → total (map f l) + total (map h l) ≡ total (map (λ x. f x + h x) l)

@@ -18,8 +18,9 @@ use Rattle.count_plan.specs.Cards.{index_of}
 use Rattle.count_walk.specs.Content.{Content, Sound}
 use Rattle.count_walk.specs.Cells.{TableCell, rows_from, cells_of}
 use Rattle.count_walk.specs.Walk.{row_of, place_of, place_in, Makes, step_at, stepped, walked, Solution, Hold}
-use Rattle.count_walk.specs.FeedLaws.{map_feed_same, Feeds, feeds}
-use Rattle.count_walk.specs.CellLaws.{rows_out, rows_in, rows_cut, cells_turn}
+use Rattle.count_walk.specs.Feeds.{Feeds}
+use Rattle.count_walk.proofs.FeedLaws.{map_feed_same, feeds}
+use Rattle.count_walk.proofs.CellLaws.{rows_out, rows_in, rows_cut, cells_turn}
 
 module _ {A : Type 0} (C : Content A) (sound : Sound C) (make : Makes A) (rows n : ℕ) (s : Scheme) where
   pub walked_append : (k l : List TableCell) (T : List ℕ) → walked C make rows n s (k ++ l) T ≡
