@@ -9,10 +9,9 @@ use native.Mathlib.Omega.{arith}
 use lib.ListN.{length, take, set, length-set}
 use lib.Seq.{take-suc-set}
 use Rattle.word.specs.Ceilings.{WORD}
-use Rattle.appending.proofs.followed.Statement.{statement}
-use Rattle.appending.proofs.followed.Tie as tie
+use Rattle.appending.proofs.followed.Goals as goal
 
-returns : tie.Need-returns
+pub returns : goal.returns
 returns c =
     let a = c.args in
     let long : length a.word ≡ WORD = search rules in
@@ -23,6 +22,3 @@ returns c =
     ap (λ (m : ℕ). take m (set w (a.len + 1) a.b)) two ∙
     take-suc-set w (a.len + 1) a.b (omega (arith, length-set a.word a.len a.a)) ∙
     ap (λ (t : List ℕ). t ++ (a.b ∷ [])) one ∙ append_assoc (take a.len a.word) (a.a ∷ []) (a.b ∷ [])
-
-pub followed-spec : {M : Type 1} → statement M
-followed-spec = tie.close (tie.spec (λ c. search rules) (λ c. search rules) (λ c. search rules) returns)
