@@ -65,6 +65,7 @@ pub fn number_at(s: &[u8], c: Cursor) -> NumberRead
 
 // The number of the run that stands from `from` on: one to three digits, and no zero in front of
 // others.
+#[tactic(auto, using(crate::proofs::GapNumberLaws::number_long, crate::proofs::GapNumberLaws::number_zero))]
 fn number_of(s: &[u8], from: usize, len: usize) -> Numeral
     requires { len ≡ length (run (drop from s.now)) }
     ensures { Numbered (run (drop from s.now)) result }

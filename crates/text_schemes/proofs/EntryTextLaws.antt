@@ -31,7 +31,7 @@ use Rattle.text_schemes.specs.declared.scheme_reader.MarkRead.{MarkRead}
 use Rattle.text_schemes.specs.declared.scheme_reader.Choice.{Choice}
 use Rattle.text_schemes.specs.declared.scheme_reader.Prefix.{Prefix}
 use Rattle.text_schemes.specs.declared.scheme_reader.PrefixRead.{PrefixRead}
-use Rattle.text_grammar.specs.Spelling.{Token, digits, empty, byte, comma}
+use Rattle.text_grammar.specs.Spelling.{Token, empty, byte, comma}
 use Rattle.text_grammar.specs.Tokens.{run, tokens}
 use Rattle.text_grammar.specs.Cursor.{Stepped, tokens_by}
 use Rattle.text_grammar.specs.Grammar.{Read, misspelt, got, after, same, fail, pick, expect, either, items, in_braces}

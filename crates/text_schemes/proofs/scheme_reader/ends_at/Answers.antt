@@ -5,18 +5,11 @@ use lib.ListN.{drop}
 use Rattle.text_grammar.specs.Tokens.{tokens}
 use Rattle.text_schemes.specs.EntryReading.{no_tokens}
 use Rattle.text_schemes.proofs.EntryItemLaws.{end_seen}
-use borrow.Author.Rules.{rules}
-use Rattle.text_schemes.proofs.scheme_reader.ends_at.Statement.{statement}
-use Rattle.text_schemes.proofs.scheme_reader.ends_at.Tie as tie
+use Rattle.text_schemes.proofs.scheme_reader.ends_at.Goals as goal
 
-returns : tie.Need-returns
+pub returns : goal.returns
 returns c =
-    let t = c.before.step in
-    let s = c.before.before.before.args.s.now in
+    let t = c.step-t in
+    let s = c.args.s.now in
     c.is_end.ensures ∙ end_seen t.result.kind (drop t.result.from s) (tokens (drop t.result.next.at s)) ∙
     ap no_tokens (sym t.ensures.gives)
-
-pub ends-at-spec : {M : Type 1} → statement M
-ends-at-spec =
-    tie.close
-    (tie.spec (λ c κs. search rules) (λ c κs. search rules) returns)
