@@ -6,13 +6,13 @@ use Rattle.std.proofs.Math.ListN.{get_or-append}
 use Rattle.word.specs.Ceilings.{REFINED}
 use Rattle.word.specs.Word.{avoiders}
 use Rattle.word.specs.Inversions.{pairs, figure_count, figures}
-use Rattle.word.specs.InversionLaws.{tally_length}
+use Rattle.word.proofs.InversionLaws.{tally_length}
 use Rattle.word.specs.ListLaws.{true_not_false}
 use Rattle.word.specs.Finding.{Finding, test, first_fault}
 use Rattle.word.specs.Told.{told_by}
 use Rattle.word.specs.declared.refusal.Refusal.TheVariants.{Oversize, ShortTable, ShortPage}
 use Rattle.cell.specs.Cell.{total}
-use Rattle.cell.specs.FigureLaws.{figures_total, figure_at}
+use Rattle.cell.proofs.FigureLaws.{figures_total, figure_at}
 use Rattle.forms.specs.SchemeList.{EntryList}
 use Rattle.forms.specs.SchemeMemory.{fault_of, or_else, faulty, told_or}
 use Rattle.forms.specs.ToldLaws.{told_found}

@@ -9,8 +9,8 @@ use Rattle.word.specs.ListLaws.{map_same, row_out}
 use Rattle.word.specs.Inversions.{figure_count}
 use Rattle.cell.specs.Cell.{total, free, deleted, merged}
 use Rattle.cell.specs.Child.{slot, child_at, split}
-use Rattle.cell.specs.ChildLaws.{split_total}
-use Rattle.cell.specs.MergeLaws.{merged_total}
+use Rattle.cell.proofs.ChildLaws.{split_total}
+use Rattle.cell.proofs.MergeLaws.{merged_total}
 use Rattle.spacing.specs.Following.{first_vector}
 use Rattle.forms.specs.SchemeList.{Does, expands, deletes, EntryList}
 use Rattle.forms.specs.SchemeMemory.{scheme_in}

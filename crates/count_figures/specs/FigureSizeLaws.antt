@@ -3,7 +3,7 @@ use Rattle.std.specs.Prelude.{ℕ, zero, suc, ◌+◌, ◌-◌, ◌≤◌, ◌�
 use Rattle.std.proofs.Common.{arith}
 use Rattle.word.specs.Ceilings.{REFINED, FIGURES}
 use Rattle.word.specs.Inversions.{pairs, figure_count}
-use Rattle.word.specs.InversionLaws.{pairs_suc, pairs_mono}
+use Rattle.word.proofs.InversionLaws.{pairs_suc, pairs_mono}
 
 pub count_is_lem : (t : ℕ) → figure_count t ≡ suc (pairs t)
 unfolding figure_count

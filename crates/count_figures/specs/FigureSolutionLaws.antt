@@ -17,22 +17,22 @@ use Rattle.word.specs.Inversions.{inversions, pairs, inverted, figure_count, tal
 use Rattle.word.specs.ListLaws.{same_test, below_or_not, all_fails, keep_out, map_same}
 use Rattle.word.specs.Vocabulary.{factorial}
 use Rattle.word.specs.PermLaws.{perms_are, perm_bounds, length_perms}
-use Rattle.word.specs.InversionLaws.{pairs_mono, inversions_at_most, inversions_map, inversions_first, tally_length}
+use Rattle.word.proofs.InversionLaws.{pairs_mono, inversions_at_most, inversions_map, inversions_first, tally_length}
 use Rattle.cell.specs.Cell.{total, cell, without, deleted, merged, at_least, free}
 use Rattle.cell.specs.Claim.{DeletionClaim}
 use Rattle.cell.specs.Built.{val, lift, built}
 use Rattle.cell.specs.Child.{slot, child_at, split}
-use Rattle.cell.specs.EachLaws.{keep_append, keep_map}
-use Rattle.cell.specs.BinomialLaws.{keep_shorter}
-use Rattle.cell.specs.SpacingWalk.{keep_same}
-use Rattle.cell.specs.BuiltLaws.{lift_keeps}
-use Rattle.cell.specs.BuiltWords.{lift_low}
-use Rattle.cell.specs.BuiltCells.{cell_built, cell_size}
-use Rattle.cell.specs.ChildLaws.{split_total, built_child, cell_zero}
-use Rattle.cell.specs.MergeLaws.{merged_total}
-use Rattle.cell.specs.FiniteTest.{Agrees}
-use Rattle.cell.specs.FigureLaws.{tally_at}
-use Rattle.cell.specs.Theorems.{agrees_test, agrees_of_claim}
+use Rattle.cell.proofs.EachLaws.{keep_append, keep_map}
+use Rattle.cell.proofs.BinomialLaws.{keep_shorter}
+use Rattle.cell.proofs.SpacingWalk.{keep_same}
+use Rattle.cell.proofs.BuiltLaws.{lift_keeps}
+use Rattle.cell.proofs.BuiltWords.{lift_low}
+use Rattle.cell.proofs.BuiltCells.{cell_built, cell_size}
+use Rattle.cell.proofs.ChildLaws.{split_total, built_child, cell_zero}
+use Rattle.cell.proofs.MergeLaws.{merged_total}
+use Rattle.cell.proofs.FiniteTest.{Agrees}
+use Rattle.cell.proofs.FigureLaws.{tally_at}
+use Rattle.cell.proofs.Theorems.{agrees_test, agrees_of_claim}
 use Rattle.forms.specs.SchemeList.{Does, expands, deletes, EntryList}
 use Rattle.forms.specs.SchemeMemory.{scheme_in}
 use Rattle.forms.specs.declared.memory.Scheme.{Scheme}

@@ -14,8 +14,8 @@ use Rattle.word.specs.Ceilings.{ENTRIES, PREFIX, COMPONENTS, GAPS, PLAIN_LENGTH}
 use Rattle.word.specs.Word.{avoids, entry}
 use Rattle.cell.specs.Cell.{total, free, deleted, merged, merge_values}
 use Rattle.cell.specs.Child.{slot, child_at, split}
-use Rattle.cell.specs.ChildLaws.{split_total, child_length}
-use Rattle.cell.specs.MergeLaws.{merged_length, merged_total}
+use Rattle.cell.proofs.ChildLaws.{split_total, child_length}
+use Rattle.cell.proofs.MergeLaws.{merged_length, merged_total}
 use Rattle.spacing.specs.Flagged.{flagged}
 use Rattle.spacing.specs.RankLaws.{merge_same}
 use Rattle.forms.specs.SchemeList.{Does, expands, deletes}

@@ -13,7 +13,7 @@ use Rattle.word.specs.Lists.{row}
 use Rattle.word.specs.Word.{is_perm}
 use Rattle.word.specs.ListLaws.{true_not_false}
 use Rattle.cell.specs.Basis.{same}
-use Rattle.cell.specs.BuiltCells.{same_out}
+use Rattle.cell.proofs.BuiltCells.{same_out}
 use Rattle.cell.specs.Child.{child_at}
 use Rattle.forms.specs.SchemeList.{expands, deletes}
 use Rattle.forms.specs.SchemeMemory.{no_entry, padded, positions_in, does_of, scheme_in}

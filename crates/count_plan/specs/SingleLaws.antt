@@ -7,7 +7,7 @@ use Rattle.word.specs.Ceilings.{PREFIX}
 use Rattle.cell.specs.Cell.{total}
 use Rattle.cell.specs.Binomial.{binomial}
 use Rattle.cell.specs.Child.{child_at}
-use Rattle.cell.specs.ChildLaws.{child_length}
+use Rattle.cell.proofs.ChildLaws.{child_length}
 use Rattle.forms.specs.SchemeList.{Does, expands, deletes, EntryList}
 use Rattle.scheme.specs.WellFormed.{outside}
 use Rattle.scheme.specs.PositionLaws.{positions_some}

@@ -16,7 +16,7 @@ use Rattle.word.specs.ListLaws.{map_same, row_out}
 use Rattle.word.specs.Word.{avoids}
 use Rattle.word.specs.Vocabulary.{factorial}
 use Rattle.cell.specs.Cell.{total, free}
-use Rattle.cell.specs.BuiltCells.{cell_at_most}
+use Rattle.cell.proofs.BuiltCells.{cell_at_most}
 use Rattle.cell.specs.Child.{child_at, slot, split}
 use Rattle.spacing.specs.TotalLaws.{total_append, row_cut}
 use Rattle.forms.specs.SchemeList.{EntryList, expands}

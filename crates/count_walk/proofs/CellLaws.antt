@@ -16,7 +16,7 @@ use Rattle.word.specs.Lists.{each, row}
 use Rattle.word.specs.ListLaws.{below_or_not, same_or_not, each_out, each_in, each_append, row_out, row_in}
 use Rattle.cell.specs.Cell.{total}
 use Rattle.cell.specs.Binomial.{binomial}
-use Rattle.cell.specs.BinomialLaws.{binomial_above}
+use Rattle.cell.proofs.BinomialLaws.{binomial_above}
 use Rattle.spacing.specs.Following.{first_vector}
 use Rattle.spacing.specs.SpacingOrder.{first_length, first_total}
 use Rattle.spacing.specs.Rank.{rank_of, next_of}

@@ -10,8 +10,8 @@ use Rattle.word.specs.Lists.{one_to}
 use Rattle.word.specs.ListLaws.{row_out, row_in, map_same}
 use Rattle.cell.specs.Cell.{total, free, deleted, merged}
 use Rattle.cell.specs.Child.{slot, child_at, split}
-use Rattle.cell.specs.ChildLaws.{slot_bounds, split_length, split_total, child_length}
-use Rattle.cell.specs.MergeLaws.{merged_length, merged_total}
+use Rattle.cell.proofs.ChildLaws.{slot_bounds, split_length, split_total, child_length}
+use Rattle.cell.proofs.MergeLaws.{merged_length, merged_total}
 use Rattle.forms.specs.SchemeList.{Does, expands, deletes, EntryList}
 use Rattle.forms.specs.SchemeMemory.{scheme_in}
 use Rattle.forms.specs.declared.memory.Scheme.{Scheme}

@@ -14,7 +14,7 @@ use Rattle.word.specs.Lists.{row}
 use Rattle.word.specs.ListLaws.{below_or_not, same_or_not, map_same, row_out}
 use Rattle.cell.specs.Cell.{total}
 use Rattle.cell.specs.Binomial.{binomial}
-use Rattle.cell.specs.EachLaws.{length_each_total}
+use Rattle.cell.proofs.EachLaws.{length_each_total}
 use Rattle.spacing.specs.Following.{first_vector}
 use Rattle.forms.specs.SchemeList.{EntryList}
 use Rattle.forms.specs.SchemeMemory.{scheme_in}

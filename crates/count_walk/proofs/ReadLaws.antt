@@ -13,9 +13,9 @@ use Rattle.word.specs.Word.{avoids, entry}
 use Rattle.word.specs.ListLaws.{map_same, row_out}
 use Rattle.cell.specs.Cell.{total, free, deleted, merged, merge_values}
 use Rattle.cell.specs.Child.{slot, child_at, split}
-use Rattle.cell.specs.BuiltLaws.{get_d_map}
-use Rattle.cell.specs.ChildLaws.{slot_bounds, split_total, child_length}
-use Rattle.cell.specs.MergeLaws.{merged_total}
+use Rattle.cell.proofs.BuiltLaws.{get_d_map}
+use Rattle.cell.proofs.ChildLaws.{slot_bounds, split_total, child_length}
+use Rattle.cell.proofs.MergeLaws.{merged_total}
 use Rattle.spacing.specs.Rank.{rank_of}
 use Rattle.spacing.specs.RankLaws.{merge_same}
 use Rattle.forms.specs.SchemeList.{Does, expands, deletes}
