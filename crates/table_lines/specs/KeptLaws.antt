@@ -189,12 +189,12 @@ kept_none = ap₂ (λ (a b : List ℕ). memory_of (kept_of []).lines a b) (held_
 
 -- The loop over a chunk: what is to come is the chunk from the index on, and the buffers have the
 -- room that they had.
-pub record Walk (start : Memory) (chunk : List ℕ) (set_room scheme-room : ℕ) (m : Memory) (i : ℕ) : Type 0 where
+pub record Walk (start : Memory) (chunk : List ℕ) (sets schemes : ℕ) (m : Memory) (i : ℕ) : Type 0 where
   pub within : i ≤ length chunk
   pub set_size : length m.set ≡ length start.set
   pub scheme_size : length m.scheme ≡ length start.scheme
-  pub set_known : set_room ≡ room_in m.set set_room
-  pub scheme_known : scheme-room ≡ room_in m.scheme scheme_room
+  pub set_known : sets ≡ room_in m.set set_room
+  pub scheme_known : schemes ≡ room_in m.scheme scheme_room
   pub rest : kept_on m (drop i chunk) ≡ kept_on start chunk
 
 module _ {start : Memory} {chunk : List ℕ} {n k : ℕ} {m : Memory} {i : ℕ} (w : Walk start chunk n k m i) where

@@ -6,8 +6,11 @@ ghost use Rattle.std.specs.Prelude.{◌≡◌, []};
 ghost use Rattle.table_lines.specs.Kept.{memory_of, kept_of};
 ghost use Rattle.table_reading.specs.Reads.{state_after, after_of, taken_of, has_more, ReadsSome, ReadsAll};
 
-use libc::{EINTR, STDIN_FILENO};
+use std::io::{Read, Stdin};
 use table_lines::input::{Lines, keep, nothing};
+
+// The number of the error where a signal interrupts a call.
+const EINTR: i32 = 4;
 
 // Whether there may be more of the input, it has ended, or a read failed.
 #[derive(Clone, Copy)]
@@ -17,28 +20,31 @@ pub enum State {
     Failed,
 }
 
-// What was kept of the input so far, beside the two buffers.
+// What was kept of the input so far, beside the two buffers, and the number of the error of the last
+// read, 0 where it did not fail.
 #[derive(Clone, Copy)]
 pub struct Reading {
     pub state: State,
     pub lines: Lines,
+    pub error: i32,
 }
 
 // Reads to the end of the input, or to a read that fails, into two buffers of zeros. A proved loop
 // has to end, so it counts its turns down from a number that no run uses up.
-pub fn read_all(set: &mut [u8], scheme: &mut [u8]) -> Reading
+pub fn read_all(input: Stdin, set: &mut [u8], scheme: &mut [u8]) -> Reading
     requires { memory_of (kept_of []).lines set.old scheme.old ≡ kept_of [] }
     ensures { ReadsAll (after_of result set.new scheme.new) }
 {
     let mut reading = Reading {
         state: State::More,
         lines: nothing(),
+        error: 0,
     };
     // one buffer for all reads
     let mut chunk = io::large_buffer();
     let mut turns = u64::MAX;
     while 0 < turns {
-        let next = read_some(reading.lines, set, scheme, &mut chunk);
+        let next = read_some(input, reading.lines, set, scheme, &mut chunk);
         reading = next;
         let state = reading.state;
         if !has_more(state) {
@@ -50,15 +56,24 @@ pub fn read_all(set: &mut [u8], scheme: &mut [u8]) -> Reading
 }
 
 // Reads once into the chunk, and keeps what is needed of it.
-fn read_some(lines: Lines, set: &mut [u8], scheme: &mut [u8], chunk: &mut [u8]) -> Reading
+fn read_some(
+    mut input: Stdin,
+    lines: Lines,
+    set: &mut [u8],
+    scheme: &mut [u8],
+    chunk: &mut [u8],
+) -> Reading
     ensures { ReadsSome (memory_of lines set.old scheme.old)
         (after_of result set.new scheme.new) }
 {
-    let got = libc::read(STDIN_FILENO, chunk);
-    taken(lines, set, scheme, chunk, got, os::errno())
+    match input.read(chunk) {
+        Ok(n) => taken(lines, set, scheme, chunk, n as isize, 0),
+        Err(e) => taken(lines, set, scheme, chunk, -1, e.raw_os_error().unwrap_or(0)),
+    }
 }
 
-// What is kept after a read into the chunk: `got` is what `libc::read` answered, `error` is errno.
+// What is kept after a read into the chunk: `got` is how many bytes it brought, or negative where it
+// failed, and `error` is then the number of the error.
 fn taken(
     lines: Lines,
     set: &mut [u8],
@@ -73,7 +88,11 @@ fn taken(
     let n = io::count(got, chunk);
     let kept = keep(lines, set, scheme, &chunk[..n]);
     let state = state_after(got, error);
-    Reading { state, lines: kept }
+    Reading {
+        state,
+        lines: kept,
+        error,
+    }
 }
 
 // A read of no bytes ends the input, and one that a signal interrupts is tried again.

@@ -1,12 +1,8 @@
 -- The invariant and the measure of the loop of `table_lines::input::keep`.
 use Prim.Native.Nat.{◌-◌}
-use native.Mathlib.Omega.{arith}
-use mathlib.Core.Path.{◌≡◌, refl}
-use lib.ListN.{length, get_or, length-set}
-use borrow.Author.Rules.{rules}
+use lib.ListN.{length}
 use Rattle.table_lines.specs.Kept.{memory_of}
-use Rattle.table_lines.specs.KeptLaws.{Walk, turn, chunk_end, turn_fourth, turn_end}
-use Rattle.table_lines.specs.KeptLaws.{turn_set, turn_scheme, turn_last, drop_set, drop_scheme, drop_last}
+use Rattle.table_lines.specs.KeptLaws.{Walk}
 use Rattle.table_lines.proofs.input.keep.Given as goal
 
 abbrev pub invariant-loop-i : goal.invariant-loop-i

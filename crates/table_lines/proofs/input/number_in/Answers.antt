@@ -4,7 +4,6 @@
 use mathlib.Core.Path.{ap, ◌∙◌}
 use Rattle.table_lines.specs.Kept.{as_number}
 use Rattle.table_lines.specs.LastNumberLaws.{slice_one, slice_two, slice_other}
-use borrow.Author.Rules.{rules}
 use Rattle.table_lines.proofs.input.number_in.Goals as goal
 
 pub returns-then-text-eq1 : goal.returns-then-text-eq1

@@ -5,7 +5,6 @@ use mathlib.Core.Path.{sym, ap, ◌∙◌}
 use Rattle.table_lines.specs.declared.input.Number.TheVariants.{Is}
 use Rattle.table_lines.specs.Kept.{as_number}
 use Rattle.table_lines.specs.LastNumberLaws.{below_digits, above_digits, one_spelt, one_misspelt}
-use borrow.Author.Rules.{rules}
 use Rattle.table_lines.proofs.input.one_digit.Goals as goal
 
 pub returns-then-a-lt48 : goal.returns-then-a-lt48

@@ -7,7 +7,6 @@ use mathlib.Core.Path.{sym, ap, ap₂, ◌∙◌}
 use Rattle.table_lines.specs.declared.input.Number.TheVariants.{Is}
 use Rattle.table_lines.specs.Kept.{as_number}
 use Rattle.table_lines.specs.LastNumberLaws.{below_digits, above_digits, two_spelt, leading_zero, first_misspelt, second_misspelt}
-use borrow.Author.Rules.{rules}
 use Rattle.table_lines.proofs.input.two_digits.Goals as goal
 
 pub returns-then-a-le48 : goal.returns-then-a-le48

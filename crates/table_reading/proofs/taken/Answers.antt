@@ -11,37 +11,21 @@ use Rattle.table_lines.specs.Kept.{Memory, memory_of}
 use Rattle.table_lines.specs.KeptWalk.{kept_on}
 use Rattle.table_reading.specs.Reads.{AfterRead, state_after, bytes_got, taken_of}
 use borrow.Author.Rules.{rules}
-use Rattle.table_reading.proofs.taken.Statement.{statement}
-use Rattle.table_reading.proofs.taken.Tie as tie
+use Rattle.table_reading.proofs.taken.Goals as goal
 
 abbrev after : State → Memory → AfterRead
 after s m = record { state = s; memory = m }
 
-returns : tie.Need-returns
+pub returns : goal.returns
 unfolding taken_of
 returns c =
-    let at-keep = c.before.before.before.before.before in
-    let at_count = at-keep.before.before.before.before in
-    let start = at_count.before.before.before.before in
-    let a = start.args in
-    let count = at_count.count in
+    let a = c.args in
+    let count = c.count-n in
     let before = memory_of a.lines a.set.now a.scheme.now in
     let same : to_z w64 (of_z w64 a.got) ≡ a.got = search rules in
     let error : to_z w32 (of_z w32 a.error) ≡ a.error = search rules in
     ap₂ after
-    (c.state-after.ensures ∙ ap₂ state_after same error)
-    (at-keep.keep.ensures
-    ∙ ap (λ (n : ℕ). kept_on before (take n a.chunk.now)) count.ensures.1
+    (c.state_after-state.ensures ∙ ap₂ state_after same error)
+    (c.keep-kept.ensures
+    ∙ ap (λ (n : ℕ). kept_on before (take n a.chunk.now)) count.ensures.value
     ∙ ap (λ (z : ℤ). kept_on before (bytes_got a.chunk.now z)) same)
-
-pub taken-spec : {M : Type 1} → statement M
-taken-spec =
-    tie.close
-    (tie.spec
-    (λ c κs. search rules)
-    (λ c. search rules)
-    (λ c κs. search rules)
-    (λ c κs. search rules)
-    (λ c. search rules)
-    (λ c. search rules)
-    returns)
