@@ -12,7 +12,7 @@ use Rattle.word.specs.Earliest.{Earliest, nowhere, stands, earliest, positions_o
 use Rattle.copy_search.specs.Copy.{placed}
 use Rattle.containment.specs.SetCopies.{shown_in}
 use Rattle.word.specs.ListLaws.{map_same}
-use Rattle.word.specs.EarliestLaws.{earliest_is, copy_within}
+use Rattle.word.proofs.EarliestLaws.{earliest_is, copy_within}
 
 -- a number as a byte
 abbrev pub byte : ℕ → ℕ
