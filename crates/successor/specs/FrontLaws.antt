@@ -10,7 +10,7 @@ use Rattle.word.specs.Listing.{next_avoider}
 use Rattle.word.specs.ListLaws.{get_or_mem}
 use Rattle.word.specs.PermLaws.{perm_bounds}
 use Rattle.word.specs.AscendLaws.{avoiders_all}
-use Rattle.cell.specs.BuiltCells.{same_out}
+use Rattle.cell.proofs.BuiltCells.{same_out}
 use Rattle.completion.specs.Completion.{begins}
 use Rattle.arrangement.specs.Searching.{Completes}
 use Rattle.arrangement.specs.SearchingLaws.{completes_can}
