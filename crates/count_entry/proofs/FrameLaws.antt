@@ -12,7 +12,6 @@ use lib.ListN.{length, get_or, set, length-map}
 use lib.Seq.{ext_get_or}
 use Rattle.word.specs.Ceilings.{ENTRIES, PREFIX, COMPONENTS, GAPS, PARTS, LINKS}
 use Rattle.word.specs.Word.{avoids}
-use Rattle.cell.specs.Cell.{total}
 use Rattle.cell.proofs.BuiltLaws.{get_d_map}
 use Rattle.cell.specs.Binomial.{binomial}
 use Rattle.spacing.specs.Sizes.{NEAR, BLOCKS, FAR}

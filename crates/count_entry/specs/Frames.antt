@@ -1,8 +1,7 @@
 -- The layout of a table in memory, and what the steps of an entry are given and leave. Definitions
 -- only.
-use Rattle.std.specs.Prelude.{ℕ, ◌+◌, ◌-◌, ◌*◌, ◌%◌, ◌≤◌, ◌≡◌, List, [], ◌∷◌, map, length, get_or}
+use Rattle.std.specs.Prelude.{ℕ, ◌+◌, ◌-◌, ◌*◌, ◌%◌, ◌≤◌, ◌≡◌, List, [], ◌∷◌, map, get_or}
 use Rattle.word.specs.Ceilings.{COMPONENTS, LENGTH}
-use Rattle.cell.specs.Cell.{total}
 use Rattle.cell.specs.Binomial.{binomial}
 use Rattle.spacing.specs.Sizes.{NEAR}
 use Rattle.forms.specs.SchemeMemory.{scheme_in}

@@ -10,27 +10,21 @@ use Rattle.spacing.specs.PascalLaws.{binomial_small}
 use Rattle.count_plan.specs.Layout.{length_at}
 use Rattle.count_cursor.specs.Cursor.{spacing_of}
 use Rattle.count_entry.proofs.FrameLaws.{index_small, size, work_fits, work_gaps, work_low, work_length, work_total, cell_walked}
-use borrow.Author.Rules.{rules}
-use Rattle.count_entry.proofs.entry.fill_cell.Statement.{statement}
-use Rattle.count_entry.proofs.entry.fill_cell.Tie as tie
+use Rattle.count_entry.proofs.entry.fill_cell.Goals as goal
 
-gaps-of-requires : tie.Need-gaps-of-requires
-gaps-of-requires c κs =
-    let start = c.before.before.before.before.before in
-    let a = start.args in
-    let q = start.requires.0 in
+pub gaps_of-gaps-requires : goal.gaps_of-gaps-requires
+gaps_of-gaps-requires c =
+    let a = c.args in
+    let q = c.requires.0 in
     (index_small a.sheet.now a.places.now a.f a.c q, q.framed.of.long)
 
-add-fill-one : tie.Need-overflow-add-fill-one
-add-fill-one c =
-    let at-gaps-of = c.before.before.before.before.before in
-    let at-work-of = at-gaps-of.before in
-    let start = at-work-of.before.before.before.before.before in
-    let a = start.args in
-    let q = start.requires.0 in
+pub overflow_add-w : goal.overflow_add-w
+overflow_add-w c =
+    let a = c.args in
+    let q = c.requires.0 in
     let s = q.framed.of.s in
-    let w = at-work-of.work-of in
-    let g = at-gaps-of.gaps-of in
+    let w = c.work_of-w in
+    let g = c.gaps_of-gaps in
     omega (
       arith,
       work_low a.sheet.now a.places.now a.f a.c q w.result w.ensures g.result.now g.ensures,
@@ -39,15 +33,12 @@ add-fill-one c =
       binomial_small a.c.row (length_at s a.c.entry) (omega (arith, q.low, q.framed.small)),
     )
 
-fill-one-requires : tie.Need-fill-one-requires
-fill-one-requires c κs =
-    let at-gaps-of = c.before.before.before.before.before in
-    let at-work-of = at-gaps-of.before in
-    let start = at-work-of.before.before.before.before.before in
-    let a = start.args in
-    let q = start.requires.0 in
-    let w = at-work-of.work-of in
-    let g = at-gaps-of.gaps-of in
+pub fill_one-requires : goal.fill_one-requires
+fill_one-requires c =
+    let a = c.args in
+    let q = c.requires.0 in
+    let w = c.work_of-w in
+    let g = c.gaps_of-gaps in
     let k = work_length a.sheet.now a.places.now a.f a.c q w.result w.ensures g.result.now g.ensures in
     let here = size a.sheet.now a.places.now a.f a.c q in (
       work_fits a.sheet.now a.places.now a.f a.c q w.result w.ensures g.result.now g.ensures,
@@ -59,30 +50,16 @@ fill-one-requires c κs =
         work_total a.sheet.now a.places.now a.f a.c q w.result w.ensures g.result.now g.ensures,
         here,
       ),
-      start.requires.1,
+      c.requires.1,
     )
 
-returns : tie.Need-returns
+pub returns : goal.returns
 returns c =
-    let at-gaps-of = c.before.before.before.before.before.before.before.before in
-    let at-work-of = at-gaps-of.before in
-    let start = at-work-of.before.before.before.before.before in
-    let a = start.args in
-    let w = at-work-of.work-of in
-    let g = at-gaps-of.gaps-of in
+    let a = c.args in
+    let w = c.work_of-w in
+    let g = c.gaps_of-gaps in
     λ q.
     let k = work_length a.sheet.now a.places.now a.f a.c q w.result w.ensures g.result.now g.ensures in
-    c.before.before.fill_one.ensures ∙
+    c.fill_one.ensures ∙
     cell_walked a.sheet.now a.places.now a.f a.c q w.result w.ensures g.result.now g.ensures
     a.table.now _ (ap (λ m. take (m + 1) a.c.spacing) (k ∙ size a.sheet.now a.places.now a.f a.c q))
-
-pub fill-cell-spec : {M : Type 1} → statement M
-fill-cell-spec =
-    tie.close
-    (tie.spec
-    (λ c κs. search rules)
-    gaps-of-requires
-    add-fill-one
-    fill-one-requires
-    (λ c. search rules)
-    returns)
