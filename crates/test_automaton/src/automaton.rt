@@ -93,7 +93,7 @@ fn done(m: Machine, act: u8, x: u8) -> Machine {
     if act == NEXT {
         return Machine {
             state,
-            value: std::num::wrapping_add_u64(value % 100 * 10, digit),
+            value: (value % 100 * 10).wrapping_add(digit),
             list,
         };
     }

@@ -203,7 +203,7 @@ fn turned(x: u8, i: usize, n: usize) -> u8 {
     if n <= i {
         return x;
     }
-    std::num::wrapping_sub_u8(byte(std::num::wrapping_add_usize(n, 1)), x)
+    (byte(n.wrapping_add(1))).wrapping_sub(x)
 }
 
 // A small number as a byte.

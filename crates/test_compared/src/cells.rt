@@ -16,7 +16,7 @@ pub fn compared(scheme: &[u8], m: usize) -> u64 {
     let mut cells: u64 = 0;
     let mut i: usize = 0;
     while i < ENTRIES {
-        cells = std::num::wrapping_add_u64(cells, of_entry(entry(scheme, i), m));
+        cells = cells.wrapping_add(of_entry(entry(scheme, i), m));
         i += 1;
     }
     cells
@@ -27,7 +27,7 @@ fn of_entry(entry: &[u8], m: usize) -> u64 {
     if size(deleted(entry)) == 0 {
         return 0;
     }
-    let parts = std::num::wrapping_add_usize(size(prefix(entry)), 1);
+    let parts = (size(prefix(entry))).wrapping_add(1);
     of_deleting(entry, first(parts, m), m)
 }
 

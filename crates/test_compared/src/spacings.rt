@@ -22,7 +22,7 @@ pub fn next(g: [u8; ROW], m: usize) -> [u8; ROW] {
     let mut i: usize = 0;
     while i < n {
         i += 1;
-        let more = with_at(zeroed, i, std::num::wrapping_add_u8(number_at(g, i), 1));
+        let more = with_at(zeroed, i, number_at(g, i).wrapping_add(1));
         if total(more) < m {
             return more;
         }
@@ -48,7 +48,7 @@ fn total(g: [u8; ROW]) -> usize {
     let mut i: usize = 0;
     while i < n {
         i += 1;
-        sum = std::num::wrapping_add_usize(sum, number_at(g, i) as usize);
+        sum = sum.wrapping_add(number_at(g, i) as usize);
     }
     sum
 }

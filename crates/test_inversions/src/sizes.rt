@@ -11,7 +11,7 @@ pub fn figure_count(n: usize) -> usize {
     let mut total: usize = 1;
     let mut i: usize = 0;
     while i < n {
-        total = std::num::wrapping_add_usize(total, i);
+        total = total.wrapping_add(i);
         i += 1;
     }
     total

@@ -16,7 +16,7 @@ pub fn sum(results: [u64; RESULTS], figures: usize) -> u64 {
         if figures <= i {
             return total;
         }
-        total = std::num::wrapping_add_u64(total, results[i]);
+        total = total.wrapping_add(results[i]);
         i += 1;
     }
     total

@@ -70,7 +70,7 @@ fn subsets(n: usize) -> usize {
         if n <= i {
             return all;
         }
-        all = std::num::wrapping_add_usize(all, all);
+        all = all.wrapping_add(all);
         i += 1;
     }
     all

@@ -102,5 +102,5 @@ fn binomial(row: [usize; ROW], k: usize) -> usize {
 
 // a + b. No sum here comes near the largest number.
 fn sum(a: usize, b: usize) -> usize {
-    std::num::wrapping_add_usize(a, b)
+    a.wrapping_add(b)
 }

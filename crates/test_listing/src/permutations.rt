@@ -48,7 +48,7 @@ pub fn ordered(n: usize, number: usize) -> [u8; LONGEST] {
     let mut i: usize = 0;
     while i < n {
         let each = count(n - 1 - i);
-        let b = brought(a, i, std::num::wrapping_add_usize(i, rest / each));
+        let b = brought(a, i, i.wrapping_add(rest / each));
         a = b;
         rest %= each;
         i += 1;

@@ -48,8 +48,8 @@ pub fn damaged(text: &[u8], at: usize, way: usize) -> Text {
 // How long a text of n bytes is with the byte at the index `at` damaged.
 fn damaged_length(n: usize, at: usize, way: usize) -> usize {
     match way {
-        0 => std::num::wrapping_sub_usize(n, 1),
-        1 => std::num::wrapping_add_usize(n, 1),
+        0 => n.wrapping_sub(1),
+        1 => n.wrapping_add(1),
         2 => at,
         _ => n,
     }
@@ -62,7 +62,7 @@ fn damaged_byte(text: &[u8], at: usize, way: usize, i: usize) -> u8 {
         return byte_at(text, i);
     }
     if way == 0 {
-        return byte_at(text, std::num::wrapping_add_usize(i, 1));
+        return byte_at(text, i.wrapping_add(1));
     }
     if i == at {
         return damage(byte_at(text, i), way);

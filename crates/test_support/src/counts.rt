@@ -2,11 +2,7 @@
 
 // n + 1 where it is so, and n elsewhere. No count of a test comes near the largest number.
 pub fn one_more_if(so: bool, n: u64) -> u64 {
-    if so {
-        std::num::wrapping_add_u64(n, 1)
-    } else {
-        n
-    }
+    if so { n.wrapping_add(1) } else { n }
 }
 
 // A byte as a number.

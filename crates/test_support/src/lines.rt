@@ -1,12 +1,14 @@
 // The lines of standard input.
 ghost use Rattle.std.specs.Prelude.{◌+◌, ◌≤◌, min, length};
 
-use crate::parts::{before, suffix};
-use libc::STDIN_FILENO;
+use crate::parts::{before, find, suffix};
+
+// The descriptor of standard input.
+const STANDARD_INPUT: i32 = 0;
 
 // Reads standard input, as far as the buffer holds it; how many bytes there are.
 pub fn input(buffer: &mut [u8]) -> usize {
-    io::read_full(STDIN_FILENO, buffer)
+    io::read_full(STANDARD_INPUT, buffer)
 }
 
 // The line that starts at the index `at`, without its end.
@@ -21,6 +23,6 @@ pub fn line_after(text: &[u8], at: usize) -> usize
     if text.len() <= at {
         return at;
     }
-    let end = bytes::scan::find(text, at, text.len(), b'\n');
+    let end = find(text, at, b'\n');
     if end < text.len() { end + 1 } else { end }
 }

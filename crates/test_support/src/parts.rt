@@ -1,5 +1,22 @@
 // Parts of byte lists.
 
+ghost use Rattle.std.specs.Prelude.{◌≤◌, min, length};
+
+// The index of the first byte x from the index `from` on, and the number of bytes where there is
+// none.
+pub fn find(a: &[u8], from: usize, x: u8) -> usize
+    ensures { min from (length a.now) ≤ result }
+{
+    let mut i = from;
+    while i < a.len() {
+        if a[i] == x {
+            return i;
+        }
+        i += 1;
+    }
+    a.len()
+}
+
 // The first n bytes, or all of them where there are fewer.
 pub fn prefix(a: &[u8], n: usize) -> &[u8] {
     if n < a.len() { &a[..n] } else { a }
@@ -17,12 +34,12 @@ pub fn byte_at(a: &[u8], i: usize) -> u8 {
 
 // What stands before the first byte x, or all where there is none.
 pub fn before(a: &[u8], x: u8) -> &[u8] {
-    prefix(a, bytes::scan::find(a, 0, a.len(), x))
+    prefix(a, find(a, 0, x))
 }
 
 // What stands behind the first byte x, or nothing where there is none.
 pub fn behind(a: &[u8], x: u8) -> &[u8] {
-    let at = bytes::scan::find(a, 0, a.len(), x);
+    let at = find(a, 0, x);
     if at < a.len() {
         suffix(a, at + 1)
     } else {

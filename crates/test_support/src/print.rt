@@ -1,15 +1,17 @@
 // Writes words, numbers, refusals and line ends to standard output.
 use crate::counts::wide;
-use libc::STDOUT_FILENO;
+
+// The descriptor of standard output.
+const STANDARD_OUTPUT: i32 = 1;
 
 // Writes the bytes as they are.
 pub fn text(bytes: &[u8]) {
-    io::write_all(STDOUT_FILENO, bytes);
+    io::write_all(STANDARD_OUTPUT, bytes);
 }
 
 // Writes the number in decimal.
 pub fn number(n: u64) {
-    io::print_decimal(STDOUT_FILENO, n);
+    io::print_decimal(STANDARD_OUTPUT, n);
 }
 
 // Writes a space and then the number in decimal.

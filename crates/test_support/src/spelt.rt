@@ -20,9 +20,9 @@ pub fn entries(word: &[u8]) -> [u8; BEYOND] {
 // The entry that a byte spells.
 fn entry(x: u8) -> u8 {
     if x <= b'9' {
-        std::num::wrapping_sub_u8(x, b'0')
+        x.wrapping_sub(b'0')
     } else {
-        std::num::wrapping_sub_u8(x, 55)
+        x.wrapping_sub(55)
     }
 }
 
@@ -31,7 +31,7 @@ pub fn decimal(digits: &[u8]) -> u64 {
     let mut n: u64 = 0;
     let mut i: usize = 0;
     while i < digits.len() {
-        n = std::num::wrapping_add_u64(ten_times(n), wide(entry(digits[i])));
+        n = ten_times(n).wrapping_add(wide(entry(digits[i])));
         i += 1;
     }
     n
@@ -39,7 +39,7 @@ pub fn decimal(digits: &[u8]) -> u64 {
 
 // Ten times a number, as two times it and eight times it.
 fn ten_times(n: u64) -> u64 {
-    let two = std::num::wrapping_add_u64(n, n);
-    let four = std::num::wrapping_add_u64(two, two);
-    std::num::wrapping_add_u64(two, std::num::wrapping_add_u64(four, four))
+    let two = n.wrapping_add(n);
+    let four = two.wrapping_add(two);
+    two.wrapping_add(four.wrapping_add(four))
 }

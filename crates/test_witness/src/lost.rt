@@ -32,7 +32,7 @@ pub fn begins(entry: &[u8], w: [u8; ROW]) -> bool {
 // has a total of at most m - 1. The total is below m then, which no total is for m = 0.
 pub fn is_compared(entry: &[u8], m: usize, w: [u8; ROW]) -> bool {
     let k = size(prefix(entry));
-    let total = std::num::wrapping_sub_usize(size(w), k);
+    let total = size(w).wrapping_sub(k);
     if m <= total {
         return false;
     }
@@ -47,7 +47,7 @@ pub fn shorter(entry: &[u8], w: [u8; ROW]) -> [u8; ROW] {
 // The spacing of the first k entries, (c1 - 1, c2 - c1 - 1, .., n - ck): what lies between 0, the
 // first k entries sorted, and n + 1.
 pub fn spacing(k: usize, w: [u8; ROW]) -> [u8; ROW] {
-    let sorted = with(ascending(first(w, k)), std::num::wrapping_add_u8(w[0], 1));
+    let sorted = with(ascending(first(w, k)), w[0].wrapping_add(1));
     let n = size(sorted);
     let mut g = empty();
     let mut i: usize = 0;
@@ -64,10 +64,10 @@ pub fn spacing(k: usize, w: [u8; ROW]) -> [u8; ROW] {
 fn between(sorted: [u8; ROW], place: usize) -> u8 {
     let below = if_later(
         place,
-        number_at(sorted, std::num::wrapping_sub_usize(place, 1)),
+        number_at(sorted, place.wrapping_sub(1)),
     );
-    let next = std::num::wrapping_add_u8(below, 1);
-    std::num::wrapping_sub_u8(number_at(sorted, place), next)
+    let next = below.wrapping_add(1);
+    number_at(sorted, place).wrapping_sub(next)
 }
 
 // The number, or 0 for the first place.

@@ -25,7 +25,7 @@ pub fn pattern(set: &[u8], index: usize) -> [u8; ROW] {
 
 // The text of the entry with an index: what stands between its parentheses.
 pub fn entry(scheme: &[u8], index: usize) -> &[u8] {
-    let opened = std::num::wrapping_add_usize(index, 1);
+    let opened = index.wrapping_add(1);
     before(suffix(scheme, place_behind(scheme, b'(', opened)), b')')
 }
 
@@ -36,7 +36,7 @@ pub fn prefix(entry: &[u8]) -> [u8; ROW] {
 
 // The gap vector of an entry with an index, and an empty row behind the last.
 pub fn vector(entry: &[u8], index: usize) -> [u8; ROW] {
-    let opened = std::num::wrapping_add_usize(index, 1);
+    let opened = index.wrapping_add(1);
     digits(before(suffix(entry, place_behind(entry, OPEN, opened)), CLOSE))
 }
 
@@ -100,7 +100,7 @@ fn digits(text: &[u8]) -> [u8; ROW] {
 
 // The row and the number of a byte that is a digit.
 fn with_digit(row: [u8; ROW], x: u8) -> [u8; ROW] {
-    with_if(is_digit(x), row, std::num::wrapping_sub_u8(x, b'0'))
+    with_if(is_digit(x), row, x.wrapping_sub(b'0'))
 }
 
 // Whether a byte is a digit.

@@ -1,0 +1,9 @@
+-- The invariant and the measure of the loop of `test_support::parts::find`.
+use Rattle.std.proofs.Common.{length, ◌-◌, ◌≤◌}
+use Rattle.test_support.proofs.parts.find.Given as goal
+
+abbrev pub invariant-loop-i : goal.invariant-loop-i
+invariant-loop-i l = l.from ≤ l.i
+
+abbrev pub decreases-loop-i : goal.decreases-loop-i
+decreases-loop-i l = length l.a - l.i
