@@ -17,8 +17,8 @@ use Rattle.word.specs.PermLaws.{perm_bounds}
 use Rattle.word.specs.Patterns.{patterns_of}
 use Rattle.cell.specs.Cell.{total, cell, at_least, vectors}
 use Rattle.cell.specs.Built.{level, val}
-use Rattle.cell.specs.BuiltWords.{level_at_most}
-use Rattle.cell.specs.Theorems.{gap_law}
+use Rattle.cell.proofs.BuiltWords.{level_at_most}
+use Rattle.cell.proofs.Theorems.{gap_law}
 use Rattle.placing.specs.Lookup.{entry_of, flagged, Says}
 use Rattle.placing.specs.Tabled.{kept_values}
 use Rattle.placing.proofs.LookupLaws.{level_more, flag_none}

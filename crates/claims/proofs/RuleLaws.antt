@@ -16,7 +16,7 @@ use Rattle.word.specs.Word.{within, longest, is_perm}
 use Rattle.cell.specs.Cell.{total, compared_to}
 use Rattle.cell.specs.Candidate.{violated_first, lost_words, least_of, least_candidate}
 use Rattle.cell.specs.Claim.{DeletionClaim}
-use Rattle.cell.specs.BasisLaws.{longest_basis}
+use Rattle.cell.proofs.BasisLaws.{longest_basis}
 use Rattle.forms.specs.GapRows.{gaps_of}
 use Rattle.forms.specs.SetMemory.{pattern_at}
 use Rattle.candidate.specs.Ready.{Given, FoundAt, EntryAnswer}

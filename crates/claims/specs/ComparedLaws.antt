@@ -6,7 +6,7 @@ use Rattle.word.specs.Lists.{all, row}
 use Rattle.word.specs.ListLaws.{all_out, row_in}
 use Rattle.cell.specs.Cell.{compared_to}
 use Rattle.cell.specs.Binomial.{binomial}
-use Rattle.cell.specs.BinomialLaws.{compared_to_most}
+use Rattle.cell.proofs.BinomialLaws.{compared_to_most}
 use Rattle.claims.specs.EntryMemory.{COMPARED}
 
 -- C(m + k, k + 1) for the lengths of prefixes and patterns, by computation

@@ -8,8 +8,8 @@ use Rattle.word.specs.Word.{avoids, reduce, is_perm}
 use Rattle.word.specs.ListLaws.{true_not_false, same_test}
 use Rattle.cell.specs.Cell.{total, spacing, cell}
 use Rattle.cell.specs.Built.{val, lift, built}
-use Rattle.cell.specs.BuiltWords.{built_reduces, built_spacing}
-use Rattle.cell.specs.BuiltCells.{cell_are, cell_all, cell_out}
+use Rattle.cell.proofs.BuiltWords.{built_reduces, built_spacing}
+use Rattle.cell.proofs.BuiltCells.{cell_are, cell_all, cell_out}
 use Rattle.completion.specs.Completion.{completable}
 use Rattle.completion.specs.CompletionLaws.{completable_out, completable_in}
 use Rattle.verdict.specs.Verdict.{is_empty}
