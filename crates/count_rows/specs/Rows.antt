@@ -1,5 +1,5 @@
 -- What the functions of rows are given and leave, and what is read in a row. Definitions only.
-use Rattle.std.specs.Prelude.{ℕ, ◌+◌, ◌-◌, ◌≡◌, List, [], take}
+use Rattle.std.specs.Prelude.{ℕ, ◌+◌, ◌≡◌, List, [], take}
 use Rattle.forms.specs.SchemeMemory.{scheme_in}
 use Rattle.count_step.specs.Step.{held}
 use Rattle.count_plan.specs.Layout.{length_at, rows_of, cell_at, HasCell}
