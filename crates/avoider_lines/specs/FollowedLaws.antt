@@ -22,7 +22,7 @@ use Rattle.verdict.specs.Size.{VALUES}
 use Rattle.verdict.specs.ValueLaws.{factorial_fits}
 use Rattle.table_lines.specs.CallerLaws.{take_least}
 use Rattle.lexicographic.specs.Answers.{first_tests, next_tests, Lists, ListsFirst, ListsNext}
-use Rattle.lexicographic.specs.TestLaws.{next_clean, first_passed}
+use Rattle.lexicographic.proofs.TestLaws.{next_clean, first_passed}
 use Rattle.lexicographic.specs.declared.answer.Listed.{Listed}
 use Rattle.avoider_lines.specs.Followed.{is_given, unless_fault, listed_if, listed}
 

@@ -1,5 +1,2 @@
--- The definitions of the crate lexicographic, and then its laws.
+-- The definitions of the crate lexicographic.
 pub mod Answers
-pub mod AnswerLaws
-pub mod SetLaws
-pub mod TestLaws

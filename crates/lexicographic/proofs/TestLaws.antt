@@ -16,7 +16,7 @@ use Rattle.forms.specs.declared.memory.Fault.TheVariants.{Clean, At}
 use Rattle.scheme.specs.WellFormed.{pattern_tests}
 use Rattle.scheme.specs.FindingLaws.{clean_in, clean_left, clean_right, clean_append, clean_test}
 use Rattle.lexicographic.specs.Answers.{length_tests, word_tests, first_tests, next_tests, listed_or, Puts, ListsFirst, ListsNext}
-use Rattle.lexicographic.specs.AnswerLaws.{lists_refused, lists_put, lists_first, lists_next}
+use Rattle.lexicographic.proofs.AnswerLaws.{lists_refused, lists_put, lists_first, lists_next}
 use Rattle.lexicographic.specs.declared.answer.Listed.{Listed}
 
 -- the first tests find a fault

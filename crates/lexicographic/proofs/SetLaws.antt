@@ -8,14 +8,14 @@ use Rattle.word.specs.Listing.{first_avoider, next_avoider}
 use Rattle.word.specs.Finding.{clean, first_fault}
 use Rattle.word.specs.Patterns.{patterns_of}
 use Rattle.cell.specs.Basis.{basis}
-use Rattle.cell.specs.BasisLaws.{basis_avoids}
+use Rattle.cell.proofs.BasisLaws.{basis_avoids}
 use Rattle.forms.specs.SetMemory.{HasDigits, HasLengths}
 use Rattle.forms.specs.declared.memory.Patterns.{Patterns}
 use Rattle.scheme.specs.WellFormed.{pattern_tests}
 use Rattle.scheme.specs.ProperLaws.{proper_pattern}
 use Rattle.basis.specs.BasisSet.{IsBasis}
 use Rattle.basis.specs.BasisSetLaws.{basis_held}
-use Rattle.lexicographic.specs.AnswerLaws.{basis_first, basis_next}
+use Rattle.lexicographic.proofs.AnswerLaws.{basis_first, basis_next}
 
 module _ (P : List (List ℕ)) (formed : first_fault (pattern_tests P) ≡ clean) (s : Patterns) (b : IsBasis P s) (rows : List (List ℕ))
     (lengths : List ℕ) (hr : length rows ≡ PATTERNS) (hl : length lengths ≡ PATTERNS) (has : HasDigits s.items rows)

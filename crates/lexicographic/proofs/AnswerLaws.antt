@@ -15,7 +15,7 @@ use Rattle.word.specs.ListingLaws.{first_given, first_none_avoids, next_given, n
 use Rattle.word.specs.Finding.{Finding, clean, fault, first_fault}
 use Rattle.word.specs.declared.refusal.Refusal.{Refusal}
 use Rattle.cell.specs.Basis.{basis}
-use Rattle.cell.specs.BasisLaws.{basis_avoids}
+use Rattle.cell.proofs.BasisLaws.{basis_avoids}
 use Rattle.forms.specs.SchemeMemory.{fault_of, faulty}
 use Rattle.forms.specs.declared.memory.Fault.{Fault}
 use Rattle.forms.specs.declared.memory.Fault.TheVariants.{Clean, At}
