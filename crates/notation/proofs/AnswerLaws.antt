@@ -144,7 +144,8 @@ module _ {L R : Type 0} (Spells : List ℕ → L → Type 0) (tests : L → List
         same = λ (n : ℕ) (e : r ≡ Bytes n). same-list (w.passed n e);
       }
 
-  pub refused_page : (r : Written) (f : Fault) → f ≡ fault_of (first_fault (tests l)) → faulty f ≡ true → r ≡ written_or f 0 → Wrote before r
+  pub refused_page : (r : Written) (f : Fault) → f ≡ fault_of (first_fault (tests l)) → faulty f ≡ true → r ≡ written_or f 0 →
+      Wrote before r
   refused_page r f e h k = wrote before r (writes_refused (tests l) (written l) before r f e h k)
 
   module _ (h : first_fault (tests l) ≡ clean) where

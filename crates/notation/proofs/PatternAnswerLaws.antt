@@ -65,7 +65,8 @@ module _ (s : List ℕ) where
         misspelt_from (read_patterns (tokens s)) e k ∙ any.answer_text refused_patterns tested_patterns PATTERN_TEXT read_patterns s h
 
     tested_from : (o : Option (List (List ℕ))) → t ≡ pattern_text o → t.spelt ≡ true →
-        read_or (fault_of (first_fault (pattern_tests (patterns_in t.patterns)))) t.patterns ≡ answer_from refused_patterns tested_patterns o
+        read_or (fault_of (first_fault (pattern_tests (patterns_in t.patterns)))) t.patterns ≡
+        answer_from refused_patterns tested_patterns o
     tested_from none q k = absurd (true≢false (sym k ∙ ap (λ (x : PatternText). x.spelt) q))
     tested_from (some P) q k = rw (ap (λ (x : PatternText). x.patterns) q, loaded_faults P) refl
 

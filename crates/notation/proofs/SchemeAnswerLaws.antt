@@ -77,12 +77,14 @@ module _ (s : List ℕ) where
   answer_long h = any.answer_long refused_scheme tested_scheme SCHEME_TEXT read_entries s h
 
   module _ (h : length s ≤ SCHEME_TEXT) where
-    misspelt_from : (o : Option (List EntryList)) → none ≡ loaded_text o → refused_scheme Misspelt 0 ≡ answer_from refused_scheme tested_scheme o
+    misspelt_from : (o : Option (List EntryList)) → none ≡ loaded_text o →
+        refused_scheme Misspelt 0 ≡ answer_from refused_scheme tested_scheme o
     misspelt_from none q = refl
     misspelt_from (some E) q = absurd (true≢false (sym (ap is_some q)))
 
     pub answer_misspelt : none ≡ loaded_text (read_entries (tokens s)) → refused_scheme Misspelt 0 ≡ scheme_answer s
-    answer_misspelt e = misspelt_from (read_entries (tokens s)) e ∙ any.answer_text refused_scheme tested_scheme SCHEME_TEXT read_entries s h
+    answer_misspelt e = misspelt_from (read_entries (tokens s)) e ∙
+        any.answer_text refused_scheme tested_scheme SCHEME_TEXT read_entries s h
 
     tested_from : (m : Scheme) (o : Option (List EntryList)) → some m ≡ loaded_text o →
         read_scheme_or (fault_of (first_fault (scheme_tests (scheme_in m)))) m ≡ answer_from refused_scheme tested_scheme o
@@ -91,7 +93,8 @@ module _ (s : List ℕ) where
 
     pub answer_tested : (m : Scheme) → some m ≡ loaded_text (read_entries (tokens s)) →
         read_scheme_or (fault_of (first_fault (scheme_tests (scheme_in m)))) m ≡ scheme_answer s
-    answer_tested m e = tested_from m (read_entries (tokens s)) e ∙ any.answer_text refused_scheme tested_scheme SCHEME_TEXT read_entries s h
+    answer_tested m e = tested_from m (read_entries (tokens s)) e ∙
+        any.answer_text refused_scheme tested_scheme SCHEME_TEXT read_entries s h
 
 -- the finding and the list in an answer
 or_fault : (x : Finding) (m : Scheme) → (read_scheme_or (fault_of x) m).fault ≡ fault_of x

@@ -69,7 +69,8 @@ module _ (tests : List Finding) (xs before : List ℕ) where
       Writing tests xs before before r
   writes_refused r f e h k = go (first_fault tests) refl (sym (ap faulty e) ∙ h) (k ∙ ap (λ (x : Fault). written_or x 0) e)
     where
-      go : (x : Finding) → first_fault tests ≡ x → faulty (fault_of x) ≡ true → r ≡ written_or (fault_of x) 0 → Writing tests xs before before r
+      go : (x : Finding) → first_fault tests ≡ x → faulty (fault_of x) ≡ true → r ≡ written_or (fault_of x) 0 →
+          Writing tests xs before before r
       go clean p q w = absurd (true≢false (sym q))
       go (fault v i) p q w = rw w (refused_by v i (behind_fault tests (test ShortPage (ltb (length before) (length xs))) v i p))
 

@@ -222,7 +222,8 @@ module _ (s : List ℕ) (at a : ℕ) (passed : Passed s at a) where
       (marked (get_or s a 0) (drop (suc a) s) (passed.stopped h) e)
 
   -- a mark ends within the text
-  pub mark_inside : (k : Kind) → a < length s → is_digit (get_or s a 0) ≡ false → k ≡ mark_of (get_or s a 0) (drop a s) → a + width_of k ≤ length s
+  pub mark_inside : (k : Kind) → a < length s → is_digit (get_or s a 0) ≡ false → k ≡ mark_of (get_or s a 0) (drop a s) →
+      a + width_of k ≤ length s
   mark_inside k h e q = let long = (mark_at k h e q).long in omega (arith, length-drop (suc a) s)
 
   pub stepped_mark : (k : Kind) (n : ℕ) → a < length s → is_digit (get_or s a 0) ≡ false → k ≡

@@ -58,7 +58,8 @@ unfolding tokens_after
 after_full zero [] = refl
 after_full (suc k) [] = refl
 after_full (suc k) (x ∷ s) = after_full k s
-after_full zero (x ∷ s) = placed_full (eqb x 0x20) (token_at x s) (tokens_after (skip_at x s) s) (token_full x s) (after_full (skip_at x s) s)
+after_full zero (x ∷ s) =
+    placed_full (eqb x 0x20) (token_at x s) (tokens_after (skip_at x s) s) (token_full x s) (after_full (skip_at x s) s)
 
 tokens_full : (s : List ℕ) → all full_run (tokens s) ≡ true
 unfolding tokens
@@ -71,7 +72,8 @@ full_perm (d ∷ u) ts h = rw h refl
 run_perm : (t u : List ℕ) (ts : List Token) → tokens t ≡ digits u ∷ ts → read_perm (tokens t) ≡ got u ts
 run_perm t u ts e =
     ap read_perm e
-    ∙ full_perm u ts (and_left (full_run (digits u)) (all full_run ts) (subst (λ (l : List Token). all full_run l ≡ true) e (tokens_full t)))
+    ∙ full_perm u ts (and_left (full_run (digits u)) (all full_run ts)
+    (subst (λ (l : List Token). all full_run l ≡ true) e (tokens_full t)))
 
 other_perm : (k : Kind) (t : List ℕ) (ts : List Token) → is_digits k ≡ false → read_perm (tokens_by k t ts) ≡ found (is_epsilon k) [] ts
 other_perm End t ts h = refl

@@ -439,7 +439,8 @@ entry_joined p g m ts a b c d f q r e1 e2 e3 e4 e5 e6 e7 = cc
 entry_sound : (ts : List Token) → Sound entry_pieces writable_entry ts (read_entry ts)
 entry_sound ts =
     on_expect (Sound entry_pieces writable_entry ts) tt (byte 0x28) refl _ ts
-    (λ a e1. on_after (Sound entry_pieces writable_entry ts) tt (λ p. perm_piece p ∷ []) digit_run a (read_perm a) (perm_sound a) after_prefix
+    (λ a e1. on_after (Sound entry_pieces writable_entry ts) tt (λ p. perm_piece p ∷ []) digit_run a (read_perm a) (perm_sound a)
+    after_prefix
     (λ p b e2 w1. on_expect (Sound entry_pieces writable_entry ts) tt comma refl _ b
     (λ c e3. on_after (Sound entry_pieces writable_entry ts) tt (λ g. braced (map vector_pieces g)) (all writable_vector) c
     (in_braces read_vector c) (vectors_read.sound c) (after_gaps p)
@@ -472,13 +473,16 @@ module _ {A : Type 0} (read : List Token → Read A) (pieces : A → List Token)
       forth : ts ≡ pieces x → fine x ≡ true → whole (read ts) ≡ some x
       forth e p = ap (λ (l : List Token). whole (read l)) (e ∙ sym (append-nil (pieces x))) ∙ ap whole (w.finds x [] p)
 
-pub patterns_read : (ts : List Token) (P : List (List ℕ)) → (read_patterns ts ≡ some P) ↔ ((ts ≡ pattern_pieces P) × (all digit_run P ≡ true))
+pub patterns_read : (ts : List Token) (P : List (List ℕ)) →
+    (read_patterns ts ≡ some P) ↔ ((ts ≡ pattern_pieces P) × (all digit_run P ≡ true))
 unfolding read_patterns
 patterns_read ts P =
-    whole_read (in_braces read_perm) pattern_pieces (all digit_run) (braces_read read_perm (λ p. perm_piece p ∷ []) digit_run perm_read) ts P
+    whole_read (in_braces read_perm) pattern_pieces (all digit_run) (braces_read read_perm (λ p. perm_piece p ∷ []) digit_run perm_read)
+    ts P
 
 pub entries_read : (ts : List Token) (E : List EntryList) →
     (read_entries ts ≡ some E) ↔ ((ts ≡ scheme_pieces E) × (all writable_entry E ≡ true))
 unfolding read_entries
 entries_read ts E =
-    whole_read (in_braces read_entry) scheme_pieces (all writable_entry) (braces_read read_entry entry_pieces writable_entry entry_read) ts E
+    whole_read (in_braces read_entry) scheme_pieces (all writable_entry) (braces_read read_entry entry_pieces writable_entry entry_read)
+    ts E

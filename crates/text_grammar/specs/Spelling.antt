@@ -1,6 +1,7 @@
 -- The notation of document 01: the marks as bytes, the pieces of a pattern set and of a scheme, and
 -- which texts spell them. Definitions only.
-use Rattle.std.specs.Prelude.{ℕ, ◌+◌, ◌/◌, ◌%◌, ◌≡◌, Bool, true, not, cond, ◌&&◌, List, [], ◌∷◌, ◌++◌, map, length, replicate, leb, ltb, eqb}
+use Rattle.std.specs.Prelude.{ℕ, ◌+◌, ◌/◌, ◌%◌, ◌≡◌, Bool, true, not, cond, ◌&&◌, List, [], ◌∷◌, ◌++◌, map}
+use Rattle.std.specs.Prelude.{length, replicate, leb, ltb, eqb}
 use Rattle.word.specs.Lists.{all, keep, each}
 use Rattle.forms.specs.SchemeList.{Does, expands, deletes, EntryList}
 

@@ -1,5 +1,6 @@
 -- Reading a text is sound and complete for spelling, and writing and reading undo each other.
-use Rattle.std.specs.Prelude.{ℕ, zero, suc, ◌+◌, ◌/◌, ◌%◌, ◌≤◌, ◌<◌, ◌≡◌, refl, ◌⊎◌, Bool, true, false, not, cond, ◌&&◌, List, [], ◌∷◌, ◌++◌, map, length, replicate, leb, eqb}
+use Rattle.std.specs.Prelude.{ℕ, zero, suc, ◌+◌, ◌/◌, ◌%◌, ◌≤◌, ◌<◌, ◌≡◌, refl, ◌⊎◌, Bool, true, false, not, cond, ◌&&◌, List, []}
+use Rattle.std.specs.Prelude.{◌∷◌, ◌++◌, map, length, replicate, leb, eqb}
 use Rattle.std.proofs.Common.{arith, sym, ap, ◌∙◌, ap₂, subst, inl, inr, leb-true, le-leb, ne_eqb}
 use Rattle.std.proofs.Math.Option.{some}
 use Rattle.word.specs.Lists.{all, each}
@@ -39,7 +40,8 @@ clear_mark : (t : Token) (ts : List Token) → is_run t ≡ false → proper t �
 clear_mark t ts n h c = record { fit = and_in (proper t) (all proper ts) h c.fit; kept = rw n c.kept }
 
 -- a mark between
-clear_join : (l : List Token) (t : Token) (ts : List Token) → is_run t ≡ false → proper t ≡ true → Clear l → Clear ts → Clear (l ++ (t ∷ ts))
+clear_join : (l : List Token) (t : Token) (ts : List Token) → is_run t ≡ false → proper t ≡ true → Clear l → Clear ts →
+    Clear (l ++ (t ∷ ts))
 clear_join [] t ts n h c d = clear_mark t ts n h d
 clear_join (u ∷ []) t ts n h c d =
     let k : Clear (t ∷ ts) = clear_mark t ts n h d in

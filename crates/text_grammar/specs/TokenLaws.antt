@@ -1,7 +1,9 @@
 -- Every text is its tokens with spaces between, and proper tokens with no two runs as neighbours
 -- are found again.
-use Rattle.std.specs.Prelude.{ℕ, zero, suc, ◌+◌, ◌-◌, ◌≤◌, ◌<◌, ◌≡◌, refl, Bool, true, false, not, cond, ◌&&◌, List, [], ◌∷◌, ◌++◌, map, length, replicate, drop, get_or, leb, eqb}
-use Rattle.std.proofs.Common.{arith, sym, ap, ◌∙◌, ap₂, subst, drop_of_length-le, drop_at, drop-cons, drop-drop, leb-true, eqb-true, le-leb, ne_eqb}
+use Rattle.std.specs.Prelude.{ℕ, zero, suc, ◌+◌, ◌-◌, ◌≤◌, ◌<◌, ◌≡◌, refl, Bool, true, false, not, cond, ◌&&◌, List, [], ◌∷◌, ◌++◌}
+use Rattle.std.specs.Prelude.{map, length, replicate, drop, get_or, leb, eqb}
+use Rattle.std.proofs.Common.{arith, sym, ap, ◌∙◌, ap₂, subst, drop_of_length-le, drop_at, drop-cons, drop-drop}
+use Rattle.std.proofs.Common.{leb-true, eqb-true, le-leb, ne_eqb}
 use Rattle.std.proofs.lemmas.Bool.{false≢true, eqb-false, not-true}
 use Rattle.std.proofs.lemmas.List.{length-map}
 use Rattle.word.specs.Lists.{all}

@@ -416,7 +416,8 @@ entry_loaded : (p : List ℕ) (g : List (List ℕ)) (m : Does) (x : Prefix) (y :
     → entry_of (entry_with p g m) ≡ entry_made x y z
 unfolding loaded_gaps
 entry_loaded p g m x y z e f h =
-    ap (λ (q : Prefix). entry_made q (loaded_gaps g) (rule_of m)) e ∙ ap (λ (q : Gaps). entry_made x q (rule_of m)) f ∙ ap (entry_made x y) h
+    ap (λ (q : Prefix). entry_made q (loaded_gaps g) (rule_of m)) e ∙ ap (λ (q : Gaps). entry_made x q (rule_of m)) f ∙
+    ap (entry_made x y) h
 
 entry_gives : (ts ts1 ts2 ts3 : List Token) (a b c : Bool) (x : Prefix) (y : Gaps) (z : Rule)
     → kept prefix_of (read_head ts) ≡ found a x ts1 → kept loaded_gaps (read_middle ts1) ≡ found b y ts2 →

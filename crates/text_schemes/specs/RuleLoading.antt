@@ -1,6 +1,7 @@
 -- Numbers that memory keeps as bytes, up to a number of places; and the rule of an entry in memory,
 -- which is refused where the rule is, and is the rule itself where it is not.
-use Rattle.std.specs.Prelude.{ℕ, ◌≤◌, ◌<◌, ◌≡◌, refl, ◌⊎◌, Bool, true, false, ◌||◌, List, [], ◌∷◌, ◌++◌, map, length, get_or, take, replicate, leb, eqb}
+use Rattle.std.specs.Prelude.{ℕ, ◌≤◌, ◌<◌, ◌≡◌, refl, ◌⊎◌, Bool, true, false, ◌||◌, List, [], ◌∷◌, ◌++◌, map}
+use Rattle.std.specs.Prelude.{length, get_or, take, replicate, leb, eqb}
 use Rattle.std.proofs.Common.{arith, sym, ap, ap₂, ◌∙◌, inl, inr, lt-ltb}
 use Rattle.std.proofs.lemmas.List.{length-map}
 use Rattle.word.specs.Ceilings.{PREFIX, COMPONENTS}

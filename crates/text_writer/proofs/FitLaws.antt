@@ -53,7 +53,8 @@ patterns_fit s e =
       few = omega (arith, few, length_items (place_in s) s.count);
       fit = λ (i : ℕ) (k : i < s.count).
           let p = get_or s.items i no_pattern in
-          let m : Memᴰ (pattern_in p) (patterns_in s) = mathlib.Core.List.Memᴰ.map (place_in s) (row_in 0 s.count i (omega arith) (omega arith)) in
+          let m : Memᴰ (pattern_in p) (patterns_in s) =
+          mathlib.Core.List.Memᴰ.map (place_in s) (row_in 0 s.count i (omega arith) (omega arith)) in
           let small = proper_pattern (patterns_in s) e (pattern_in p) m in
           let size : p.length ≤ DIGITS = (let a = small.short in omega (arith, a, length_padded p.length p.digits)) in
           record { short = size; small = perm_places p.length p.digits small.perm (omega arith) };

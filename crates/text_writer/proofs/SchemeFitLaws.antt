@@ -59,7 +59,8 @@ entry_fits e h =
       few = omega (arith, c, length_items (gap_at e) e.gap_count);
       fit = λ (i : ℕ) (k : i < e.gap_count).
           let b = entry_gap e i in
-          let m : Memᴰ (gap_in b) (entry_in e).gaps = mathlib.Core.List.Memᴰ.map (gap_at e) (row_in 0 e.gap_count i (omega arith) (omega arith)) in
+          let m : Memᴰ (gap_in b) (entry_in e).gaps =
+          mathlib.Core.List.Memᴰ.map (gap_at e) (row_in 0 e.gap_count i (omega arith) (omega arith)) in
           let w = h.wide (gap_in b) m in
           let n : b.width ≡ suc e.length = omega (arith, w, size, length_padded b.width b.parts) in
           record { some = omega arith; narrow = omega arith };

@@ -1,6 +1,7 @@
 -- Laws of the texts that the writer's parts write: items with commas between them, items in braces,
 -- the first numbers of an array.
-use Rattle.std.specs.Prelude.{ℕ, zero, suc, ◌+◌, ◌-◌, ◌/◌, ◌%◌, ◌≤◌, ◌<◌, ◌≡◌, refl, List, [], ◌∷◌, ◌++◌, map, ◌⊎◌, length, get_or, take, drop, replicate}
+use Rattle.std.specs.Prelude.{ℕ, zero, suc, ◌+◌, ◌-◌, ◌/◌, ◌%◌, ◌≤◌, ◌<◌, ◌≡◌, refl, List, [], ◌∷◌, ◌++◌, map}
+use Rattle.std.specs.Prelude.{◌⊎◌, length, get_or, take, drop, replicate}
 use Rattle.std.proofs.Common.{add-one, arith, sym, ap, ◌∙◌, append_assoc, append-nil, inl, inr, drop-cons}
 use Rattle.std.proofs.lemmas.Simd.{map-map}
 use Rattle.std.proofs.lemmas.List.{take-append-le}
@@ -45,7 +46,8 @@ shown_start n l h =
     let e : n - 0 ≡ n = omega arith in
     rw (e, padded_row n l h) (map-map (λ (d : ℕ). 48 + d) (λ (k : ℕ). get_or l k 0) (row 0 n))
 
-pub shown_step : (l : List ℕ) (i n : ℕ) → i < n → shown l (row i (n - i)) ≡ ((48 + get_or l i 0) ∷ []) ++ shown l (row (i + 1) (n - (i + 1)))
+pub shown_step : (l : List ℕ) (i n : ℕ) → i < n →
+    shown l (row i (n - i)) ≡ ((48 + get_or l i 0) ∷ []) ++ shown l (row (i + 1) (n - (i + 1)))
 shown_step l i n h = rw (add-one i) (ap (shown l) (row_next n i h))
 
 pub shown_end : (l : List ℕ) (i n : ℕ) → n ≤ i → shown l (row i (n - i)) ≡ []
@@ -110,7 +112,8 @@ text_separated f i (suc n) =
 
 -- the same, between an opening and a closing part
 pub text_between : (f : ℕ → List Token) (before after : Token) (n : ℕ) → 0 < n →
-    text (before ∷ (separated (map f (row 0 n)) ++ (after ∷ []))) ≡ bytes_of before ++ (text (f 0) ++ (further f 1 (n - 1) ++ bytes_of after))
+    text (before ∷ (separated (map f (row 0 n)) ++ (after ∷ []))) ≡
+    bytes_of before ++ (text (f 0) ++ (further f 1 (n - 1) ++ bytes_of after))
 text_between f before after zero h = absurd (omega arith)
 text_between f before after (suc n) h =
     let e : suc n - 1 ≡ n = omega arith in

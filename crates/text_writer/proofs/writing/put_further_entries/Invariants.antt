@@ -6,7 +6,8 @@ use Rattle.text_writer.proofs.writing.put_further_entries.Given as goal
 
 abbrev pub invariant-loop-i : goal.invariant-loop-i
 invariant-loop-i l =
-    ToCome (further (entry_at l.entries) 1 l.last_entry) l.at l.initial.page (further (entry_at l.entries) l.i (l.last_entry + 1 - l.i)) l.next
+    ToCome (further (entry_at l.entries) 1 l.last_entry) l.at l.initial.page (further (entry_at l.entries) l.i (l.last_entry + 1 - l.i))
+    l.next
     l.page
 
 abbrev pub decreases-loop-i : goal.decreases-loop-i

@@ -5,7 +5,8 @@ use Rattle.text_writer.specs.Writable.{further, number}
 use Rattle.text_writer.proofs.writing.put_further_parts.Given as goal
 
 abbrev pub invariant-loop-k : goal.invariant-loop-k
-invariant-loop-k l = ToCome (further (number l.parts) 1 l.last_part) l.at l.initial.page (further (number l.parts) l.k (l.last_part + 1 - l.k)) l.next l.page
+invariant-loop-k l = ToCome (further (number l.parts) 1 l.last_part) l.at l.initial.page
+    (further (number l.parts) l.k (l.last_part + 1 - l.k)) l.next l.page
 
 abbrev pub decreases-loop-k : goal.decreases-loop-k
 decreases-loop-k l = l.last_part + 1 - l.k

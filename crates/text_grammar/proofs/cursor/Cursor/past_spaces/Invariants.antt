@@ -6,7 +6,8 @@ use Rattle.text_grammar.specs.Tokens.{tokens}
 use Rattle.text_grammar.proofs.cursor.Cursor.past_spaces.Given as goal
 
 abbrev pub invariant-loop-at : goal.invariant-loop-at
-invariant-loop-at l = (tokens (drop l.initial.at l.s) ≡ tokens (drop l.at l.s)) × (l.initial.at ≤ l.at) × (l.initial.at ≤ length l.s → l.at ≤ length l.s)
+invariant-loop-at l = (tokens (drop l.initial.at l.s) ≡ tokens (drop l.at l.s)) × (l.initial.at ≤ l.at) ×
+    (l.initial.at ≤ length l.s → l.at ≤ length l.s)
 
 abbrev pub decreases-loop-at : goal.decreases-loop-at
 decreases-loop-at l = length l.s - l.at
