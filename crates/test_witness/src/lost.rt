@@ -62,10 +62,7 @@ pub fn spacing(k: usize, w: [u8; ROW]) -> [u8; ROW] {
 // How many numbers lie between the one at a place of an ascending row and the one before it, which
 // is 0 for the first place.
 fn between(sorted: [u8; ROW], place: usize) -> u8 {
-    let below = if_later(
-        place,
-        number_at(sorted, place.wrapping_sub(1)),
-    );
+    let below = if_later(place, number_at(sorted, place.wrapping_sub(1)));
     let next = below.wrapping_add(1);
     number_at(sorted, place).wrapping_sub(next)
 }

@@ -82,7 +82,7 @@ fn behind_next(text: &[u8], at: usize, x: u8) -> usize {
     if text.len() <= at {
         return text.len();
     }
-    let found = bytes::scan::find(text, at, text.len(), x);
+    let found = find(text, at, x);
     if found < text.len() { found + 1 } else { found }
 }
 
