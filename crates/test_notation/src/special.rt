@@ -76,7 +76,7 @@ fn long_patterns() {
 fn long_schemes() {
     let spaces = [b' '; BEYOND_SCHEME];
     let mut padded = spaces;
-    bytes::copy(&SHORT, &mut padded);
+    padded[..SHORT.len()].copy_from_slice(&SHORT);
     of_scheme(b"scheme-in-32768-bytes", prefix(&padded, SCHEME_TEXT));
     of_scheme(b"scheme-in-32769-bytes", &padded);
     of_scheme(b"scheme-32768-spaces", prefix(&spaces, SCHEME_TEXT));

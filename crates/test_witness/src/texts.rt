@@ -2,7 +2,7 @@
 // the ceilings of document 01 a component is at most 8 and a position at most 6, so that each
 // number of an entry is one digit.
 use crate::rows::{ROW, empty, with_if};
-use test_support::parts::{before, suffix};
+use test_support::parts::{before, find, suffix};
 
 // the most patterns of a set
 pub const PATTERNS: usize = 24;
