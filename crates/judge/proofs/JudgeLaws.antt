@@ -14,7 +14,7 @@ use Rattle.word.specs.declared.refusal.Refusal.TheVariants.{LiveGap, Irreversibl
 use Rattle.word.specs.Patterns.{patterns_of}
 use Rattle.cell.specs.Cell.{m_of}
 use Rattle.cell.specs.Basis.{basis}
-use Rattle.cell.specs.BasisLaws.{basis_in}
+use Rattle.cell.proofs.BasisLaws.{basis_in}
 use Rattle.basis.specs.BasisSet.{IsBasis}
 use Rattle.forms.specs.SchemeList.{EntryList}
 use Rattle.scheme.specs.WellFormed.{first_at, pattern_tests, scheme_tests}

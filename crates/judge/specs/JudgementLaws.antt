@@ -11,7 +11,7 @@ use Rattle.word.specs.Finding.{first_fault}
 use Rattle.word.specs.declared.refusal.Refusal.TheVariants.{LiveGap, Irreversible}
 use Rattle.cell.specs.Basis.{basis}
 use Rattle.cell.specs.Cell.{deleted, merged, compared_to}
-use Rattle.cell.specs.BasisLaws.{basis_cell}
+use Rattle.cell.proofs.BasisLaws.{basis_cell}
 use Rattle.forms.specs.SchemeList.{Does, expands, deletes, EntryList}
 use Rattle.scheme.specs.WellFormed.{first_at, pattern_tests, scheme_tests}
 use Rattle.forms.specs.SchemeMemory.{scheme_in, fault_of, or_else, faulty, told_or}

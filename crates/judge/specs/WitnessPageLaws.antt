@@ -1,6 +1,6 @@
 -- Laws of judging with a page: no finding but that of test 11 writes on it, and what test 11 writes
 -- is a witness for the refused entry.
-use Rattle.std.specs.Prelude.{ℕ, suc, ◌+◌, ◌-◌, ◌≤◌, ◌<◌, ◌≡◌, Bool, false, cond, ◌⊎◌, take, drop}
+use Rattle.std.specs.Prelude.{ℕ, suc, ◌+◌, ◌≤◌, ◌<◌, ◌≡◌, Bool, false, cond, ◌⊎◌, take, drop}
 use native.Mathlib.Omega.{arith}
 use Rattle.std.proofs.Math.Path.{refl, sym, ap}
 use Rattle.std.proofs.Common.{ap₂, ◌∙◌, inl, inr, length-append, lt-ltb, le-ltb, ne_eqb}
@@ -16,11 +16,11 @@ use Rattle.word.specs.ListLaws.{true_not_false, below_or_not}
 use Rattle.word.specs.Refusal.{number_of}
 use Rattle.word.specs.Finding.{Finding, clean, fault, test, first_fault}
 use Rattle.word.specs.Earliest.{earliest, positions_of}
-use Rattle.word.specs.EarliestLaws.{positions_short}
+use Rattle.word.proofs.EarliestLaws.{positions_short}
 use Rattle.word.specs.declared.refusal.Refusal.{Refusal}
 use Rattle.word.specs.declared.refusal.Refusal.TheVariants.{LiveGap, Irreversible, ShortPage}
 use Rattle.cell.specs.Cell.{m_of, compared}
-use Rattle.cell.specs.BasisLaws.{longest_at_most, m_at_most}
+use Rattle.cell.proofs.BasisLaws.{longest_at_most, m_at_most}
 use Rattle.forms.specs.SchemeList.{Does, expands, deletes, EntryList}
 use Rattle.forms.specs.SchemeMemory.{fault_of, or_else}
 use Rattle.forms.specs.ToldLaws.{told_found}
