@@ -1,7 +1,8 @@
 -- Laws of appending: the unused values are those that can follow, one after the other they are
 -- exchanged to the next place, and what the ways of the search to its end show.
 use Rattle.std.specs.Prelude.{ℕ, suc, ◌+◌, ◌≤◌, ◌<◌, ◌≡◌, refl, Bool, true, false, not, ◌||◌, ◌⊎◌, length, get_or, take, drop, set}
-use Rattle.std.proofs.Common.{sym, ap, ◌∙◌, inl, inr, add-one, arith, take-append-drop, take-take, take-suc, length-take-le, drop-set-lt, drop-drop, drop-cons}
+use Rattle.std.proofs.Common.{sym, ap, ◌∙◌, inl, inr, add-one, arith, take-append-drop, take-take}
+use Rattle.std.proofs.Common.{take-suc, length-take-le, drop-set-lt, drop-drop, drop-cons}
 use Rattle.std.proofs.Math.Bool.{and-false}
 use mathlib.Core.List.{List, [], ◌∷◌, ◌++◌, append-nil, append_assoc, Memᴰ}
 use Rattle.std.proofs.lemmas.Bool.{not-true}

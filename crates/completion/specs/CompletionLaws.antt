@@ -149,7 +149,8 @@ pub completable_next : (P : List (List ℕ)) (n : ℕ) (u : List ℕ) → length
 unfolding goes_on
 completable_next P n u h = same_test (completable P n u) (any (goes_on P n u) (one_to n)) there back
   where
-    by_rest : (r : List ℕ) → is_perm (u ++ r) ≡ true → length (u ++ r) ≡ n → avoids P (u ++ r) ≡ true → any (goes_on P n u) (one_to n) ≡ true
+    by_rest : (r : List ℕ) → is_perm (u ++ r) ≡ true → length (u ++ r) ≡ n → avoids P (u ++ r) ≡ true →
+        any (goes_on P n u) (one_to n) ≡ true
     by_rest [] p l a = absurd (omega (arith, length-append u []))
     by_rest (v ∷ r) p l a =
         let (low, high) = perm_bounds (u ++ (v ∷ r)) p (Memᴰ.append_right u (Memᴰ.head refl)) in

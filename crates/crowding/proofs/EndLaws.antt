@@ -55,7 +55,8 @@ pub ends_more : (up : Bool) (n k : ℕ) (w : List ℕ) (i : ℕ) (s t : List ℕ
     Holds k (next_ends up (get_or w i 0) (λ l. get_or s l 0)) t → Holds k (ends up n (take (i + 1) w)) t
 ends_more up n k w i s t h e f l j =
     rw (add-one i, take-suc w i 0 h)
-    (f l j ∙ next_same up (get_or w i 0) k (λ l. get_or s l 0) (ends up n (take i w)) e l j ∙ sym (ends_snoc up n (take i w) (get_or w i 0) l))
+    (f l j ∙ next_same up (get_or w i 0) k (λ l. get_or s l 0) (ends up n (take i w)) e l j ∙
+    sym (ends_snoc up n (take i w) (get_or w i 0) l))
 
 -- the first ends stay, and the next one is told by `next_end`
 pub next_first : (up : Bool) (x : ℕ) (s : List ℕ) → Holds 1 (next_ends up x (λ l. get_or s l 0)) s
@@ -78,7 +79,8 @@ module _ (up : Bool) (x : ℕ) (w : List ℕ) (i n : ℕ) (h : i < n) (k : n ≤
       let here : i < length (take n w) = omega (arith, length-take-le n w k) in
       rw (add-one i) (drop-cons (take n w) i 0 here ∙ ap (λ (y : ℕ). y ∷ drop (suc i) (take n w)) (get_or-take n w i 0 h))
 
-  pub following_one : precedes up x (get_or w i 0) ≡ true → following up x (drop i (take n w)) ≡ 1 + following up x (drop (i + 1) (take n w))
+  pub following_one : precedes up x (get_or w i 0) ≡ true →
+      following up x (drop i (take n w)) ≡ 1 + following up x (drop (i + 1) (take n w))
   unfolding following
   following_one e = rw (rest_cons, e) (omega arith)
 

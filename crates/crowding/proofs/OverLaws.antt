@@ -70,7 +70,8 @@ pub over_crowded : (rises falls n unused : ℕ) (u rest highs lows : List ℕ) �
     over_some unused highs rises lows falls ≡ crowded rises falls n u rest
 unfolding crowded crowded_at
 over_crowded rises falls n unused u rest highs lows q e f =
-    any_row (λ l. over_row (rises - 1 - l) (get_or highs l 0) unused lows falls) (λ l. any (crowded_at rises falls n u rest l) (row 0 falls))
+    any_row (λ l. over_row (rises - 1 - l) (get_or highs l 0) unused lows falls)
+    (λ l. any (crowded_at rises falls n u rest l) (row 0 falls))
     rises
     (λ (l : ℕ) (h : l < rises). any_row (over_at (rises - 1 - l) (get_or highs l 0) unused lows falls) (crowded_at rises falls n u rest l)
     falls (λ (m : ℕ) (k : m < falls). here l m (get_or highs l 0) (get_or lows m 0) (e l h) (f m k)))

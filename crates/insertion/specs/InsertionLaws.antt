@@ -1,6 +1,7 @@
 -- Laws of putting values in: a word that is part of a larger one stays a part of it with one more
 -- value at some place, so all places together leave nothing out.
-use Rattle.std.specs.Prelude.{ℕ, zero, suc, ◌+◌, ◌-◌, ◌≤◌, ◌<◌, ◌≡◌, refl, Bool, true, false, ◌||◌, cond, ◌⊎◌, length, get_or, take, drop, eqb}
+use Rattle.std.specs.Prelude.{ℕ, zero, suc, ◌+◌, ◌-◌, ◌≤◌, ◌<◌, ◌≡◌, refl, Bool, true, false, ◌||◌}
+use Rattle.std.specs.Prelude.{cond, ◌⊎◌, length, get_or, take, drop, eqb}
 use Rattle.std.proofs.Common.{sym, ap, ◌∙◌, subst, inl, inr, add-one, arith, take-append-drop, take-suc, take-take, take_at, length-take-le}
 use Rattle.std.proofs.Math.Bool.{or-true}
 use mathlib.Core.List.{List, [], ◌∷◌, ◌++◌, append-nil, Memᴰ}
@@ -31,7 +32,8 @@ fits_somewhere v (Sublistᴰ.cons d) (mathlib.Core.List.Memᴰ.tail m) f =
     let (p, h, t) = fits_somewhere v d m f in (p, h, Sublistᴰ.cons t)
 fits_somewhere v (Sublistᴰ.cons-cons q d) (mathlib.Core.List.Memᴰ.head e) f = absurd (f (mathlib.Core.List.Memᴰ.head (e ∙ sym q)))
 fits_somewhere v (Sublistᴰ.cons-cons {l₁ = x} q d) (mathlib.Core.List.Memᴰ.tail m) f =
-    let (p, h, t) = fits_somewhere v d m (λ (k : Memᴰ v x). f (mathlib.Core.List.Memᴰ.tail k)) in (suc p, omega arith, Sublistᴰ.cons-cons q t)
+    let (p, h, t) = fits_somewhere v d m (λ (k : Memᴰ v x). f (mathlib.Core.List.Memᴰ.tail k)) in
+    (suc p, omega arith, Sublistᴰ.cons-cons q t)
 
 -- a sublist without the first entry
 behind_first : {a b : ℕ} {x w : List ℕ} → Sublistᴰ (a ∷ x) (b ∷ w) → Sublistᴰ x w
@@ -137,7 +139,8 @@ module _ (P : List (List ℕ)) (n fixed : ℕ) (word : List ℕ) (len : ℕ) (h 
       one_before =
           let e : place ≡ suc (place - 1) = omega (arith, t.low) in
           subst (λ (m : ℕ). take (len + 1) (exchange (place - 1) m w) ≡ put_in (place - 1) (get_or word len 0) (take len word)) (sym e)
-          (put_exchange len (place - 1) (get_or word len 0) (take len word) w (length-take-le len word (omega arith)) (omega (arith, t.high))
+          (put_exchange len (place - 1) (get_or word len 0) (take len word) w (length-take-le len word (omega arith))
+          (omega (arith, t.high))
           (t.here ∙ ap (λ (m : ℕ). put_in m (get_or word len 0) (take len word)) e))
 
   pub turns_end : (place : ℕ) (w : List ℕ) → place ≡ fixed → Turns P n fixed word len place w → is_perm (take n word) ≡ true →

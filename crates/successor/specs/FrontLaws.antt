@@ -1,7 +1,8 @@
 -- Laws of the fronts of words in memory: what one place more makes of the first avoider with a
 -- front, and one place less of the next after a word.
 use Rattle.std.specs.Prelude.{ℕ, zero, suc, ◌+◌, ◌≤◌, ◌<◌, ◌≡◌, true, List, [], ◌∷◌, ◌++◌, length, get_or, take, drop}
-use Rattle.std.proofs.Common.{sym, ◌∙◌, arith, add-one, length-append, take-append-drop, take-take, take-suc, length-take-le, get_or-take, drop-cons}
+use Rattle.std.proofs.Common.{sym, ◌∙◌, arith, add-one, length-append, take-append-drop, take-take}
+use Rattle.std.proofs.Common.{take-suc, length-take-le, get_or-take, drop-cons}
 use Rattle.std.proofs.Math.Path.{ap}
 use Rattle.std.proofs.Math.Option.{none, some}
 use Rattle.word.specs.Lists.{first}

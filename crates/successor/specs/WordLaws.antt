@@ -1,7 +1,8 @@
 -- Laws of words in memory: the entries from 1 to n in a row, unused values, and what one entry more
 -- makes of a front.
 use Rattle.std.specs.Prelude.{ℕ, zero, suc, ◌+◌, ◌≤◌, ◌<◌, ◌≡◌, refl, Bool, true, false, ◌||◌, ◌⊎◌, length, get_or, take, drop, eqb}
-use Rattle.std.proofs.Common.{sym, ap, ◌∙◌, inl, inr, arith, take-append-drop, take-take, length-take-le, get_or-take, drop-cons, add-one, eqb-true}
+use Rattle.std.proofs.Common.{sym, ap, ◌∙◌, inl, inr, arith, take-append-drop, take-take}
+use Rattle.std.proofs.Common.{length-take-le, get_or-take, drop-cons, add-one, eqb-true}
 use mathlib.Core.List.{List, [], ◌∷◌, ◌++◌, Memᴰ}
 use Rattle.std.proofs.Math.Option.{none, some}
 use Rattle.std.proofs.Math.Seq.{drop-length}

@@ -9,7 +9,8 @@ use Rattle.appending.proofs.pairs_allowed.Given as goal
 abbrev pub invariant-loop-at : goal.invariant-loop-at
 invariant-loop-at l =
     (all_pairs (patterns_of l.set l.lengths l.count) (take l.len l.word) (drop l.len (take l.n l.word)) ≡
-    pairs_behind (patterns_of l.set l.lengths l.count) (take l.len l.word) (drop l.len (take l.at l.word)) (drop l.at (take l.n l.word))) × (l.len ≤ l.at) × (l.at ≤ l.n)
+    pairs_behind (patterns_of l.set l.lengths l.count) (take l.len l.word) (drop l.len (take l.at l.word))
+    (drop l.at (take l.n l.word))) × (l.len ≤ l.at) × (l.at ≤ l.n)
 
 abbrev pub decreases-loop-at : goal.decreases-loop-at
 decreases-loop-at l = l.n - l.at

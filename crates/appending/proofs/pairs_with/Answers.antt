@@ -34,7 +34,8 @@ pub returns-then-contained : goal.returns-then-contained
 returns-then-contained c =
     let all-entries : length c.args.word ≡ 20 =
     search rules in
-    let first-fails : let l = c.loop-i in let a = c.args in avoids (patterns_of a.set a.lengths a.count) (take a.len a.word ++ (get_or a.word l.i 0 ∷ get_or a.word a.at 0 ∷ [])) ≡ false =
+    let first-fails : let l = c.loop-i in let a = c.args in
+    avoids (patterns_of a.set a.lengths a.count) (take a.len a.word ++ (get_or a.word l.i 0 ∷ get_or a.word a.at 0 ∷ [])) ≡ false =
     ap (avoids _) (sym c.followed-one.ensures) ∙
     not-true _ (sym c.contained.ensures ∙ c.if-not-contained.false) in
     let a = c.args in

@@ -10,7 +10,8 @@ use Rattle.appending.proofs.pairs_with.Given as goal
 abbrev pub invariant-loop-i : goal.invariant-loop-i
 invariant-loop-i l =
     (all (pair_allowed (patterns_of l.set l.lengths l.count) (take l.len l.word) l.b) (drop l.len (take l.at l.word)) ≡
-    all (pair_allowed (patterns_of l.set l.lengths l.count) (take l.len l.word) l.b) (drop l.i (take l.at l.word))) × (l.len ≤ l.i) × (l.i ≤ l.at)
+    all (pair_allowed (patterns_of l.set l.lengths l.count) (take l.len l.word) l.b) (drop l.i (take l.at l.word))) ×
+    (l.len ≤ l.i) × (l.i ≤ l.at)
 
 abbrev pub decreases-loop-i : goal.decreases-loop-i
 decreases-loop-i l = l.at - l.i

@@ -6,7 +6,9 @@ use Rattle.crowding.specs.Followers.{followers_of, Holds}
 use Rattle.crowding.proofs.followers.Given as goal
 
 abbrev pub invariant-loop-l : goal.invariant-loop-l
-invariant-loop-l l = Holds l.l (followers_of l.up l.n (take l.len l.word) (drop l.len (take l.n l.word))) l.counts × (length l.counts ≡ 8) × (l.l ≤ l.k)
+invariant-loop-l l =
+    Holds l.l (followers_of l.up l.n (take l.len l.word) (drop l.len (take l.n l.word))) l.counts ×
+    (length l.counts ≡ 8) × (l.l ≤ l.k)
 
 abbrev pub decreases-loop-l : goal.decreases-loop-l
 decreases-loop-l l = l.k - l.l

@@ -6,7 +6,9 @@ use Rattle.crowding.specs.Followers.{over_at, over_row}
 use Rattle.crowding.proofs.row_over.Given as goal
 
 abbrev pub invariant-loop-m : goal.invariant-loop-m
-invariant-loop-m l = (over_row l.room l.high l.unused l.lows l.falls ≡ any (over_at l.room l.high l.unused l.lows l.falls) (row l.m (l.falls - l.m))) × (l.m ≤ l.falls)
+invariant-loop-m l =
+    (over_row l.room l.high l.unused l.lows l.falls ≡ any (over_at l.room l.high l.unused l.lows l.falls) (row l.m (l.falls - l.m))) ×
+    (l.m ≤ l.falls)
 
 abbrev pub decreases-loop-m : goal.decreases-loop-m
 decreases-loop-m l = l.falls - l.m

@@ -7,7 +7,9 @@ use Rattle.crowding.specs.Crowding.{shorter, shortest}
 use Rattle.crowding.proofs.shortest_monotone.Given as goal
 
 abbrev pub invariant-loop-i : goal.invariant-loop-i
-invariant-loop-i l = (shortest l.up (patterns_of l.set l.lengths l.count) ≡ shorter l.best (shortest l.up (from l.set l.lengths l.count l.i))) × (l.best ≤ 8)
+invariant-loop-i l =
+    (shortest l.up (patterns_of l.set l.lengths l.count) ≡ shorter l.best (shortest l.up (from l.set l.lengths l.count l.i))) ×
+    (l.best ≤ 8)
 
 abbrev pub decreases-loop-i : goal.decreases-loop-i
 decreases-loop-i l = 24 - l.i

@@ -9,7 +9,8 @@ use Rattle.successor.proofs.least.least_from.Given as goal
 abbrev pub invariant-loop-i : goal.invariant-loop-i
 invariant-loop-i l =
     Avoider (patterns_of l.set l.lengths l.count) l.n (take l.n l.best) × (l.i ≤ l.n) ×
-    (least_from (patterns_of l.set l.lengths l.count) l.n (take l.k l.initial.best) ≡ least_from (patterns_of l.set l.lengths l.count) l.n (take l.i l.best))
+    (least_from (patterns_of l.set l.lengths l.count) l.n (take l.k l.initial.best) ≡
+    least_from (patterns_of l.set l.lengths l.count) l.n (take l.i l.best))
 
 abbrev pub decreases-loop-i : goal.decreases-loop-i
 decreases-loop-i l = l.n - l.i
