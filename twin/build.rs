@@ -1,5 +1,4 @@
-//! Links the engine: the static libraries that `rt staticlib kernel` and `rt staticlib
-//! twin_exports` make, or those in the folder that ENGINE names.
+//! Links the engine: the static libraries that `examples/build kernel twin_exports` makes, or those in the folder that ENGINE names.
 use std::env;
 use std::path::PathBuf;
 

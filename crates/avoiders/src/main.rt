@@ -6,51 +6,61 @@
 use avoider_lines::judging::asked_for;
 use avoider_lines::writing::write_avoiders;
 use forms::memory::{Fault, Patterns};
-use libc::STDOUT_FILENO;
+use std::io::{Error, Write};
 use table_lines::input::{Lines, SCHEME, SET};
 use table_reading::{State, read_all};
 use table_text::printing::{PAGE, put_refusal};
 use word::refusal::Refusal;
 
-fn main() {
+fn main(rt: HostRuntime) -> std::io::Result<()> {
     // the texts of the two lines stand here and are lent
     let mut set = [0u8; SET];
     let mut second = [0u8; SCHEME];
-    let reading = read_all(&mut set, &mut second);
+    let reading = read_all(rt.stdin(), &mut set, &mut second);
     let lines = reading.lines;
     let state = reading.state;
     match state {
-        State::End => answer(lines, &set, &second),
-        State::More => os::fail(b"avoiders: reading standard input"),
-        State::Failed => os::fail(b"avoiders: reading standard input"),
+        State::End => answer(rt, lines, &set, &second),
+        State::More => read_failed(rt, reading.error),
+        State::Failed => read_failed(rt, reading.error),
     }
 }
 
+// Says on standard error that a read failed, and why.
+fn read_failed(rt: HostRuntime, error: i32) -> std::io::Result<()> {
+    let why = Error::from_raw_os_error(error);
+    eprintln!(rt; "avoiders: reading standard input: {why}")
+}
+
 // Prints the avoiders that the lines ask for, or the line of a refusal.
-fn answer(lines: Lines, set: &[u8], second: &[u8]) {
+fn answer(rt: HostRuntime, lines: Lines, set: &[u8], second: &[u8]) -> std::io::Result<()> {
     let asked = asked_for(lines, set, second);
     let fault = asked.fault;
     let patterns = asked.patterns;
     let length = asked.length;
     match fault {
-        Fault::Clean => print_avoiders(patterns, length),
-        Fault::At(refusal, index) => print_refusal(refusal, index),
+        Fault::Clean => print_avoiders(rt, patterns, length),
+        Fault::At(refusal, index) => print_refusal(rt, refusal, index),
     }
 }
 
 // Prints the avoiders of a length.
-fn print_avoiders(patterns: Patterns, length: usize) {
-    let printed = write_avoiders(patterns, length);
+fn print_avoiders(rt: HostRuntime, patterns: Patterns, length: usize) -> std::io::Result<()> {
+    let printed = write_avoiders(rt.stdout(), patterns, length);
     if !printed.whole {
-        os::fail(b"avoiders: writing standard output");
+        let why = Error::from_raw_os_error(printed.error);
+        eprintln!(rt; "avoiders: writing standard output: {why}")?;
     }
+    Ok(())
 }
 
 // Prints the line of a refusal.
-fn print_refusal(refusal: Refusal, index: usize) {
+fn print_refusal(rt: HostRuntime, refusal: Refusal, index: usize) -> std::io::Result<()> {
     let mut page = [0u8; PAGE];
     let n = put_refusal(&mut page, refusal, index);
-    if !io::write_all(STDOUT_FILENO, &page[..n]) {
-        os::fail(b"avoiders: writing standard output");
+    let mut output = rt.stdout();
+    if let Err(why) = output.write_all(&page[..n]) {
+        eprintln!(rt; "avoiders: writing standard output: {why}")?;
     }
+    Ok(())
 }
