@@ -21,8 +21,8 @@ use Rattle.count_walk.proofs.WalkLaws.{row_value}
 use Rattle.count_entry.specs.Frames.{Framed}
 use Rattle.count_entry.specs.declared.frame.Frame.{Frame}
 use Rattle.count_figures.specs.Figures.{cell_figures, figures_makes, figures_held, several, figures_walked}
-use Rattle.count_figures.specs.FigureContentLaws.{several_sound, held_front}
-use Rattle.count_figures.specs.FigureSolutionLaws.{figures_solution, root_figures_lem}
+use Rattle.count_figures.proofs.FigureContentLaws.{several_sound, held_front}
+use Rattle.count_figures.proofs.FigureSolutionLaws.{figures_solution, root_figures_lem}
 use Rattle.count_rows.specs.RunLaws.{root_cell_lem}
 use Rattle.count_figure_rows.specs.FigureRows.{root_cell, root_figures}
 

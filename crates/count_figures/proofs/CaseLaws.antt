@@ -22,7 +22,7 @@ use Rattle.count_step.specs.StepLaws.{places_are}
 use Rattle.count_plan.specs.Layout.{number_at}
 use Rattle.count_figures.specs.Figures.{moved_at, spread_at, spread_over, figures_held}
 use Rattle.count_figures.specs.FigureSizeLaws.{count_less}
-use Rattle.count_figures.specs.FigureContentLaws.{held_front}
+use Rattle.count_figures.proofs.FigureContentLaws.{held_front}
 use Rattle.count_figures.specs.Adding.{Adds}
 use Rattle.count_figures.specs.Steps.{numbers_from, FigureTaskFits, figure_step}
 use Rattle.count_figures.specs.declared.children.FigureTask.{FigureTask}

@@ -3,5 +3,3 @@ pub mod Figures
 pub mod Adding
 pub mod Steps
 pub mod FigureSizeLaws
-pub mod FigureContentLaws
-pub mod FigureSolutionLaws

@@ -21,7 +21,7 @@ use Rattle.count_entry.proofs.FrameLaws.{framed_fits, blocks_small}
 use Rattle.count_rows.specs.Run.{cleared}
 use Rattle.count_rows.specs.RunLaws.{walked_cleared}
 use Rattle.count_figures.specs.Figures.{figures_makes, several, figures_walked}
-use Rattle.count_figures.specs.FigureContentLaws.{several_sound}
+use Rattle.count_figures.proofs.FigureContentLaws.{several_sound}
 use Rattle.count_figures.specs.FigureSizeLaws.{count_most}
 use Rattle.count_figure_rows.specs.FigureRows.{root_figures, RootRead}
 use Rattle.count_figure_rows.specs.FigureRunLaws.{root_inside, root_figured}

@@ -11,7 +11,7 @@ use Rattle.count_cursor.specs.RowLaws.{Going, going_start, going_more, going_end
 use Rattle.count_entry.specs.Frames.{Framed}
 use Rattle.count_entry.proofs.FrameLaws.{listed, cell_given, cursor_given}
 use Rattle.count_figures.specs.Figures.{figures_makes, several}
-use Rattle.count_figures.specs.FigureContentLaws.{several_sound}
+use Rattle.count_figures.proofs.FigureContentLaws.{several_sound}
 use borrow.Author.Rules.{rules}
 use Rattle.count_figure_rows.proofs.rows.fill_row.Statement.{statement}
 use Rattle.count_figure_rows.proofs.rows.fill_row.Tie as tie

@@ -11,7 +11,7 @@ use Rattle.count_walk.specs.Cells.{rows_from}
 use Rattle.count_cursor.specs.RowLaws.{rows_none, rows_more, rows_end}
 use Rattle.count_entry.specs.Frames.{Framed}
 use Rattle.count_figures.specs.Figures.{figures_makes, several, figures_walked}
-use Rattle.count_figures.specs.FigureContentLaws.{several_sound}
+use Rattle.count_figures.proofs.FigureContentLaws.{several_sound}
 use borrow.Author.Rules.{rules}
 use Rattle.count_figure_rows.proofs.rows.fill_rows.Statement.{statement}
 use Rattle.count_figure_rows.proofs.rows.fill_rows.Tie as tie

@@ -7,9 +7,7 @@ use native.Mathlib.Nat.{mul-le-mul_right}
 use mathlib.Core.Path.{◌≡◌, refl, sym, ap, ◌∙◌}
 use Rattle.word.specs.Ceilings.{LENGTH}
 use Rattle.word.specs.Inversions.{figure_count}
-use borrow.Author.Rules.{rules}
-use Rattle.count_figures.proofs.sizes.figure_count.Statement.{statement}
-use Rattle.count_figures.proofs.sizes.figure_count.Tie as tie
+use Rattle.count_figures.proofs.sizes.figure_count.Goals as goal
 
 none : ◌≡◌ {A = ℕ} 1 (figure_count 0)
 unfolding figure_count
@@ -22,14 +20,14 @@ some n = add-one (n * (n - 1) / 2)
 product_small : (n : ℕ) → n ≤ LENGTH → n * (n - 1) ≤ LENGTH * LENGTH
 product_small n h = omega (arith, mul-le-mul_right {m = n} {n = LENGTH} (n - 1) h)
 
-returns : tie.Need-returns
-returns c = none ∙ ap figure_count (sym c.if1.true)
+pub returns-then-n-eq0 : goal.returns-then-n-eq0
+returns-then-n-eq0 c = none ∙ ap figure_count (sym c.if-n-eq0.true)
 
-mul-result : tie.Need-overflow-mul-result
-mul-result c = let start = c.before in omega (arith, product_small start.args.n start.requires)
+pub overflow_mul-result : goal.overflow_mul-result
+overflow_mul-result c = omega (arith, product_small c.args.n c.requires)
 
-add-result : tie.Need-overflow-add-result
-add-result c = let start = c.before in omega (arith, product_small start.args.n start.requires)
+pub overflow_add-result : goal.overflow_add-result
+overflow_add-result c = omega (arith, product_small c.args.n c.requires)
 
-pub figure-count-spec : {M : Type 1} → statement M
-figure-count-spec = tie.close (tie.spec returns (λ c. search rules) mul-result add-result (λ c. some c.before.args.n))
+pub returns : goal.returns
+returns c = some c.args.n

@@ -1,0 +1,95 @@
+-- `count_figures::filling::fill_figures` meets its contract.
+-- Assumes nothing.
+use borrow.Author.Rules.{rules}
+use native.Mathlib.Omega.{arith}
+use Prim.Native.Nat.{◌+◌}
+use mathlib.Core.Path.{◌≡◌, ap, ◌∙◌}
+use lib.ListN.{length}
+use Rattle.word.specs.Ceilings.{COMPONENTS}
+use Rattle.spacing.specs.Following.{first_vector}
+use Rattle.spacing.specs.PascalLaws.{binomial_small}
+use Rattle.count_step.specs.Task.{spacing_in}
+use Rattle.count_step.proofs.FillLaws.{filling_start, filling_more, filling_end}
+use Rattle.count_figures.specs.Figures.{put_figures}
+use Rattle.count_figures.proofs.FigureContentLaws.{several_sound}
+use Rattle.count_figures.specs.Steps.{figure_step}
+use Rattle.count_figures.proofs.filling.fill_figures.Goals as goal
+
+pub loop-p-init : goal.loop-p-init
+loop-p-init c =
+    let a = c.args in
+    let t = a.work.task in
+    let seven : length c.first_spacing-next.result ≡ COMPONENTS = search rules in (
+      filling_start (put_figures a.work.numbers) (several_sound a.work.numbers).size (figure_step a.work a.gaps.now)
+          t.length t.total a.at a.size c.requires.2 a.table.now (spacing_in t.length c.first_spacing-next.result)
+          (c.first_spacing-next.ensures ∙ ap (first_vector t.length) c.narrow.ensures),
+      seven,
+    )
+
+pub next_cell-requires : goal.next_cell-requires
+next_cell-requires c =
+    let l = c.loop-p in
+    (c.requires.0.fits.short, l.invariant.1, omega (arith, l.invariant.0.whole, c.requires.0.fits.sum))
+
+-- the place of a cell
+pub overflow_add-at : goal.overflow_add-at
+overflow_add-at c =
+    let t = c.args.work.task in
+    omega (
+      arith,
+      c.requires.2,
+      c.requires.3,
+      binomial_small (t.length + t.total) t.length c.requires.0.fits.sum,
+      c.loop-p.invariant.0.reach,
+    )
+
+pub fill_one-requires : goal.fill_one-requires
+fill_one-requires c =
+    let t = c.args.work.task in
+    let l = c.loop-p in (
+      c.requires.0,
+      c.requires.1,
+      l.invariant.0.whole,
+      c.requires.4,
+      omega (
+        arith,
+        c.requires.2,
+        c.requires.3,
+        binomial_small (t.length + t.total) t.length c.requires.0.fits.sum,
+        l.invariant.0.reach,
+      ),
+    )
+
+pub loop-p-preserved : goal.loop-p-preserved
+loop-p-preserved c =
+    let filled = c.fill_one in
+    let a = c.args in
+    let t = a.work.task in
+    let l = c.loop-p in
+    let next = c.next_cell in
+    let seven : length next.new.g ≡ length l.next = search rules in (
+      filling_more (put_figures a.work.numbers) (several_sound a.work.numbers).size (figure_step a.work a.gaps.now)
+          t.length t.total a.at a.size c.requires.2 a.table.now l.p l.table
+          (spacing_in t.length l.next) l.invariant.0 (omega arith) filled.new.table (spacing_in t.length next.new.g)
+          filled.ensures next.ensures,
+      seven ∙ l.invariant.1,
+    )
+
+pub shape_of-table : goal.shape_of-table
+shape_of-table c = c.loop-p.invariant.0.size
+
+pub returns : goal.returns
+returns c =
+    let a = c.args in
+    let t = a.work.task in
+    let l = c.loop-p in
+    filling_end (put_figures a.work.numbers) (several_sound a.work.numbers).size (figure_step a.work a.gaps.now)
+    t.length t.total a.at a.size c.requires.2 a.table.now l.p l.table (spacing_in t.length l.next)
+    l.invariant.0
+    (omega arith)
+
+pub narrow-requires : goal.narrow-requires
+narrow-requires c = omega (arith, c.requires.0.fits.sum)
+
+pub first_spacing-next-requires : goal.first_spacing-next-requires
+first_spacing-next-requires c = search rules
