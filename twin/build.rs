@@ -1,4 +1,5 @@
-//! Links the engine: the static libraries that `examples/build kernel twin_exports` makes, or those in the folder that ENGINE names.
+//! Links the engine: the static libraries that `examples/build kernel twin_exports` makes, or those
+//! in the folder that ENGINE names.
 use std::env;
 use std::path::PathBuf;
 

@@ -1,7 +1,8 @@
 -- Laws of placing: what the search finds, and how a pattern that is cut before its last entries
 -- compares with a built word.
 use Rattle.std.specs.Prelude.{ℕ, suc, ◌+◌, ◌≤◌, ◌<◌, refl, ◌⊎◌, false, ◌&&◌, ◌||◌, cond, get_or, take, drop, leb, ltb}
-use Rattle.std.proofs.Common.{arith, ap₂, ◌∙◌, inl, inr, take-append-drop, length-drop, length-take-le, ltb-true, ltb-false, lt-ltb, le-ltb, le-leb, eqb-true, eq-eqb}
+use Rattle.std.proofs.Common.{arith, ap₂, ◌∙◌, inl, inr, take-append-drop, length-drop, length-take-le, ltb-true, ltb-false, lt-ltb}
+use Rattle.std.proofs.Common.{le-ltb, le-leb, eqb-true, eq-eqb}
 use Rattle.std.proofs.Math.Path.{◌≡◌, sym, ap}
 use Rattle.std.proofs.Math.Bool.{Bool, true, or-true, or-false, or_assoc}
 use Rattle.std.specs.Bool.{beq}

@@ -1,7 +1,8 @@
 -- Laws of the cells that hold figures: putting figures into a cell changes its numbers and no
 -- other, and a cell holds its figures at its front.
 use Rattle.std.specs.Prelude.{ℕ, ◌+◌, ◌≤◌, ◌<◌, ◌≡◌, ◌⊎◌, List, ◌++◌, length, get_or, take, drop}
-use Rattle.std.proofs.Common.{arith, sym, ap, ◌∙◌, inl, inr, length-take, length-drop, take_all, take-take, take_at, drop_at, get_or-take, get_or-drop, length-take-le, ext_get_or}
+use Rattle.std.proofs.Common.{arith, sym, ap, ◌∙◌, inl, inr, length-take, length-drop, take_all, take-take, take_at, drop_at, get_or-take}
+use Rattle.std.proofs.Common.{get_or-drop, length-take-le, ext_get_or}
 use Rattle.word.specs.Inversions.{figure_count}
 use Rattle.word.specs.ListLaws.{below_or_not}
 use Rattle.text_page.specs.Page.{overlay}

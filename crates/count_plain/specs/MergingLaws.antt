@@ -1,6 +1,8 @@
 -- Laws of merging by a walk over the components, which are added up around the flagged values.
-use Rattle.std.specs.Prelude.{ℕ, zero, suc, ◌+◌, ◌-◌, ◌≤◌, ◌<◌, ◌≡◌, refl, ◌⊎◌, Bool, true, false, cond, List, [], ◌∷◌, ◌++◌, length, get_or, take, drop, set, replicate, eqb}
-use Rattle.std.proofs.Common.{add-one, arith, sym, ap, ◌∙◌, subst, inl, inr, length-set, drop_of_length-le, drop-cons, take-suc, length-take-le, get_or-set_same, get_or-set_other, eqb-true}
+use Rattle.std.specs.Prelude.{ℕ, zero, suc, ◌+◌, ◌-◌, ◌≤◌, ◌<◌, ◌≡◌, refl, ◌⊎◌, Bool, true, false, cond, List, [], ◌∷◌, ◌++◌, length}
+use Rattle.std.specs.Prelude.{get_or, take, drop, set, replicate, eqb}
+use Rattle.std.proofs.Common.{add-one, arith, sym, ap, ◌∙◌, subst, inl, inr, length-set, drop_of_length-le, drop-cons, take-suc}
+use Rattle.std.proofs.Common.{length-take-le, get_or-set_same, get_or-set_other, eqb-true}
 use Rattle.std.proofs.Math.Seq.{append_snoc}
 use Rattle.std.proofs.lemmas.List.{take-set-le}
 use Rattle.std.proofs.lemmas.Bool.{eqb-false}

@@ -4,7 +4,8 @@ use Rattle.std.proofs.Math.Numerals.{add-one}
 use native.Mathlib.Omega.{arith}
 use Rattle.std.specs.Prelude.{◌≡◌, ◌⊎◌, drop, set}
 use Rattle.std.proofs.Math.Path.{refl, sym, ap}
-use Rattle.std.proofs.Common.{◌∙◌, inl, inr, length-append, length-drop, drop_of_length-le, drop-cons, take-suc, take-suc-set, length-take-le, get_or-take, get_or-drop, get_or-append-add, le-leb}
+use Rattle.std.proofs.Common.{◌∙◌, inl, inr, length-append, length-drop, drop_of_length-le, drop-cons, take-suc, take-suc-set}
+use Rattle.std.proofs.Common.{length-take-le, get_or-take, get_or-drop, get_or-append-add, le-leb}
 use mathlib.Core.List.{List, ◌∷◌, ◌++◌}
 use Rattle.std.proofs.Math.ListN.{length, get_or, take, get_or-append}
 use Rattle.std.proofs.Math.Seq.{append_snoc}

@@ -1,7 +1,8 @@
 -- A pass over all rows: the values at ε are the counts of an accepted scheme, and the table
 -- afterwards.
 use Rattle.std.specs.Prelude.{ℕ, zero, suc, ◌+◌, ◌*◌, ◌≤◌, ◌<◌, ◌≡◌, refl, ◌⊎◌, List, [], ◌∷◌, ◌++◌, length, get_or, set, drop, replicate}
-use Rattle.std.proofs.Common.{add-one, arith, sym, ap, ◌∙◌, inl, inr, length-set, length-drop, get_or-set_same, get_or-set_other, get_or-drop, drop-cons, ext_get_or}
+use Rattle.std.proofs.Common.{add-one, arith, sym, ap, ◌∙◌, inl, inr, length-set, length-drop, get_or-set_same, get_or-set_other}
+use Rattle.std.proofs.Common.{get_or-drop, drop-cons, ext_get_or}
 use Rattle.std.proofs.lemmas.List.{length-replicate, set_at}
 use Rattle.word.specs.Ceilings.{LENGTH, COUNTS}
 use Rattle.word.specs.ListLaws.{below_or_not, get_or_zeros}

@@ -1,7 +1,8 @@
 -- The first n numbers of an array in memory, and whether two such lists are the same; arrays that
 -- are written place by place.
 -- Assumes nothing.
-use Rattle.std.specs.Prelude.{ℕ, zero, suc, ◌+◌, ◌≤◌, ◌<◌, ◌≡◌, refl, Bool, false, ◌&&◌, List, [], ◌∷◌, ◌++◌, map, ◌⊎◌, length, get_or, take, set, replicate, eqb}
+use Rattle.std.specs.Prelude.{ℕ, zero, suc, ◌+◌, ◌≤◌, ◌<◌, ◌≡◌, refl, Bool, false, ◌&&◌, List, [], ◌∷◌, ◌++◌, map, ◌⊎◌, length, get_or}
+use Rattle.std.specs.Prelude.{take, set, replicate, eqb}
 use Rattle.std.proofs.Common.{arith, ap, ◌∙◌, inl, inr, length-append, length-take-le, get_or-take, get_or-set_same, get_or-set_other}
 use Rattle.std.proofs.Math.Bool.{and-false}
 use Rattle.std.proofs.lemmas.List.{length-replicate, take-append-le}

@@ -2,7 +2,8 @@
 -- one after the other.
 -- Assumes nothing.
 use Rattle.std.specs.Prelude.{ℕ, zero, suc, ◌+◌, ◌≤◌, ◌<◌, ◌≡◌, refl, List, [], ◌∷◌, ◌++◌, length, get_or, take, drop, set}
-use Rattle.std.proofs.Common.{add-zero, add-suc, suc-add, add-one, arith, sym, ap, ◌∙◌, length-drop, length-set, take-suc, take-suc-set, get_or-drop, take_all, length-take-le}
+use Rattle.std.proofs.Common.{add-zero, add-suc, suc-add, add-one, arith, sym, ap, ◌∙◌, length-drop, length-set, take-suc, take-suc-set}
+use Rattle.std.proofs.Common.{get_or-drop, take_all, length-take-le}
 use Rattle.std.proofs.Math.Seq.{set_out}
 use Rattle.std.proofs.lemmas.List.Edits.{sets}
 

@@ -1,6 +1,7 @@
 -- Laws of a set of positions that passes test 7: it rises within 1 to k, so it is no longer than k,
 -- and a word without these positions is shorter by their number.
-use Rattle.std.specs.Prelude.{ℕ, zero, suc, ◌+◌, ◌≤◌, ◌<◌, ◌≡◌, refl, Bool, true, false, cond, ◌||◌, List, [], ◌∷◌, ◌⊎◌, length, get_or, drop, leb, ltb, eqb}
+use Rattle.std.specs.Prelude.{ℕ, zero, suc, ◌+◌, ◌≤◌, ◌<◌, ◌≡◌, refl, Bool, true, false, cond, ◌||◌, List, [], ◌∷◌, ◌⊎◌, length, get_or}
+use Rattle.std.specs.Prelude.{drop, leb, ltb, eqb}
 use Rattle.std.proofs.Common.{subst, arith, ap, ◌∙◌, inl, inr, leb-false, ltb-false, eq-eqb, ne_eqb, le-ltb}
 use Rattle.std.proofs.lemmas.Bool.{eqb-false, lt-leb}
 use Rattle.word.specs.Lists.{all}

@@ -25,7 +25,8 @@ use Rattle.text_gaps.specs.GapMemory.{parts_of_all, widths_of}
 use Rattle.text_schemes.specs.SchemeLoaded.{loaded_scheme}
 use Rattle.notation.specs.PatternAnswers.{patterns_answer}
 use Rattle.notation.specs.SchemeAnswers.{scheme_answer}
-use Rattle.verdict.specs.Verdict.{verdict_of, told_verdict, compared_cells_under, live_gap, differs_under, sizes_differ, compared_with_under}
+use Rattle.verdict.specs.Verdict.{verdict_of, told_verdict, compared_cells_under, live_gap, differs_under, sizes_differ}
+use Rattle.verdict.specs.Verdict.{compared_with_under}
 use Rattle.verdict.specs.declared.answer.Verdict.{Verdict}
 use Rattle.verdict.specs.declared.answer.Verdict.TheVariants.{Accepted, Refused}
 use Rattle.judge_texts.specs.TextJudgement.{verdict_of_texts, verdict_read_on, page_read}

@@ -1,6 +1,8 @@
 -- What is kept of an input grows byte by byte.
-use Rattle.std.specs.Prelude.{ℕ, zero, suc, ◌+◌, ◌≤◌, ◌<◌, min, ◌≡◌, Bool, true, false, cond, List, [], ◌∷◌, ◌++◌, length, drop, set, get_or, replicate, ltb}
-use Rattle.std.proofs.Common.{arith, add-one, ap₂, ◌∙◌, append-nil, append_assoc, drop_of_length-le, drop-cons, ltb-true, ltb-false, lt-ltb, le-ltb, eq-eqb, ne_eqb}
+use Rattle.std.specs.Prelude.{ℕ, zero, suc, ◌+◌, ◌≤◌, ◌<◌, min, ◌≡◌, Bool, true, false, cond, List, [], ◌∷◌, ◌++◌, length, drop, set}
+use Rattle.std.specs.Prelude.{get_or, replicate, ltb}
+use Rattle.std.proofs.Common.{arith, add-one, ap₂, ◌∙◌, append-nil, append_assoc, drop_of_length-le, drop-cons, ltb-true, ltb-false}
+use Rattle.std.proofs.Common.{lt-ltb, le-ltb, eq-eqb, ne_eqb}
 use Rattle.std.proofs.Math.Path.{refl, sym, ap}
 use Rattle.std.proofs.Math.Seq.{take-nil}
 use Rattle.table_lines.specs.declared.input.Lines.{Lines}

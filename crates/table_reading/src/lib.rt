@@ -20,8 +20,8 @@ pub enum State {
     Failed,
 }
 
-// What was kept of the input so far, beside the two buffers, and the number of the error of the last
-// read, 0 where it did not fail.
+// What was kept of the input so far, beside the two buffers, and the number of the error of the
+// last read, 0 where it did not fail.
 #[derive(Clone, Copy)]
 pub struct Reading {
     pub state: State,
@@ -72,8 +72,8 @@ fn read_some(
     }
 }
 
-// What is kept after a read into the chunk: `got` is how many bytes it brought, or negative where it
-// failed, and `error` is then the number of the error.
+// What is kept after a read into the chunk: `got` is how many bytes it brought, or negative where
+// it failed, and `error` is then the number of the error.
 fn taken(
     lines: Lines,
     set: &mut [u8],

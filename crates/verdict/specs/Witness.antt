@@ -1,5 +1,6 @@
 -- The witness of a refusal 11, in the words of order 1 of document 02. Definitions only.
-use Rattle.std.specs.Prelude.{ℕ, zero, suc, ◌+◌, ◌-◌, ◌<◌, ◌≡◌, Bool, true, false, not, ◌&&◌, cond, length, get_or, take, replicate, ltb, eqb}
+use Rattle.std.specs.Prelude.{ℕ, zero, suc, ◌+◌, ◌-◌, ◌<◌, ◌≡◌, Bool, true, false, not, ◌&&◌, cond, length, get_or, take, replicate, ltb}
+use Rattle.std.specs.Prelude.{eqb}
 use mathlib.Core.List.{List, [], ◌∷◌, ◌++◌, Memᴰ}
 use Rattle.std.proofs.Math.Option.{Option, none, some}
 use Rattle.word.specs.Ceilings.{PAGE, HALF}

@@ -1,6 +1,8 @@
 -- Laws on tests, membership, maps, sublists and rows that the other files of laws use.
-use Rattle.std.specs.Prelude.{ℕ, zero, suc, ◌+◌, ◌*◌, ◌≤◌, ◌<◌, ◌≡◌, refl, ◌⊎◌, Bool, true, false, not, ◌&&◌, ◌||◌, cond, length, get_or, replicate, ltb, eqb}
-use Rattle.std.proofs.Common.{zero-mul, suc-mul, arith, sym, ap, ◌∙◌, ap₂, subst, inl, inr, true≢false, length-append, ltb-true, ltb-false, eqb-true}
+use Rattle.std.specs.Prelude.{ℕ, zero, suc, ◌+◌, ◌*◌, ◌≤◌, ◌<◌, ◌≡◌, refl, ◌⊎◌, Bool, true, false, not, ◌&&◌, ◌||◌, cond, length, get_or}
+use Rattle.std.specs.Prelude.{replicate, ltb, eqb}
+use Rattle.std.proofs.Common.{zero-mul, suc-mul, arith, sym, ap, ◌∙◌, ap₂, subst, inl, inr, true≢false, length-append, ltb-true}
+use Rattle.std.proofs.Common.{ltb-false, eqb-true}
 use Rattle.std.specs.Bool.{beq}
 use Rattle.std.proofs.Math.Bool.{or-true}
 use Rattle.std.proofs.lemmas.Bool.{false≢true, eqb-false}

@@ -1,15 +1,9 @@
 -- The invariant and the measure of the loop of `copy_search::first_copy`.
-use Prim.Native.Nat.{◌-◌, ◌≤◌, ◌<◌}
-use mathlib.Core.Path.{◌≡◌, sym, ap, ◌∙◌}
-use mathlib.Core.Bool.{true, false}
-use borrow.Author.Rules.{rules}
-use native.Mathlib.Omega.{arith}
+use Prim.Native.Nat.{◌-◌, ◌≤◌}
+use mathlib.Core.Path.{◌≡◌}
 use lib.ListN.{length, get_or, take, drop}
-use Rattle.copy_search.specs.Copy.{shown}
 use Rattle.word.specs.Vocabulary.{fits}
-use Rattle.copy_search.proofs.Search.{Walk, weight, empty_copy, length_cut, walk_start, walk_skip, walk_on}
-use Rattle.copy_search.proofs.Search.{walk_found, walk_back, walk_none, pairs_none, pair_passed, pair_failed}
-use Rattle.copy_search.proofs.Search.{weight_skip, weight_place, weight_back}
+use Rattle.copy_search.proofs.Search.{Walk, weight}
 use Rattle.copy_search.proofs.first_copy.Given as goal
 
 abbrev pub invariant-pairs : goal.invariant-pairs

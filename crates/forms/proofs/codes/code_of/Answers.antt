@@ -6,7 +6,7 @@ use lib.ListN.{length}
 use borrow.Author.Rules.{rules}
 use native.Mathlib.Omega.{arith}
 use Rattle.word.specs.Ceilings.{PREFIX}
-use Rattle.forms.proofs.CodeWalk.{Coding, coding_start, coding_fits, coding_more}
+use Rattle.forms.proofs.CodeWalk.{coding_start, coding_fits, coding_more}
 use Rattle.forms.proofs.codes.code_of.Goals as goal
 
 pub loop-j-init : goal.loop-j-init

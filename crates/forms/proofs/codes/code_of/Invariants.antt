@@ -1,11 +1,7 @@
 -- The invariant and the measure of the loop of `forms::codes::code_of`.
 use Prim.Native.Nat.{◌≤◌}
-use mathlib.Core.Path.{◌≡◌}
-use lib.ListN.{length}
-use borrow.Author.Rules.{rules}
-use native.Mathlib.Omega.{arith}
 use Rattle.word.specs.Ceilings.{PREFIX}
-use Rattle.forms.proofs.CodeWalk.{Coding, coding_start, coding_fits, coding_more}
+use Rattle.forms.proofs.CodeWalk.{Coding}
 use Rattle.forms.proofs.codes.code_of.Given as goal
 
 abbrev pub invariant-loop-j : goal.invariant-loop-j

@@ -1,11 +1,11 @@
 -- `forms::gaps::gap_at` meets its contract: the components so far are the first of those at the
 -- index.
 -- Assumes nothing.
-use Prim.Native.Nat.{ℕ, ◌+◌, ◌*◌, ◌-◌, ◌≤◌, ◌<◌}
+use Prim.Native.Nat.{ℕ, ◌+◌, ◌*◌, ◌<◌}
 use mathlib.Core.Path.{◌≡◌, refl, ap₂, ◌∙◌}
 use mathlib.Core.List.{List}
 use native.Mathlib.Omega.{arith}
-use lib.ListN.{length, take, drop, length-set}
+use lib.ListN.{length, drop, length-set}
 use borrow.Author.Rules.{rules}
 use Rattle.word.specs.Ceilings.{COMPONENTS, GAPS, PARTS}
 use Rattle.forms.specs.StoredLaws.{copied_more, copied_all}

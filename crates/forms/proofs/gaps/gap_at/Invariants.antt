@@ -1,12 +1,8 @@
 -- The invariant and the measure of the loop of `forms::gaps::gap_at`.
-use Prim.Native.Nat.{ℕ, ◌+◌, ◌*◌, ◌-◌, ◌≤◌, ◌<◌}
-use mathlib.Core.Path.{◌≡◌, refl, ap₂, ◌∙◌}
-use mathlib.Core.List.{List}
-use native.Mathlib.Omega.{arith}
-use lib.ListN.{length, take, drop, length-set}
-use borrow.Author.Rules.{rules}
-use Rattle.word.specs.Ceilings.{COMPONENTS, GAPS, PARTS}
-use Rattle.forms.specs.StoredLaws.{copied_more, copied_all}
+use Prim.Native.Nat.{◌-◌, ◌≤◌}
+use mathlib.Core.Path.{◌≡◌}
+use lib.ListN.{length, take, drop}
+use Rattle.word.specs.Ceilings.{COMPONENTS}
 use Rattle.forms.proofs.gaps.gap_at.Given as goal
 
 abbrev pub invariant-loop-i : goal.invariant-loop-i

@@ -1,9 +1,9 @@
 -- `forms::gaps::with_gap` meets its contract: the first components are stored, one after the other.
 -- Assumes nothing.
-use Prim.Native.Nat.{◌*◌, ◌-◌, ◌≤◌, ◌<◌}
+use Prim.Native.Nat.{◌*◌, ◌≤◌, ◌<◌}
 use mathlib.Core.Path.{◌≡◌, refl, ap, ◌∙◌}
 use native.Mathlib.Omega.{arith}
-use lib.ListN.{length, take}
+use lib.ListN.{length}
 use lib.Seq.{sets, take_all}
 use borrow.Author.Rules.{rules}
 use Rattle.word.specs.Ceilings.{COMPONENTS}

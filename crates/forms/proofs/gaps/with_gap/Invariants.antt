@@ -1,12 +1,9 @@
 -- The invariant and the measure of the loop of `forms::gaps::with_gap`.
-use Prim.Native.Nat.{◌*◌, ◌-◌, ◌≤◌, ◌<◌}
-use mathlib.Core.Path.{◌≡◌, refl, ap, ◌∙◌}
-use native.Mathlib.Omega.{arith}
-use lib.ListN.{length, take}
-use lib.Seq.{sets, take_all}
-use borrow.Author.Rules.{rules}
+use Prim.Native.Nat.{◌-◌, ◌≤◌}
+use mathlib.Core.Path.{◌≡◌}
+use lib.ListN.{take}
+use lib.Seq.{sets}
 use Rattle.word.specs.Ceilings.{COMPONENTS}
-use Rattle.forms.specs.StoredLaws.{stored_more}
 use Rattle.forms.proofs.gaps.with_gap.Given as goal
 
 abbrev pub invariant-loop-i : goal.invariant-loop-i

@@ -1,12 +1,8 @@
 -- `forms::lists::same_bytes` meets its contract: the lists are the same if what is left of them
 -- is.
 -- Assumes nothing.
-use Prim.Native.Nat.{◌-◌, ◌≤◌}
-use mathlib.Core.Path.{◌≡◌, sym, ◌∙◌}
-use borrow.Author.Rules.{rules}
+use mathlib.Core.Path.{sym, ◌∙◌}
 use native.Mathlib.Omega.{arith}
-use lib.ListN.{length, drop}
-use Rattle.cell.specs.Basis.{same}
 use Rattle.forms.specs.MemoryLaws.{same_lengths}
 use Rattle.forms.proofs.SameWalk.{same_other, same_next, same_end}
 use Rattle.forms.proofs.lists.same_bytes.Goals as goal

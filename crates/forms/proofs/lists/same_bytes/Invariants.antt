@@ -1,12 +1,8 @@
 -- The invariant and the measure of the loop of `forms::lists::same_bytes`.
 use Prim.Native.Nat.{◌-◌, ◌≤◌}
-use mathlib.Core.Path.{◌≡◌, sym, ◌∙◌}
-use borrow.Author.Rules.{rules}
-use native.Mathlib.Omega.{arith}
+use mathlib.Core.Path.{◌≡◌}
 use lib.ListN.{length, drop}
 use Rattle.cell.specs.Basis.{same}
-use Rattle.forms.specs.MemoryLaws.{same_lengths}
-use Rattle.forms.proofs.SameWalk.{same_other, same_next, same_end}
 use Rattle.forms.proofs.lists.same_bytes.Given as goal
 
 abbrev pub invariant-loop-i : goal.invariant-loop-i

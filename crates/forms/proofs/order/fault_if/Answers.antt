@@ -1,7 +1,6 @@
 -- `forms::order::fault_if` meets its contract.
 -- Assumes nothing.
 use mathlib.Core.Path.{refl}
-use borrow.Author.Rules.{rules}
 use Rattle.forms.proofs.order.fault_if.Goals as goal
 
 pub returns-then-fails : goal.returns-then-fails

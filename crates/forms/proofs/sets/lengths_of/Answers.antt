@@ -1,12 +1,10 @@
 -- `forms::sets::lengths_of` meets its contract: the numbers up to the index are the lengths of
 -- their patterns.
 -- Assumes nothing.
-use borrow.Author.Rules.{rules}
-use Prim.Native.Nat.{ℕ, ◌-◌, ◌%◌, ◌≤◌, ◌<◌}
+use Prim.Native.Nat.{ℕ, ◌%◌}
 use mathlib.Core.Path.{◌≡◌, refl, ◌∙◌}
 use native.Mathlib.Omega.{arith}
-use lib.ListN.{length, get_or, length-set}
-use Rattle.word.specs.Ceilings.{PATTERNS}
+use lib.ListN.{get_or, length-set}
 use Rattle.forms.specs.SchemeMemory.{no_pattern}
 use Rattle.forms.specs.MemoryLaws.{rows_more}
 use Rattle.forms.proofs.sets.lengths_of.Goals as goal

@@ -1,12 +1,9 @@
 -- The invariant and the measure of the loop of `forms::sets::lengths_of`.
-use borrow.Author.Rules.{rules}
 use Prim.Native.Nat.{ℕ, ◌-◌, ◌%◌, ◌≤◌, ◌<◌}
-use mathlib.Core.Path.{◌≡◌, refl, ◌∙◌}
-use native.Mathlib.Omega.{arith}
-use lib.ListN.{length, get_or, length-set}
+use mathlib.Core.Path.{◌≡◌}
+use lib.ListN.{length, get_or}
 use Rattle.word.specs.Ceilings.{PATTERNS}
 use Rattle.forms.specs.SchemeMemory.{no_pattern}
-use Rattle.forms.specs.MemoryLaws.{rows_more}
 use Rattle.forms.proofs.sets.lengths_of.Given as goal
 
 abbrev pub invariant-loop-i : goal.invariant-loop-i

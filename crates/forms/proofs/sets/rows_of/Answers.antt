@@ -1,13 +1,12 @@
 -- `forms::sets::rows_of` meets its contract: the rows up to the index have the digits of their
 -- patterns.
 -- Assumes nothing.
-use borrow.Author.Rules.{rules}
-use Prim.Native.Nat.{ℕ, ◌-◌, ◌≤◌, ◌<◌}
+use Prim.Native.Nat.{ℕ}
 use mathlib.Core.Path.{◌≡◌, refl, ◌∙◌}
 use mathlib.Core.List.{List, []}
 use native.Mathlib.Omega.{arith}
 use lib.ListN.{length, get_or, length-set}
-use Rattle.word.specs.Ceilings.{DIGITS, PATTERNS}
+use Rattle.word.specs.Ceilings.{DIGITS}
 use Rattle.forms.specs.SchemeMemory.{no_pattern}
 use Rattle.forms.specs.MemoryLaws.{rows_more}
 use Rattle.forms.proofs.sets.rows_of.Goals as goal

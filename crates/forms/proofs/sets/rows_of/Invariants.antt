@@ -1,13 +1,10 @@
 -- The invariant and the measure of the loop of `forms::sets::rows_of`.
-use borrow.Author.Rules.{rules}
 use Prim.Native.Nat.{ℕ, ◌-◌, ◌≤◌, ◌<◌}
-use mathlib.Core.Path.{◌≡◌, refl, ◌∙◌}
-use mathlib.Core.List.{List, []}
-use native.Mathlib.Omega.{arith}
-use lib.ListN.{length, get_or, length-set}
+use mathlib.Core.Path.{◌≡◌}
+use mathlib.Core.List.{[]}
+use lib.ListN.{length, get_or}
 use Rattle.word.specs.Ceilings.{DIGITS, PATTERNS}
 use Rattle.forms.specs.SchemeMemory.{no_pattern}
-use Rattle.forms.specs.MemoryLaws.{rows_more}
 use Rattle.forms.proofs.sets.rows_of.Given as goal
 
 abbrev pub invariant-loop-i : goal.invariant-loop-i

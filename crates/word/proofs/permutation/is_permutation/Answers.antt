@@ -1,13 +1,11 @@
 -- `word::permutation::is_permutation` meets its contract: the list is a permutation if what is left
 -- of it is listed.
 -- Assumes nothing.
-use Prim.Native.Nat.{◌-◌, ◌<◌, ◌≤◌}
-use mathlib.Core.Path.{◌≡◌, sym, ◌∙◌}
-use borrow.Author.Rules.{rules}
+use Prim.Native.Nat.{◌<◌, ◌≤◌}
+use mathlib.Core.Path.{sym, ◌∙◌}
 use native.Mathlib.Omega.{arith}
-use lib.ListN.{length, get_or, drop}
-use Rattle.word.specs.Word.{is_perm}
-use Rattle.word.proofs.Listed.{listed, listed_whole, listed_none, listed_above, listed_twice, listed_next, listed_end}
+use lib.ListN.{length, get_or}
+use Rattle.word.proofs.Listed.{listed_whole, listed_none, listed_above, listed_twice, listed_next, listed_end}
 use Rattle.word.proofs.permutation.is_permutation.Goals as goal
 
 pub loop-i-init : goal.loop-i-init

@@ -1,11 +1,9 @@
 -- The invariant and the measure of the loop of `word::permutation::is_permutation`.
-use Prim.Native.Nat.{◌-◌, ◌<◌, ◌≤◌}
-use mathlib.Core.Path.{◌≡◌, sym, ◌∙◌}
-use borrow.Author.Rules.{rules}
-use native.Mathlib.Omega.{arith}
-use lib.ListN.{length, get_or, drop}
+use Prim.Native.Nat.{◌-◌}
+use mathlib.Core.Path.{◌≡◌}
+use lib.ListN.{length, drop}
 use Rattle.word.specs.Word.{is_perm}
-use Rattle.word.proofs.Listed.{listed, listed_whole, listed_none, listed_above, listed_twice, listed_next, listed_end}
+use Rattle.word.proofs.Listed.{listed}
 use Rattle.word.proofs.permutation.is_permutation.Given as goal
 
 abbrev pub invariant-loop-i : goal.invariant-loop-i

@@ -1,12 +1,8 @@
 -- `word::permutation::stands_from` meets its contract: what stands from `from` on is what stands
 -- from the index on.
 -- Assumes nothing.
-use Prim.Native.Nat.{◌-◌}
-use mathlib.Core.Path.{◌≡◌, sym, ◌∙◌}
-use borrow.Author.Rules.{rules}
+use mathlib.Core.Path.{sym, ◌∙◌}
 use native.Mathlib.Omega.{arith}
-use lib.ListN.{length, drop}
-use Rattle.word.specs.Word.{has}
 use Rattle.word.proofs.Listed.{has_here, has_later, has_none}
 use Rattle.word.proofs.permutation.stands_from.Goals as goal
 

@@ -1,11 +1,8 @@
 -- The invariant and the measure of the loop of `word::permutation::stands_from`.
 use Prim.Native.Nat.{◌-◌}
-use mathlib.Core.Path.{◌≡◌, sym, ◌∙◌}
-use borrow.Author.Rules.{rules}
-use native.Mathlib.Omega.{arith}
+use mathlib.Core.Path.{◌≡◌}
 use lib.ListN.{length, drop}
 use Rattle.word.specs.Word.{has}
-use Rattle.word.proofs.Listed.{has_here, has_later, has_none}
 use Rattle.word.proofs.permutation.stands_from.Given as goal
 
 abbrev pub invariant-loop-i : goal.invariant-loop-i
