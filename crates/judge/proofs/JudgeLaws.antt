@@ -38,8 +38,8 @@ use Rattle.judge.proofs.LossLaws.{live_word, loss_word}
 use Rattle.scheme.specs.Proper.{Proper}
 use Rattle.basis.specs.BasisSetLaws.{basis_held}
 use Rattle.scheme.specs.NumberLaws.{patterns_nine, scheme_nine}
-use Rattle.judge.specs.JudgementLaws.{verdict_parts, live_same, differs_same, refused_answer}
-use Rattle.judge.specs.WitnessPageLaws.{number_in, number_found_lem, earlier_nine, page_kept}
+use Rattle.judge.proofs.JudgementLaws.{verdict_parts, live_same, differs_same, refused_answer}
+use Rattle.judge.proofs.WitnessPageLaws.{number_in, number_found_lem, earlier_nine, page_kept}
 use Rattle.judge.proofs.EntryWalkLaws.{live_entry, differing_entry}
 
 -- the earlier of two findings, where the first decides and where it does not

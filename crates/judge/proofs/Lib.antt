@@ -2,3 +2,5 @@
 pub mod EntryWalkLaws
 pub mod LossLaws
 pub mod JudgeLaws
+pub mod JudgementLaws
+pub mod WitnessPageLaws

@@ -2,5 +2,3 @@
 pub mod Judgement
 pub mod SetMemory
 pub mod ProperSetLaws
-pub mod JudgementLaws
-pub mod WitnessPageLaws

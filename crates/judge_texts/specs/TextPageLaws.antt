@@ -24,14 +24,14 @@ use Rattle.verdict.specs.Witness.{bytes_shown}
 use Rattle.verdict.specs.declared.answer.Verdict.{Verdict}
 use Rattle.verdict.specs.declared.answer.Verdict.TheVariants.{Accepted, Refused}
 use Rattle.judge.specs.Judgement.{page_test, Judges}
-use Rattle.judge.specs.JudgementLaws.{refused_answer, told_answered, or_else_assoc, verdict_parts}
+use Rattle.judge.proofs.JudgementLaws.{refused_answer, told_answered, or_else_assoc, verdict_parts}
 use Rattle.judge_texts.specs.TextJudgement.{fault_read, cells_read, verdict_of_texts, JudgesTextsWithoutPage}
 use Rattle.judge_texts.specs.TextJudgement.{fault_read_on, verdict_read_on, page_read, JudgesTexts}
 use Rattle.judge_texts.specs.TextVerdictLaws.{patterns_short, scheme_short, read_fault_lem, read_scheme_fault, spelt_fault, spelt_list}
 use Rattle.judge_texts.specs.TextVerdictLaws.{spelt_scheme_fault, spelt_scheme_list, refused_texts, judged_texts, or_else_clean_both}
-use Rattle.judge.specs.WitnessPageLaws.{number_in, number_found_lem, earlier_nine, nothing_shown, page_kept}
+use Rattle.judge.proofs.WitnessPageLaws.{number_in, number_found_lem, earlier_nine, nothing_shown, page_kept}
 use Rattle.scheme.specs.NumberLaws.{patterns_nine, scheme_nine}
-use Rattle.judge.specs.WitnessPageLaws.{judges_short, judges_long}
+use Rattle.judge.proofs.WitnessPageLaws.{judges_short, judges_long}
 
 -- reading finds numbers up to 9
 read_nine : (s : List ℕ) → number_in (patterns_answer s).fault ≤ 9

@@ -27,7 +27,7 @@ use Rattle.verdict.specs.Verdict.{claim_tests, compared_cells, answered, verdict
 use Rattle.verdict.specs.Truth.{WellFormed, AllTrue}
 use Rattle.verdict.specs.VerdictLaws.{accepted_exactly}
 use Rattle.verdict.specs.declared.answer.Verdict.{Verdict}
-use Rattle.judge.specs.JudgementLaws.{refused_answer, told_answered, or_else_assoc, verdict_parts}
+use Rattle.judge.proofs.JudgementLaws.{refused_answer, told_answered, or_else_assoc, verdict_parts}
 use Rattle.judge_texts.specs.TextJudgement.{fault_read, cells_read, verdict_read, verdict_of_texts, TextsTrue, JudgesAndReads}
 use Rattle.judge_texts.specs.declared.TextsJudged.{TextsJudged}
 

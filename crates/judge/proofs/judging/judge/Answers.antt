@@ -10,7 +10,7 @@ use Rattle.text_page.specs.Page.{overlay}
 use Rattle.verdict.specs.Verdict.{claim_tests}
 use Rattle.verdict.specs.Truth.{WellFormed}
 use Rattle.verdict.specs.Witness.{word_shown, bytes_shown}
-use Rattle.judge.specs.WitnessPageLaws.{judges_short, judges_long}
+use Rattle.judge.proofs.WitnessPageLaws.{judges_short, judges_long}
 use Rattle.judge.proofs.LossLaws.{shows_short}
 use Rattle.judge.proofs.JudgeLaws.{verdict_refused, formed_well, verdict_claims, page_formed, found_claims}
 use Rattle.judge.proofs.judging.judge.Goals as goal

@@ -19,7 +19,7 @@ use Rattle.verdict.specs.Witness.{word_shown}
 use Rattle.lost_word.specs.Shown.{ShowsWord}
 use Rattle.claims.specs.EntryMemory.{ProperSet}
 use Rattle.judge.specs.ProperSetLaws.{proper_set}
-use Rattle.judge.specs.JudgementLaws.{refused_answer}
+use Rattle.judge.proofs.JudgementLaws.{refused_answer}
 use Rattle.judge.proofs.JudgeLaws.{basis_m, basis_proper, claims_live, claims_lost, claims_answer, live_shown, lost_shown}
 use Rattle.judge.proofs.LossLaws.{shows_none}
 use Rattle.judge.proofs.EntryWalkLaws.{cells_start, cells_next, cells_end}

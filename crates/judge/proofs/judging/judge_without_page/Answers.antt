@@ -3,7 +3,7 @@
 -- Assumes nothing.
 use mathlib.Core.Path.{sym, ◌∙◌}
 use Rattle.forms.specs.SchemeMemory.{patterns_in, scheme_in}
-use Rattle.judge.specs.JudgementLaws.{judges_without}
+use Rattle.judge.proofs.JudgementLaws.{judges_without}
 use Rattle.judge.proofs.JudgeLaws.{verdict_refused, formed_well, verdict_claims}
 use Rattle.judge.proofs.judging.judge_without_page.Goals as goal
 

@@ -44,7 +44,7 @@ use Rattle.verdict.proofs.WitnessLaws.{half_length, shown_there, shown_length, w
 use Rattle.verdict.specs.declared.answer.Verdict.{Verdict}
 use Rattle.verdict.specs.declared.answer.Verdict.TheVariants.{Accepted, Refused}
 use Rattle.judge.specs.Judgement.{page_test, page_tests, verdict_on, page_after, EntryWitness, Judges}
-use Rattle.judge.specs.JudgementLaws.{told_answered, accepted_cells}
+use Rattle.judge.proofs.JudgementLaws.{told_answered, accepted_cells}
 
 -- No finding but that of test 11 writes.
 abbrev pub number_in : Fault → ℕ
