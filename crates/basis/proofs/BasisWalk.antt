@@ -107,7 +107,8 @@ module _ (set : List (List ℕ)) (lengths : List ℕ) (count : ℕ) where
           (ap (λ (m : ℕ). take m (get_or set i [])) cut ∙ take_again (get_or lengths i 0) (get_or set i []))
 
       next : keep (basic (patterns_of set lengths count)) (from set lengths count i) ≡
-          cond t (take (get_or lengths i 0) (get_or set i []) ∷ keep (basic (patterns_of set lengths count)) (from set lengths count (i + 1)))
+          cond t (take (get_or lengths i 0) (get_or set i []) ∷ keep (basic (patterns_of set lengths count))
+              (from set lengths count (i + 1)))
           (keep (basic (patterns_of set lengths count)) (from set lengths count (i + 1)))
       next = ap (keep (basic (patterns_of set lengths count))) (from_cons set lengths count i hr hl hn) ∙ rw said refl
 

@@ -100,7 +100,8 @@ module _ (P : List (List ℕ)) (p b : List ℕ) where
   unfolding shows_empty
   shows_not g e = rw e refl
 
-  pub shows_if_empty : (g : List ℕ) (live : Bool) → at_least b g ≡ true → live ≡ not (is_empty (cell P p g)) → not live ≡ shows_empty P p b g
+  pub shows_if_empty : (g : List ℕ) (live : Bool) → at_least b g ≡ true → live ≡ not (is_empty (cell P p g)) →
+      not live ≡ shows_empty P p b g
   unfolding shows_empty
   shows_if_empty g live above e = ap not e ∙ twice (is_empty (cell P p g)) ∙ rw above refl
     where

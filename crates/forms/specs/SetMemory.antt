@@ -7,7 +7,8 @@ use Rattle.forms.specs.declared.memory.Pattern.{Pattern}
 
 -- each row has the digits of a pattern
 abbrev pub HasDigits : List Pattern → List (List ℕ) → Type 0
-HasDigits items rows = (i : ℕ) → i < PATTERNS → (get_or rows i [] ≡ (get_or items i no_pattern).digits) × (length (get_or rows i []) ≡ DIGITS)
+HasDigits items rows = (i : ℕ) → i < PATTERNS → (get_or rows i [] ≡ (get_or items i no_pattern).digits) ×
+    (length (get_or rows i []) ≡ DIGITS)
 
 -- each number is the length of a pattern, as a byte
 abbrev pub HasLengths : List Pattern → List ℕ → Type 0

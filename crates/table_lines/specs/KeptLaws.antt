@@ -84,7 +84,8 @@ module _ (s : List ℕ) (b : ℕ) where
       stored n (held n (line k s)) (held_length n (line k s)) b ≡ held n (line k (s ++ (b ∷ [])))
   held_grown n k p q = stored_held n (line k s) b ∙ ap (held n) (sym (line_more k s b p q))
 
-  length_grown : (n k : ℕ) → ends_in s ≡ k → is_end b ≡ false → next_place n (held_length n (line k s)) ≡ held_length n (line k (s ++ (b ∷ [])))
+  length_grown : (n k : ℕ) → ends_in s ≡ k → is_end b ≡ false →
+      next_place n (held_length n (line k s)) ≡ held_length n (line k (s ++ (b ∷ [])))
   length_grown n k p q = next_held n (line k s) b ∙ ap (held_length n) (sym (line_more k s b p q))
 
   -- a buffer with the byte

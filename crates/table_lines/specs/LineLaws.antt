@@ -92,7 +92,8 @@ behind_last (suc k) [] b h = split (is_end b)
 behind_last (suc k) (x ∷ s) b h = split (is_end x) h (behind_last k s b) (behind_last (suc k) s b)
   where
     split : (c : Bool) → cond c (suc (ends_in s)) (ends_in s) < suc k → (ends_in s < k → behind k (s ++ (b ∷ [])) ≡ [])
-        → (ends_in s < suc k → behind (suc k) (s ++ (b ∷ [])) ≡ []) → cond c (behind k (s ++ (b ∷ []))) (behind (suc k) (s ++ (b ∷ []))) ≡ []
+        → (ends_in s < suc k → behind (suc k) (s ++ (b ∷ [])) ≡ []) →
+            cond c (behind k (s ++ (b ∷ []))) (behind (suc k) (s ++ (b ∷ []))) ≡ []
     split true g p q = p (omega arith)
     split false g p q = q g
 

@@ -7,7 +7,7 @@ use Rattle.table_reading.specs.declared.Reading.{Reading}
 use Rattle.table_lines.specs.Kept.{Memory, memory_of, kept_of}
 use Rattle.table_lines.specs.KeptWalk.{kept_on}
 
--- the error of a call that a signal interrupts, libc::EINTR
+-- the error of a call that a signal interrupts, EINTR
 abbrev pub interrupted : ℤ → Bool
 interrupted (pos n) = eqb n 4
 interrupted (negsuc n) = false

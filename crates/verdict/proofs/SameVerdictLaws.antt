@@ -43,7 +43,8 @@ behind l a b h = go (first_fault l) refl
     go (fault r i) e = fault_append l a e ∙ sym (fault_append l b e)
 
 -- A finding with a number above 9 is one of a well-formed scheme.
-pub formed_behind : (m : ℕ) (P : List (List ℕ)) (E : List EntryList) → 9 < number_found (first_fault (judge_tests_under m P E)) → WellFormed P E
+pub formed_behind : (m : ℕ) (P : List (List ℕ)) (E : List EntryList) → 9 < number_found (first_fault (judge_tests_under m P E)) →
+    WellFormed P E
 formed_behind m P E high =
     let (p, s) = rest_found (pattern_tests P) (scheme_tests E ++ claim_tests_under m P E) (patterns_nine P) high in
     let (f, c) = rest_found (scheme_tests E) (claim_tests_under m P E) (scheme_nine E) (rw s at high) in
@@ -138,7 +139,8 @@ finding_answered Clean n = refl
 finding_answered (At r i) n = refl
 
 -- fewer cells are compared under a smaller m
-with_most : (m n : ℕ) → m ≤ n → (p : List ℕ) (B : List (List ℕ)) (rule : Does) → compared_with_under m p B rule ≤ compared_with_under n p B rule
+with_most : (m n : ℕ) → m ≤ n → (p : List ℕ) (B : List (List ℕ)) (rule : Does) →
+    compared_with_under m p B rule ≤ compared_with_under n p B rule
 unfolding compared_with_under
 with_most m n h p B expands = omega arith
 with_most m n h p B (deletes R) =

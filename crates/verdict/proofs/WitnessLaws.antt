@@ -273,7 +273,8 @@ module _ (m : ℕ) (P : List (List ℕ)) (each_perm : (β : List ℕ) → Memᴰ
         let (β, m, e, s) = lost_candidate Q p R perm apart B g spaced.0 spaced.2 clean_below σ r.perm r.size
         (sym (basis_avoids P each_perm (built (without R p) g σ)) ∙ r.avoiding)
         (sym (basis_avoids P each_perm (built p g σ)) ∙ r.fails) in
-        mathlib.Core.List.Memᴰ.cast (q ∙ ap (built p g) s) (mathlib.Core.List.Memᴰ.map (λ (γ : List ℕ). built p g (rest_of γ (total g))) (keep_in (violates Q p R g) m e))
+        mathlib.Core.List.Memᴰ.cast (q ∙ ap (built p g) s)
+            (mathlib.Core.List.Memᴰ.map (λ (γ : List ℕ). built p g (rest_of γ (total g))) (keep_in (violates Q p R g) m e))
 
     among_lost : (v : List ℕ) → Memᴰ v (lost_words Q p R g) → IsLost P p R g v
     unfolding lost_words
@@ -287,7 +288,8 @@ module _ (m : ℕ) (P : List (List ℕ)) (each_perm : (β : List ℕ) → Memᴰ
     unfolding violated lost_words
     some_word =
         let (β, m, e) = any_out (violates Q p R g) Q at_compared.1 in
-        (built p g (rest_of β (total g)), mathlib.Core.List.Memᴰ.map (λ (γ : List ℕ). built p g (rest_of γ (total g))) (keep_in (violates Q p R g) m e))
+        (built p g (rest_of β (total g)), mathlib.Core.List.Memᴰ.map (λ (γ : List ℕ). built p g (rest_of γ (total g)))
+            (keep_in (violates Q p R g) m e))
 
     least_lost : (l : List (List ℕ)) → lost_words Q p R g ≡ l → first (lost P p R g) (perms (length p + total g)) ≡ least_of none l
     unfolding least_of

@@ -57,7 +57,8 @@ pub two_faults : (a b : Finding) → fault_of (first_fault (a ∷ b ∷ [])) ≡
 two_faults a b = faults_cons a (b ∷ []) ∙ ap (or_else (fault_of a)) (ap fault_of (single b))
 
 pub scheme_parts : (E : List EntryList) → fault_of (first_fault (scheme_tests E)) ≡
-    or_else (fault_of (first_fault (size_tests E))) (or_else (fault_of (first_fault (entry_tests E))) (fault_of (first_fault (link_tests E))))
+    or_else (fault_of (first_fault (size_tests E)))
+        (or_else (fault_of (first_fault (entry_tests E))) (fault_of (first_fault (link_tests E))))
 scheme_parts E =
     faults_append (size_tests E) (entry_tests E ++ link_tests E) ∙
     ap (or_else (fault_of (first_fault (size_tests E)))) (faults_append (entry_tests E) (link_tests E))
@@ -68,7 +69,8 @@ module _ (E : List EntryList) (large : Fault) (a : large ≡ fault_of (first_fau
   scheme_by_size h = scheme_parts E ∙ or_else_fault (fault_of (first_fault (size_tests E))) _ (ap faulty (sym a) ∙ h)
 
   module _ (none : faulty large ≡ false) (entry : Fault) (b : entry ≡ fault_of (first_fault (entry_tests E))) where
-    rest : fault_of (first_fault (scheme_tests E)) ≡ or_else (fault_of (first_fault (entry_tests E))) (fault_of (first_fault (link_tests E)))
+    rest : fault_of (first_fault (scheme_tests E)) ≡ or_else (fault_of (first_fault (entry_tests E)))
+        (fault_of (first_fault (link_tests E)))
     rest = scheme_parts E ∙ or_else_clean (fault_of (first_fault (size_tests E))) _ (ap faulty (sym a) ∙ none)
 
     -- the tests of each entry decide
@@ -98,5 +100,6 @@ linked_of_clean s h a b =
     let large = clean_second (test Oversize (ltb ENTRIES (length E))) (first_at Oversize large_entry 0 E)
     (clean_of (first_fault (size_tests E)) a) in
     let ends =
-    clean_ends (permutation_test E) (twin_test E) (root_test E) (width_test E) (position_test E) (clean_of (first_fault (entry_tests E)) b) in
+    clean_ends (permutation_test E) (twin_test E) (root_test E) (width_test E) (position_test E)
+        (clean_of (first_fault (entry_tests E)) b) in
     linked_clean s h.few large ends.0 ends.1

@@ -1,16 +1,10 @@
 -- `text_writer::writing::put_deleted` meets its contract: an opening brace, the first position, the
 -- further ones and a closing brace.
 -- Assumes nothing.
-use Prim.Native.Nat.{◌-◌}
 use mathlib.Core.Path.{◌≡◌, refl}
-use mathlib.Core.List.{[], ◌∷◌, ◌++◌}
 use native.Mathlib.Omega.{arith}
 use lib.ListN.{length}
-use Rattle.forms.specs.SchemeList.{deletes}
-use Rattle.forms.specs.SchemeMemory.{positions_in}
-use Rattle.text_grammar.specs.Spelling.{rule_pieces}
 use Rattle.text_page.specs.PageLaws.{start_as, step, finish_by, room_next, room_last}
-use Rattle.text_writer.specs.Writable.{text, further, number}
 use Rattle.text_writer.specs.WrittenLaws.{text_deletes}
 use Rattle.text_writer.proofs.writing.put_deleted.Goals as goal
 

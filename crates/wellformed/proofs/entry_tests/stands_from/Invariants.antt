@@ -9,7 +9,8 @@ use Rattle.forms.specs.SchemeMemory.{gap_at}
 use Rattle.wellformed.proofs.entry_tests.stands_from.Given as goal
 
 abbrev pub invariant-loop-j : goal.invariant-loop-j
-invariant-loop-j l = (l.j ≤ l.n) × (any (same (gap_in l.b)) (from (gap_at l.e) l.n l.start) ≡ any (same (gap_in l.b)) (from (gap_at l.e) l.n l.j))
+invariant-loop-j l = (l.j ≤ l.n) ×
+    (any (same (gap_in l.b)) (from (gap_at l.e) l.n l.start) ≡ any (same (gap_in l.b)) (from (gap_at l.e) l.n l.j))
 
 abbrev pub decreases-loop-j : goal.decreases-loop-j
 decreases-loop-j l = l.n - l.j
