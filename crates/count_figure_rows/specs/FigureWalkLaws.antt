@@ -1,6 +1,6 @@
 -- A step of counting by inversions is the walk's step at its cell, so steps at the cells of an
 -- entry are a part of the walk.
-use Rattle.std.specs.Prelude.{ℕ, ◌-◌, ◌≤◌, ◌≡◌, refl, Bool, true, false, cond, length, eqb}
+use Rattle.std.specs.Prelude.{ℕ, ◌-◌, ◌≤◌, ◌≡◌, refl, Bool, true, false, cond, eqb}
 use Rattle.std.proofs.Common.{arith, sym, ap, ap₂, ◌∙◌}
 use mathlib.Core.List.{List, map, map-map, Memᴰ}
 use Rattle.word.specs.Ceilings.{REFINED}

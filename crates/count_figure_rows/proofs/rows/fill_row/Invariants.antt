@@ -1,0 +1,19 @@
+-- The invariant and the measure of the loop of `count_figure_rows::rows::fill_row`.
+use mathlib.Core.Path.{◌≡◌}
+use lib.ListN.{length}
+use Rattle.word.specs.Inversions.{figure_count}
+use Rattle.forms.specs.SchemeMemory.{scheme_in}
+use Rattle.count_plan.specs.Layout.{rows_of}
+use Rattle.count_cursor.specs.RowLaws.{Going, weight}
+use Rattle.count_entry.specs.Frames.{Framed}
+use Rattle.count_figures.specs.Figures.{figures_makes, several}
+use Rattle.count_figure_rows.proofs.rows.fill_row.Given as goal
+
+abbrev pub invariant-loop-c : goal.invariant-loop-c
+invariant-loop-c l =
+    (length l.table ≡ length l.initial.table) ×
+    ((o : Framed l.sheet l.places l.f) → Going (several (figure_count l.f.last)) (figures_makes o.of.P) (rows_of (scheme_in o.of.s))
+    l.f.last o.of.s l.j l.c l.initial.table l.table)
+
+abbrev pub decreases-loop-c : goal.decreases-loop-c
+decreases-loop-c l = weight l.sheet l.j l.c
