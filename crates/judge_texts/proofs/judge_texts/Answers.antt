@@ -24,9 +24,7 @@ use Rattle.judge_texts.specs.TextJudgement.{JudgesTexts}
 use Rattle.judge_texts.specs.TextVerdictLaws.{texts_formed}
 use Rattle.judge_texts.specs.TextPageLaws.{texts_short, texts_refused, texts_judged}
 use Rattle.judge.proofs.LossLaws.{shows_short}
-use borrow.Author.Rules.{rules}
-use Rattle.judge_texts.proofs.judge_texts.Statement.{statement}
-use Rattle.judge_texts.proofs.judge_texts.Tie as tie
+use Rattle.judge_texts.proofs.judge_texts.Goals as goal
 
 -- the answers of reading are those of the definition
 refused_by : (s t : List ℕ) (p : PatternsRead) (q : SchemeRead) → (p ≡ patterns_answer s) × ReadsPatterns s p →
@@ -56,82 +54,57 @@ judged-by s t p q (is, reading) (is_scheme, reading-scheme) f found h before aft
     (k ∙ ap₂ (λ (x : PatternsRead) (y : SchemeRead). overlay 0 (bytes_shown (patterns_in x.patterns) (scheme_in y.scheme)
     (fault_of (first_fault (claim_tests (patterns_in x.patterns) (scheme_in y.scheme))))) before) is is_scheme)
 
-returns : tie.Need-returns
-returns c =
-    let a = c.before.before.before.before.args in
+pub returns-then-page-lt-PAGE : goal.returns-then-page-lt-PAGE
+returns-then-page-lt-PAGE c =
+    let a = c.args in
     texts_short a.patterns.now a.scheme.now a.page.now (omega arith)
 
-returns-2 : tie.Need-returns-2
-returns-2 c =
-    let tested = c.before.before in
-    let f = tested.before.earlier in
-    let q = tested.before.before.read-scheme in
-    let p = tested.before.before.before.read-patterns in
-    let start = tested.before.before.before.before.before.before.before.before in
-    let a = start.args in
+pub returns-then-is_fault : goal.returns-then-is_fault
+returns-then-is_fault c =
+    let f = c.earlier-unread in
+    let q = c.read_scheme-s in
+    let p = c.read_patterns-p in
+    let a = c.args in
     refused_by a.patterns.now a.scheme.now p.result q.result p.ensures q.ensures f.result f.ensures
-    (sym tested.is-fault.ensures ∙ c.before.if2.true) a.page.now c.answer.result (omega arith) c.answer.ensures
+    (sym c.is_fault.ensures ∙ c.if-is_fault.true) a.page.now c.answer.result (omega arith) c.answer.ensures
 
--- where reading finds nothing, the scheme is well-formed
-formed : (o : tie.Else2) →
-    let q = o.before.before.before.read-scheme in
-    let p = o.before.before.before.before.read-patterns in
-    WellFormed (patterns_in p.result.patterns) (scheme_in q.result.scheme)
-formed o =
-    let tested = o.before in
-    let f = tested.before.earlier in
-    let q = tested.before.before.read-scheme in
-    let p = tested.before.before.before.read-patterns in
+pub judge_claims-judged-requires : goal.judge_claims-judged-requires
+judge_claims-judged-requires c =
+    let formed : let q = c.read_scheme-s in let p = c.read_patterns-p in WellFormed (patterns_in p.result.patterns) (scheme_in q.result.scheme) =
+    let f = c.earlier-unread in
+    let q = c.read_scheme-s in
+    let p = c.read_patterns-p in
     texts_formed _ _ p.result p.ensures.0 p.ensures.1 q.result q.ensures.0 q.ensures.1 f.result f.ensures
-    (sym tested.is-fault.ensures ∙ o.if2.false)
+    (sym c.is_fault.ensures ∙ c.if-is_fault.false) in
+    formed
 
-judge-claims-requires : tie.Need-judge-claims-requires
-judge-claims-requires c κs = formed c.before.before
-
-show-lost-requires : tie.Need-show-lost-requires
-show-lost-requires c κs =
-    let at-claims = c.before.before in
-    let clean = at-claims.before.before.before in
-    let q = clean.before.before.before.read-scheme in
-    let p = clean.before.before.before.before.read-patterns in
+pub show_lost-requires : goal.show_lost-requires
+show_lost-requires c =
+    let formed : let q = c.read_scheme-s in let p = c.read_patterns-p in WellFormed (patterns_in p.result.patterns) (scheme_in q.result.scheme) =
+    let f = c.earlier-unread in
+    let q = c.read_scheme-s in
+    let p = c.read_patterns-p in
+    texts_formed _ _ p.result p.ensures.0 p.ensures.1 q.result q.ensures.0 q.ensures.1 f.result f.ensures
+    (sym c.is_fault.ensures ∙ c.if-is_fault.false) in
+    let q = c.read_scheme-s in
+    let p = c.read_patterns-p in
     let P = patterns_in p.result.patterns in
     let E = scheme_in q.result.scheme in (
-      (formed clean).patterns,
-      shows_short (word_shown P E (fault_of (first_fault (claim_tests P E)))) at-claims.judge-claims.result.word
-          at-claims.judge-claims.ensures.shows,
+      (formed).patterns,
+      shows_short (word_shown P E (fault_of (first_fault (claim_tests P E)))) c.judge_claims-judged.result.word
+          c.judge_claims-judged.ensures.shows,
     )
 
-returns-3 : tie.Need-returns-3
-returns-3 c =
-    let at-show = c.before.before in
-    let at-claims = at-show.before.before.before in
-    let clean = at-claims.before.before.before in
-    let tested = clean.before in
-    let f = tested.before.earlier in
-    let q = tested.before.before.read-scheme in
-    let p = tested.before.before.before.read-patterns in
-    let start = tested.before.before.before.before.before.before.before.before in
-    let a = start.args in
+pub returns : goal.returns
+returns c =
+    let f = c.earlier-unread in
+    let q = c.read_scheme-s in
+    let p = c.read_patterns-p in
+    let a = c.args in
     let P = patterns_in p.result.patterns in
     let E = scheme_in q.result.scheme in
-    let judged = at-claims.judge-claims.ensures in
+    let judged = c.judge_claims-judged.ensures in
     judged-by a.patterns.now a.scheme.now p.result q.result p.ensures q.ensures f.result f.ensures
-    (sym tested.is-fault.ensures ∙ clean.if2.false) a.page.now _ at-claims.judge-claims.result.verdict
-    (omega (arith, tested.before.before.before.before.if1.false)) judged.verdict
-    (at-show.show-lost.ensures (word_shown P E (fault_of (first_fault (claim_tests P E)))) judged.shows).page
-
-pub judge-texts-spec : {M : Type 1} → statement M
-judge-texts-spec =
-    tie.close
-    (tie.spec
-    returns
-    (λ c κs. search rules)
-    (λ c κs. search rules)
-    (λ c κs. search rules)
-    (λ c κs. search rules)
-    (λ c κs. search rules)
-    returns-2
-    judge-claims-requires
-    show-lost-requires
-    (λ c. search rules)
-    returns-3)
+    (sym c.is_fault.ensures ∙ c.if-is_fault.false) a.page.now _ c.judge_claims-judged.result.verdict
+    (omega (arith, c.if-page-lt-PAGE.false)) judged.verdict
+    (c.show_lost.ensures (word_shown P E (fault_of (first_fault (claim_tests P E)))) judged.shows).page
