@@ -1,2 +1,3 @@
 -- The laws of a measured table.
 pub mod MeasureLaws
+pub mod CountLaws

@@ -1,4 +1,3 @@
 -- What counting promises, and the laws of it.
 pub mod Counting
 pub mod Measuring
-pub mod CountLaws

@@ -24,7 +24,7 @@ use Rattle.verdict.specs.VerdictLaws.{accepted_exactly}
 use Rattle.verdict.specs.ValueLaws.{count_avoiders}
 use Rattle.count_figures.specs.FigureSizeLaws.{count_is_lem}
 use Rattle.count_answer.specs.Counting.{table_after}
-use Rattle.count_answer.specs.CountLaws.{refused_table, accepted_judged, first_refuses, then_second}
+use Rattle.count_answer.proofs.CountLaws.{refused_table, accepted_judged, first_refuses, then_second}
 use Rattle.count_figure_answer.specs.FigureCounting.{figure_need, figure_tests, inversion_tests, figured_or, told_figured}
 use Rattle.count_figure_answer.specs.FigureCounting.{results_after, Promised, CountsByInversions}
 use Rattle.count_figure_answer.specs.declared.answer.Figured.{Figured}

@@ -36,7 +36,7 @@ use Rattle.judge_texts.specs.TextJudgement.{verdict_read, verdict_of_texts, Text
 use Rattle.judge_texts.specs.TextVerdictLaws.{set_clean, set_list, scheme_clean, scheme_list}
 use Rattle.judge_texts.specs.declared.TextsJudged.{TextsJudged}
 use Rattle.count_answer.specs.Counting.{fault_in}
-use Rattle.count_answer.specs.CountLaws.{clean_accepts, table_serves}
+use Rattle.count_answer.proofs.CountLaws.{clean_accepts, table_serves}
 use Rattle.table_lines.specs.Lines.{Three, three_lines, number_in}
 use Rattle.table_lines.specs.Kept.{set_room, scheme_room, last_room, Memory, kept_of, is_complete, held_lines, three_in, as_number}
 use Rattle.table_lines.specs.LastNumberLaws.{number_front}

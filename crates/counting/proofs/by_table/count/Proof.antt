@@ -8,7 +8,7 @@ use Rattle.scheme.specs.ProperLaws.{proper}
 use Rattle.verdict.specs.Value.{count_of}
 use Rattle.count_plan.specs.Layout.{need_of}
 use Rattle.count_rows.specs.Run.{cleared}
-use Rattle.count_answer.specs.CountLaws.{verdict_fault, clean_accepts, refused_judging, refused_n_or_table, served, done}
+use Rattle.count_answer.proofs.CountLaws.{verdict_fault, clean_accepts, refused_judging, refused_n_or_table, served, done}
 use Rattle.count_answer.proofs.MeasureLaws.{given_of, last_is}
 use borrow.Author.Rules.{rules}
 use Rattle.counting.proofs.by_table.count.Statement.{statement}

@@ -9,7 +9,7 @@ use Rattle.forms.specs.declared.memory.Fault.{Fault}
 use Rattle.count_plan.specs.Layout.{need_of}
 use Rattle.count_rows.specs.Run.{cleared, Counts}
 use Rattle.count_answer.specs.Counting.{table_after}
-use Rattle.count_answer.specs.CountLaws.{table_good, refused_table}
+use Rattle.count_answer.proofs.CountLaws.{table_good, refused_table}
 use Rattle.count_answer.proofs.MeasureLaws.{given_of, last_is}
 use lib.ListN.{length}
 use borrow.Author.Rules.{rules}

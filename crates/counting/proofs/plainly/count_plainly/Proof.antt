@@ -3,7 +3,7 @@
 use mathlib.Core.Path.{sym, ◌∙◌}
 use Rattle.forms.specs.SchemeMemory.{patterns_in, scheme_in}
 use Rattle.wellformed.proofs.OrderLaws.{not_faulty}
-use Rattle.count_answer.specs.CountLaws.{verdict_fault, clean_accepts, length_good, plain_refused, plain_long, plain_done}
+use Rattle.count_answer.proofs.CountLaws.{verdict_fault, clean_accepts, length_good, plain_refused, plain_long, plain_done}
 use borrow.Author.Rules.{rules}
 use Rattle.counting.proofs.plainly.count_plainly.Statement.{statement}
 use Rattle.counting.proofs.plainly.count_plainly.Tie as tie

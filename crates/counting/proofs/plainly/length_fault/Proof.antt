@@ -2,7 +2,7 @@
 -- Assumes nothing.
 use mathlib.Core.Path.{sym}
 use native.Mathlib.Omega.{arith}
-use Rattle.count_answer.specs.CountLaws.{length_serves, length_long}
+use Rattle.count_answer.proofs.CountLaws.{length_serves, length_long}
 use Rattle.counting.proofs.plainly.length_fault.Statement.{statement}
 use Rattle.counting.proofs.plainly.length_fault.Tie as tie
 

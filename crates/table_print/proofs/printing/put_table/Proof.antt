@@ -11,7 +11,7 @@ use Rattle.forms.specs.declared.memory.Fault.{Fault}
 use Rattle.text_page.specs.PageLaws.{writes_as}
 use Rattle.wellformed.proofs.OrderLaws.{not_faulty}
 use Rattle.verdict.specs.Value.{count_of}
-use Rattle.count_answer.specs.CountLaws.{table_good}
+use Rattle.count_answer.proofs.CountLaws.{table_good}
 use Rattle.table_text.specs.Printed.{bfile_text}
 use Rattle.table_print.specs.TableText.{printed_or, length_text}
 use Rattle.table_print.specs.PrintLaws.{counts_taken, only_line}
