@@ -18,7 +18,7 @@ use Rattle.judge_texts.specs.TextJudgement.{TextsTrue}
 use Rattle.judge_texts.specs.TextVerdictLaws.{set_clean, set_list, scheme_clean, scheme_list}
 use Rattle.count_plan.specs.Layout.{need_of}
 use Rattle.count_answer.specs.Counting.{counted_or, table_after, Counts, PlainCounts}
-use Rattle.count_answer.specs.CountLaws.{refused_count, refused_table}
+use Rattle.count_answer.proofs.CountLaws.{refused_count, refused_table}
 use Rattle.count_answer.specs.declared.answer.Counted.{Counted}
 use Rattle.twin_exports.specs.TextCounts.{code_of, count_in, CountsTexts, PlainTexts}
 
