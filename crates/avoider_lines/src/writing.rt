@@ -47,7 +47,13 @@ pub fn write_avoiders(output: Stdout, patterns: Patterns, n: usize) -> Printed
 }
 
 // Writes the line of an avoider: that with the index `lines` of the list.
-fn write_line(output: Stdout, word: [u8; WORD], patterns: Patterns, n: usize, lines: u64) -> Result<()>
+fn write_line(
+    output: Stdout,
+    word: [u8; WORD],
+    patterns: Patterns,
+    n: usize,
+    lines: u64,
+) -> Result<()>
     requires { take n word ≡ get_or (listed (patterns_in patterns) n) lines [] }
 {
     let mut page = [0u8; LINE];
@@ -58,7 +64,13 @@ fn write_line(output: Stdout, word: [u8; WORD], patterns: Patterns, n: usize, li
 // Writes bytes to standard output. No contract of the library says what is written, so this asks
 // that they are the line of the avoider with the index `lines`; the other parameters stand here for
 // that alone.
-fn write_bytes(mut output: Stdout, bytes: &[u8], patterns: Patterns, n: usize, lines: u64) -> Result<()>
+fn write_bytes(
+    mut output: Stdout,
+    bytes: &[u8],
+    patterns: Patterns,
+    n: usize,
+    lines: u64,
+) -> Result<()>
     requires { bytes.now ≡ line_of (get_or (listed (patterns_in patterns) n) lines []) }
 {
     output.write_all(bytes)
