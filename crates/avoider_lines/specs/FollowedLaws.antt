@@ -57,7 +57,8 @@ module _ (P : List (List ℕ)) (word : List ℕ) (n count : ℕ) (all : length w
       ap (λ (m : ℕ). take m after) size ∙ take_least after n in
       ap (λ (x : Bool). cond x (some (take n after)) none) g ∙
       ap (λ (v : List ℕ). cond (is_given r) (some v) none) (sym same) ∙
-      shown_listed (first_fault (next_tests P (take count word) (length page))) (next_avoider P (take count word)) (length (take count word))
+      shown_listed (first_fault (next_tests P (take count word) (length page))) (next_avoider P (take count word))
+      (length (take count word))
       page after r l.lists ∙
       ap₂ (λ (v : List ℕ) (m : ℕ). unless_fault (first_fault (next_tests P v m)) (next_avoider P v)) few_word e
 

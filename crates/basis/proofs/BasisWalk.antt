@@ -108,7 +108,7 @@ module _ (set : List (List ℕ)) (lengths : List ℕ) (count : ℕ) where
 
       next : keep (basic (patterns_of set lengths count)) (from set lengths count i) ≡
           cond t (take (get_or lengths i 0) (get_or set i []) ∷ keep (basic (patterns_of set lengths count))
-              (from set lengths count (i + 1)))
+          (from set lengths count (i + 1)))
           (keep (basic (patterns_of set lengths count)) (from set lengths count (i + 1)))
       next = ap (keep (basic (patterns_of set lengths count))) (from_cons set lengths count i hr hl hn) ∙ rw said refl
 

@@ -48,7 +48,7 @@ ascends_same [] (v ∷ l) a b f g = absurd (mathlib.Core.List.Memᴰ.not-nil (g 
 ascends_same (u ∷ k) [] a b f g = absurd (mathlib.Core.List.Memᴰ.not-nil (f u (mathlib.Core.List.Memᴰ.head refl)))
 ascends_same (u ∷ k) (v ∷ l) a b f g =
     let e : u ≡ v = heads (mathlib.Core.List.Memᴰ.cases_cons (f u (mathlib.Core.List.Memᴰ.head refl)))
-        (mathlib.Core.List.Memᴰ.cases_cons (g v (mathlib.Core.List.Memᴰ.head refl))) in
+    (mathlib.Core.List.Memᴰ.cases_cons (g v (mathlib.Core.List.Memᴰ.head refl))) in
     ap₂ ◌∷◌ e (ascends_same k l (ascends_rest u k a) (ascends_rest v l b) (ascends_tail u v k l a e f) (ascends_tail v u l k b (sym e) g))
   where
     heads : (u ≡ v) ⊎ Memᴰ u l → (v ≡ u) ⊎ Memᴰ v k → u ≡ v

@@ -255,7 +255,7 @@ module _ (p g w : List ℕ) (e : is_perm p ≡ true) (f : is_perm w ≡ true) (n
       lift_onto g (length p) y l b.0 (omega arith)
       (λ (a : ℕ) (i : 1 ≤ a) (j : a ≤ length p) (q : y ≡ val g a).
       let k : Memᴰ y (map (val g) p) =
-          mathlib.Core.List.Memᴰ.cast q (mathlib.Core.List.Memᴰ.map (val g) (has_out a p (perm_has p a e i j))) in
+      mathlib.Core.List.Memᴰ.cast q (mathlib.Core.List.Memᴰ.map (val g) (has_out a p (perm_has p a e i j))) in
       (perm_parts (length p) w f).2 y (rw front k) m)
 
   pub rest_perm : is_perm (reduce (drop (length p) w)) ≡ true

@@ -100,7 +100,7 @@ module _ (f : ℕ → ℕ) where
           total (map f (without_from R (suc i) w)) ≡ f (get_or w j 0) + total (map f (without_from ((suc i + j) ∷ R) (suc i) w)) →
           total (map f (cond b (without_from R (suc i) w) (x ∷ without_from R (suc i) w)))
           ≡ f (get_or w j 0) + total
-              (map f (cond b (without_from ((suc i + j) ∷ R) (suc i) w) (x ∷ without_from ((suc i + j) ∷ R) (suc i) w)))
+          (map f (cond b (without_from ((suc i + j) ∷ R) (suc i) w) (x ∷ without_from ((suc i + j) ∷ R) (suc i) w)))
       go true q = q
       go false q = omega arith
 

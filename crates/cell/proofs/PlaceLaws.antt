@@ -172,7 +172,7 @@ copy_in h u a g w i e =
         sym (get_d_map (level g) a k ak) ∙ ap (λ (l : List ℕ). get_or l k 0) e ∙ get_d_map (under u) h k hk in
         rw (get_d_map (val g) a k ak, get_d_map (lift g) (map (under u) u) j rj, get_d_map (under u) u j hj)
         (sym (under_against u (get_or h k 0) (get_or u j 0) (get_or_mem u j 0 hj)) ∙
-            ap (λ (n : ℕ). ltb n (under u (get_or u j 0))) (sym need)
+        ap (λ (n : ℕ). ltb n (under u (get_or u j 0))) (sym need)
         ∙ sym (val_lift g (get_or a k 0) (under u (get_or u j 0)) (w (get_or a k 0) (get_or_mem a k 0 ak))))
 
 -- what follows in isomorphic words after as many entries

@@ -62,8 +62,14 @@ module _ (a b : List ℕ) (i : ℕ) where
     unfolding before
     before_same e =
         let low : get_or b i 0 ≤ get_or a i 0 = omega arith in
-        rw (add-one i, drop-cons a i 0 h, drop-cons b i 0 l, eq-eqb (get_or a i 0) (get_or b i 0) e, le-ltb (get_or a i 0) (get_or b i 0)
-            low)
+        rw (
+          add-one i,
+          drop-cons a i 0 h,
+          drop-cons b i 0 l,
+          eq-eqb (get_or a i 0) (get_or b i 0) e,
+          le-ltb (get_or a i 0) (get_or b i 0)
+              low,
+        )
         refl
 
 -- the lesser of two words that may be missing

@@ -133,7 +133,7 @@ module _ (prefix positions : List ℕ) (k n j : ℕ) (fits : k ≤ length prefix
   -- its value is flagged
   pub flag_next : (a : List ℕ) (v : ℕ) → k < length a →
       flagged (set a (get_or prefix (get_or positions j 0 - 1) 0) 1) v || has v
-          (map (entry (take k prefix)) (drop (j + 1) (take n positions)))
+      (map (entry (take k prefix)) (drop (j + 1) (take n positions)))
       ≡ flagged a v || has v (map (entry (take k prefix)) (drop j (take n positions)))
   flag_next a v l =
       rw (part_cons positions n j h room, ← position_value)

@@ -115,4 +115,4 @@ target_test E = first_at NoTarget (λ e. lacks_target (prefixes E) e.prefix e.ru
 abbrev pub scheme_tests : List EntryList → List Finding
 scheme_tests E =
     count_test E ∷ size_test E ∷ permutation_test E ∷ twin_test E ∷ root_test E ∷ width_test E ∷ position_test E ∷ child_test
-        E ∷ target_test E ∷ []
+    E ∷ target_test E ∷ []

@@ -42,7 +42,7 @@ module _ (s : Patterns) where
       fault_of (first_fault (pattern_tests (patterns_in s))) ≡
       or_else (fault_of (first_at Oversize (λ β. ltb DIGITS (length β)) 0 (patterns_in s)))
       (or_else (fault_of (first_at NoPermutation (λ β. not (is_pattern β)) 0 (patterns_in s)))
-          (fault_of (first_twin listed 0 [] (patterns_in s))))
+      (fault_of (first_twin listed 0 [] (patterns_in s))))
   few_patterns h = rw (length_items (place_in s) s.count, le-ltb PATTERNS s.count h)
       (three_faults (first_at Oversize (λ β. ltb DIGITS (length β)) 0 (patterns_in s))
       (first_at NoPermutation (λ β. not (is_pattern β)) 0 (patterns_in s)) (first_twin listed 0 [] (patterns_in s)))

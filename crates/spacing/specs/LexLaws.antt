@@ -45,7 +45,7 @@ above_all k x (suc t) y g a l s = go (below_or_not (suc x) y) (λ (b : suc x < y
         let u : total g ≡ t = omega arith in
         let there : Memᴰ g (vectors k t) = rw (← l, ← u) (vectors_all g) in
         let block : Memᴰ (y ∷ g) (map (λ g. suc x ∷ g) (vectors k t)) =
-            rw e (mathlib.Core.List.Memᴰ.map (λ (g : List ℕ). suc x ∷ g) there) in
+        rw e (mathlib.Core.List.Memᴰ.map (λ (g : List ℕ). suc x ∷ g) there) in
         mathlib.Core.List.Memᴰ.append_left (above k (suc x) t) block
 
 above_ascend : (k x t : ℕ) → ascends (above k x t) ≡ true
@@ -90,7 +90,7 @@ later_all (x ∷ v) (y ∷ h) l s b = go (ltb x y) refl b (later_all v h (omega 
         Memᴰ (y ∷ h) (map (λ g. x ∷ g) (later v) ++ above (length v) x (total v))
     go true c b ih =
         mathlib.Core.List.Memᴰ.append_right (map (λ g. x ∷ g) (later v))
-            (above_all (length v) x (total v) y h (ltb-true x y c) (omega arith) (omega arith))
+        (above_all (length v) x (total v) y h (ltb-true x y c) (omega arith) (omega arith))
     go false c b ih =
         let e : x ≡ y = eqb-true x y (and_left (eqb x y) (before v h) b) in
         let block : Memᴰ (y ∷ h) (map (λ g. x ∷ g) (later v)) =

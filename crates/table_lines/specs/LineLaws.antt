@@ -93,7 +93,7 @@ behind_last (suc k) (x ∷ s) b h = split (is_end x) h (behind_last k s b) (behi
   where
     split : (c : Bool) → cond c (suc (ends_in s)) (ends_in s) < suc k → (ends_in s < k → behind k (s ++ (b ∷ [])) ≡ [])
         → (ends_in s < suc k → behind (suc k) (s ++ (b ∷ [])) ≡ []) →
-            cond c (behind k (s ++ (b ∷ []))) (behind (suc k) (s ++ (b ∷ []))) ≡ []
+        cond c (behind k (s ++ (b ∷ []))) (behind (suc k) (s ++ (b ∷ []))) ≡ []
     split true g p q = p (omega arith)
     split false g p q = q g
 

@@ -274,7 +274,7 @@ module _ (m : ℕ) (P : List (List ℕ)) (each_perm : (β : List ℕ) → Memᴰ
         (sym (basis_avoids P each_perm (built (without R p) g σ)) ∙ r.avoiding)
         (sym (basis_avoids P each_perm (built p g σ)) ∙ r.fails) in
         mathlib.Core.List.Memᴰ.cast (q ∙ ap (built p g) s)
-            (mathlib.Core.List.Memᴰ.map (λ (γ : List ℕ). built p g (rest_of γ (total g))) (keep_in (violates Q p R g) m e))
+        (mathlib.Core.List.Memᴰ.map (λ (γ : List ℕ). built p g (rest_of γ (total g))) (keep_in (violates Q p R g) m e))
 
     among_lost : (v : List ℕ) → Memᴰ v (lost_words Q p R g) → IsLost P p R g v
     unfolding lost_words
@@ -287,9 +287,11 @@ module _ (m : ℕ) (P : List (List ℕ)) (each_perm : (β : List ℕ) → Memᴰ
     some_word : (w : List ℕ) × Memᴰ w (lost_words Q p R g)
     unfolding violated lost_words
     some_word =
-        let (β, m, e) = any_out (violates Q p R g) Q at_compared.1 in
-        (built p g (rest_of β (total g)), mathlib.Core.List.Memᴰ.map (λ (γ : List ℕ). built p g (rest_of γ (total g)))
-            (keep_in (violates Q p R g) m e))
+        let (β, m, e) = any_out (violates Q p R g) Q at_compared.1 in (
+          built p g (rest_of β (total g)),
+          mathlib.Core.List.Memᴰ.map (λ (γ : List ℕ). built p g (rest_of γ (total g)))
+              (keep_in (violates Q p R g) m e),
+        )
 
     least_lost : (l : List (List ℕ)) → lost_words Q p R g ≡ l → first (lost P p R g) (perms (length p + total g)) ≡ least_of none l
     unfolding least_of

@@ -58,7 +58,7 @@ two_faults a b = faults_cons a (b ∷ []) ∙ ap (or_else (fault_of a)) (ap faul
 
 pub scheme_parts : (E : List EntryList) → fault_of (first_fault (scheme_tests E)) ≡
     or_else (fault_of (first_fault (size_tests E)))
-        (or_else (fault_of (first_fault (entry_tests E))) (fault_of (first_fault (link_tests E))))
+    (or_else (fault_of (first_fault (entry_tests E))) (fault_of (first_fault (link_tests E))))
 scheme_parts E =
     faults_append (size_tests E) (entry_tests E ++ link_tests E) ∙
     ap (or_else (fault_of (first_fault (size_tests E)))) (faults_append (entry_tests E) (link_tests E))
@@ -101,5 +101,5 @@ linked_of_clean s h a b =
     (clean_of (first_fault (size_tests E)) a) in
     let ends =
     clean_ends (permutation_test E) (twin_test E) (root_test E) (width_test E) (position_test E)
-        (clean_of (first_fault (entry_tests E)) b) in
+    (clean_of (first_fault (entry_tests E)) b) in
     linked_clean s h.few large ends.0 ends.1

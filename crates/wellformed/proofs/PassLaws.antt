@@ -101,7 +101,7 @@ module _ (s : Scheme) (f : EntryFaults) (i : ℕ) (w : Findings s f i) where
     where
       first : (q : Refusal) (t : EntryList → Bool) (whole found next : Fault) →
           whole ≡ or_else found (fault_of (first_from q t (entry_at s) s.count i)) →
-              next ≡ or_else found (fault_if (t (entry_at s i)) q i) →
+          next ≡ or_else found (fault_if (t (entry_at s i)) q i) →
           whole ≡ or_else next (fault_of (first_from q t (entry_at s) s.count (i + 1)))
       first q t whole found next a b =
           noted_more q (λ n. t (entry_at s n)) s.count (first_from q t (entry_at s) s.count)

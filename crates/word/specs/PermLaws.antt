@@ -53,7 +53,7 @@ distinct_map f (x ∷ w) h e =
     let p = distinct_out x w e in
     let rest : distinct (map f w) ≡ true =
     distinct_map f w (λ (y z : ℕ) (m : Memᴰ y w) (n : Memᴰ z w). h y z (mathlib.Core.List.Memᴰ.tail m) (mathlib.Core.List.Memᴰ.tail n))
-        p.1 in
+    p.1 in
     let fresh : Memᴰ (f x) (map f w) → ⊥ =
     λ (m : Memᴰ (f x) (map f w)). let r = mathlib.Core.List.Memᴰ.of_map f w m in
     p.0 (mathlib.Core.List.Memᴰ.cast (h x r.0 (mathlib.Core.List.Memᴰ.head refl) (mathlib.Core.List.Memᴰ.tail r.1) (sym r.2)) r.1) in

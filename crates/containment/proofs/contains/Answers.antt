@@ -27,7 +27,7 @@ returns-then-pattern-eq0 c =
     let a = c.args in
     decides a.pattern.now a.permutation.now _
     (c.refused-then-pattern-eq0.ensures ∙
-        sym (empty_pattern a.pattern.now a.permutation.now c.if-pattern-gt-DIGITS.false c.if-pattern-eq0.true))
+    sym (empty_pattern a.pattern.now a.permutation.now c.if-pattern-gt-DIGITS.false c.if-pattern-eq0.true))
 
 pub returns-then-not-is_permutation : goal.returns-then-not-is_permutation
 returns-then-not-is_permutation c =

@@ -73,7 +73,7 @@ copy-smaller-in-positions c =
 pub copy-preserved-in-positions : goal.copy-preserved-in-positions
 copy-preserved-in-positions c =
     let passed : let a = c.args in let s = c.positions in
-        fits (take s.d a.p) (get_or a.p s.d 0) (take s.d s.entries) (get_or a.w.now s.i 0) ≡ true =
+    fits (take s.d a.p) (get_or a.p s.d 0) (take s.d s.entries) (get_or a.w.now s.i 0) ≡ true =
     let a = c.args in
     let s = c.positions in
     let k = c.capped-k in
@@ -118,7 +118,7 @@ copy-preserved c =
 pub returns : goal.returns
 returns c =
     let passed : let a = c.args in let s = c.positions in
-        fits (take s.d a.p) (get_or a.p s.d 0) (take s.d s.entries) (get_or a.w.now s.i 0) ≡ true =
+    fits (take s.d a.p) (get_or a.p s.d 0) (take s.d s.entries) (get_or a.w.now s.i 0) ≡ true =
     let a = c.args in
     let s = c.positions in
     let k = c.capped-k in

@@ -10,7 +10,7 @@ abbrev pub invariant-pairs : goal.invariant-pairs
 invariant-pairs l =
     (l.j ≤ l.d) ×
     (fits (take l.d l.p) (get_or l.p l.d 0) (take l.d l.entries) l.x ≡ fits (drop l.j (take l.d l.p)) (get_or l.p l.d 0)
-        (drop l.j (take l.d l.entries)) l.x)
+    (drop l.j (take l.d l.entries)) l.x)
 
 abbrev pub decreases-pairs : goal.decreases-pairs
 decreases-pairs l = l.d - l.j

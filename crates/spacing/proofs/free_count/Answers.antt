@@ -37,7 +37,7 @@ next_spacing-next-requires c =
 pub returns-then-not-next : goal.returns-then-not-next
 returns-then-not-next c =
     let passed : let a = c.args in let f = free (gaps_of a.gaps.now (a.k + 1) a.n) in
-        c.if-is_free.count + passing f (later (take (a.k + 1) c.loop-count.g)) ≡ passing f (vectors (suc a.k) a.t) =
+    c.if-is_free.count + passing f (later (take (a.k + 1) c.loop-count.g)) ≡ passing f (vectors (suc a.k) a.t) =
     let a = c.args in
     let l = c.loop-count in
     let f = free (gaps_of a.gaps.now (a.k + 1) a.n) in
@@ -62,7 +62,7 @@ loop-count-smaller c =
 pub loop-count-preserved : goal.loop-count-preserved
 loop-count-preserved c =
     let passed : let a = c.args in let f = free (gaps_of a.gaps.now (a.k + 1) a.n) in
-        c.if-is_free.count + passing f (later (take (a.k + 1) c.loop-count.g)) ≡ passing f (vectors (suc a.k) a.t) =
+    c.if-is_free.count + passing f (later (take (a.k + 1) c.loop-count.g)) ≡ passing f (vectors (suc a.k) a.t) =
     let a = c.args in
     let l = c.loop-count in
     let f = free (gaps_of a.gaps.now (a.k + 1) a.n) in

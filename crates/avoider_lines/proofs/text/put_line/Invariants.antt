@@ -8,7 +8,8 @@ use Rattle.avoider_lines.proofs.text.put_line.Given as goal
 
 abbrev pub invariant-loop-i : goal.invariant-loop-i
 invariant-loop-i l =
-    (1 ≤ l.i) × (l.i ≤ l.count) × (l.next ≤ (NUMERAL + 1) * l.i) × ToCome (further_text (drop 1 (take l.n l.word))) l.initial.next l.initial.page
+    (1 ≤ l.i) × (l.i ≤ l.count) × (l.next ≤ (NUMERAL + 1) * l.i) ×
+    ToCome (further_text (drop 1 (take l.n l.word))) l.initial.next l.initial.page
     (further_text (drop l.i (take l.n l.word))) l.next l.page
 
 abbrev pub decreases-loop-i : goal.decreases-loop-i

@@ -18,7 +18,7 @@ invariant-loop-t l =
     first (lost (gaps_of l.gaps (l.k + 1) l.deleted.gap_count) (patterns_of l.set l.lengths l.count) (take l.k l.deleted.prefix)
     R) (each (vectors (suc l.k)) (row 0 l.m)) ≡
     from_total (lost (gaps_of l.gaps (l.k + 1) l.deleted.gap_count) (patterns_of l.set l.lengths l.count) (take l.k l.deleted.prefix) R)
-        l.k l.m l.t)
+    l.k l.m l.t)
 
 abbrev pub decreases-loop-t : goal.decreases-loop-t
 decreases-loop-t l = l.m - l.t

@@ -35,7 +35,7 @@ irreversible-lost-requires c =
     ap₂ (λ (n : ℕ) (l : List ℕ). take n l) c.wide-number.ensures.0 c.six_of-positions.ensures ∙
     sym (positions_named a.e c.requires.4 (six-digits) a.cut.positions c.requires.5).1 in
     let set_given : let a = c.args in
-        Given a.set a.lengths a.count (take a.e.length a.e.prefix) (take c.wide-number.result c.six_of-positions.result) =
+    Given a.set a.lengths a.count (take a.e.length a.e.prefix) (take c.wide-number.result c.six_of-positions.result) =
     let a = c.args in
     let q = c.requires in
     rw (positions-are) (given a.e q.4 (six-digits) a.cut.positions q.5 a.set a.lengths a.count
@@ -62,8 +62,8 @@ returns-then-not-lost c =
     ap₂ (λ (n : ℕ) (l : List ℕ). take n l) c.wide-number.ensures.0 c.six_of-positions.ensures ∙
     sym (positions_named a.e c.requires.4 (six-digits) a.cut.positions c.requires.5).1 in
     let answered : let a = c.args in
-        EntryAnswer a.cut.m (patterns_of a.set a.lengths a.count) (take a.e.length a.e.prefix)
-            (gaps_of a.e.gaps (a.e.length + 1) a.e.gap_count) (positions_in a.cut.positions) c.irreversible-lost.result =
+    EntryAnswer a.cut.m (patterns_of a.set a.lengths a.count) (take a.e.length a.e.prefix)
+    (gaps_of a.e.gaps (a.e.length + 1) a.e.gap_count) (positions_in a.cut.positions) c.irreversible-lost.result =
     rw (positions-are) at c.irreversible-lost.ensures in
     let a = c.args in
     let q = c.requires in
@@ -86,14 +86,14 @@ least_lost-requires c =
     ap₂ (λ (n : ℕ) (l : List ℕ). take n l) c.wide-number.ensures.0 c.six_of-positions.ensures ∙
     sym (positions_named a.e c.requires.4 (six-digits) a.cut.positions c.requires.5).1 in
     let set_given : let a = c.args in
-        Given a.set a.lengths a.count (take a.e.length a.e.prefix) (take c.wide-number.result c.six_of-positions.result) =
+    Given a.set a.lengths a.count (take a.e.length a.e.prefix) (take c.wide-number.result c.six_of-positions.result) =
     let a = c.args in
     let q = c.requires in
     rw (positions-are) (given a.e q.4 (six-digits) a.cut.positions q.5 a.set a.lengths a.count
     (all-rows) (all-lengths) q.1) in
     let answered : let a = c.args in
-        EntryAnswer a.cut.m (patterns_of a.set a.lengths a.count) (take a.e.length a.e.prefix)
-            (gaps_of a.e.gaps (a.e.length + 1) a.e.gap_count) (positions_in a.cut.positions) c.irreversible-lost.result =
+    EntryAnswer a.cut.m (patterns_of a.set a.lengths a.count) (take a.e.length a.e.prefix)
+    (gaps_of a.e.gaps (a.e.length + 1) a.e.gap_count) (positions_in a.cut.positions) c.irreversible-lost.result =
     rw (positions-are) at c.irreversible-lost.ensures in
     let a = c.args in
     let q = c.requires in
@@ -120,8 +120,8 @@ returns c =
     ap₂ (λ (n : ℕ) (l : List ℕ). take n l) c.wide-number.ensures.0 c.six_of-positions.ensures ∙
     sym (positions_named a.e c.requires.4 (six-digits) a.cut.positions c.requires.5).1 in
     let answered : let a = c.args in
-        EntryAnswer a.cut.m (patterns_of a.set a.lengths a.count) (take a.e.length a.e.prefix)
-            (gaps_of a.e.gaps (a.e.length + 1) a.e.gap_count) (positions_in a.cut.positions) c.irreversible-lost.result =
+    EntryAnswer a.cut.m (patterns_of a.set a.lengths a.count) (take a.e.length a.e.prefix)
+    (gaps_of a.e.gaps (a.e.length + 1) a.e.gap_count) (positions_in a.cut.positions) c.irreversible-lost.result =
     rw (positions-are) at c.irreversible-lost.ensures in
     let a = c.args in
     let q = c.requires in

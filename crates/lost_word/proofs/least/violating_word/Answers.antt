@@ -85,7 +85,7 @@ returns-then-contained_by c =
       word_none a.set a.lengths a.count a.needs.now (take a.spot.length a.spot.prefix) a.spot.gone
           a.spot.levels a.spot.total a.i c.no_word-then-contained_by.result
           (hits-violates (goal.at.returns-then-contained_by c).After-contained_by false
-              (not-true _ (sym c.contained_by.ensures ∙ c.if-contained_by.true)))
+          (not-true _ (sym c.contained_by.ensures ∙ c.if-contained_by.true)))
           c.no_word-then-contained_by.ensures.0,
     )
 

@@ -16,7 +16,7 @@ loop-j-init c = (search rules, search rules, λ v h. flag_none 9 v _)
 pub overflow_sub-v : goal.overflow_sub-v
 overflow_sub-v c =
     let at_position : (1 ≤ get_or c.args.positions c.loop-j.j 0) × (get_or c.args.positions c.loop-j.j 0 ≤ c.args.k) ×
-        (get_or c.args.prefix (get_or c.args.positions c.loop-j.j 0 - 1) 0 ≤ c.args.k) =
+    (get_or c.args.prefix (get_or c.args.positions c.loop-j.j 0 - 1) 0 ≤ c.args.k) =
     let a = c.args in
     let j = c.loop-j.j in
     let pre = c.requires in
@@ -30,7 +30,7 @@ overflow_sub-v c =
 pub bounds-prefix-at : goal.bounds-prefix-at
 bounds-prefix-at c =
     let at_position : (1 ≤ get_or c.args.positions c.loop-j.j 0) × (get_or c.args.positions c.loop-j.j 0 ≤ c.args.k) ×
-        (get_or c.args.prefix (get_or c.args.positions c.loop-j.j 0 - 1) 0 ≤ c.args.k) =
+    (get_or c.args.prefix (get_or c.args.positions c.loop-j.j 0 - 1) 0 ≤ c.args.k) =
     let a = c.args in
     let j = c.loop-j.j in
     let pre = c.requires in
@@ -44,7 +44,7 @@ bounds-prefix-at c =
 pub bounds-gone-v : goal.bounds-gone-v
 bounds-gone-v c =
     let at_position : (1 ≤ get_or c.args.positions c.loop-j.j 0) × (get_or c.args.positions c.loop-j.j 0 ≤ c.args.k) ×
-        (get_or c.args.prefix (get_or c.args.positions c.loop-j.j 0 - 1) 0 ≤ c.args.k) =
+    (get_or c.args.prefix (get_or c.args.positions c.loop-j.j 0 - 1) 0 ≤ c.args.k) =
     let a = c.args in
     let j = c.loop-j.j in
     let pre = c.requires in

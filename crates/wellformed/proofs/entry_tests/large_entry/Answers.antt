@@ -31,9 +31,12 @@ pub loop-j-preserved : goal.loop-j-preserved
 loop-j-preserved c =
     let e = c.args.e in
     let l = c.loop-j in
-    let large = c.large_gap.ensures ∙ ap (λ (g : Gap). large_gap (gap_in g)) c.entry_gap-b.ensures in
-    (omega arith, l.invariant.1, l.invariant.2 ∙
-        any_later large_gap (gap_at e) e.gap_count l.j (omega arith) (sym large ∙ c.if-large_gap.false))
+    let large = c.large_gap.ensures ∙ ap (λ (g : Gap). large_gap (gap_in g)) c.entry_gap-b.ensures in (
+      omega arith,
+      l.invariant.1,
+      l.invariant.2 ∙
+          any_later large_gap (gap_at e) e.gap_count l.j (omega arith) (sym large ∙ c.if-large_gap.false),
+    )
 
 pub returns : goal.returns
 returns c =
