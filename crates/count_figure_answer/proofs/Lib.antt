@@ -1,2 +1,3 @@
 -- The laws that the crate counting cites.
 pub mod FigureMeasureLaws
+pub mod FigureCountLaws

@@ -1,4 +1,3 @@
 -- What counting by inversions promises, and the laws of it.
 pub mod FigureCounting
 pub mod FigureMeasuring
-pub mod FigureCountLaws

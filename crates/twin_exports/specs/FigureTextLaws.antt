@@ -15,7 +15,7 @@ use Rattle.judge_texts.specs.TextJudgement.{TextsTrue}
 use Rattle.judge_texts.specs.TextVerdictLaws.{set_list, scheme_list}
 use Rattle.count_answer.specs.Counting.{table_after}
 use Rattle.count_figure_answer.specs.FigureCounting.{figure_need, figured_or, results_after, CountsByInversions}
-use Rattle.count_figure_answer.specs.FigureCountLaws.{refused_figures, refused_results}
+use Rattle.count_figure_answer.proofs.FigureCountLaws.{refused_figures, refused_results}
 use Rattle.count_figure_answer.specs.declared.answer.Figured.{Figured}
 use Rattle.twin_exports.specs.TextCountLaws.{none_found, lists_accepted, first_found, kept_so, then_found}
 use Rattle.twin_exports.specs.FigureTexts.{figured_code, FiguresOfTexts}

@@ -20,7 +20,7 @@ use Rattle.verdict.specs.Verdict.{judge_tests}
 use Rattle.count_rows.specs.Run.{cleared}
 use Rattle.count_answer.proofs.CountLaws.{verdict_fault, clean_accepts}
 use Rattle.count_figure_answer.specs.FigureCounting.{figure_need}
-use Rattle.count_figure_answer.specs.FigureCountLaws.{figures_length, refused_judging, refused_slices, served, done}
+use Rattle.count_figure_answer.proofs.FigureCountLaws.{figures_length, refused_judging, refused_slices, served, done}
 use Rattle.count_figure_answer.proofs.FigureMeasureLaws.{given_of, last_is}
 use borrow.Author.Rules.{rules}
 use Rattle.counting.proofs.by_inversions.count_by_inversions.Statement.{statement}
