@@ -50,7 +50,8 @@ pub earlier_second : (f a b : Fault) → f ≡ a → faulty f ≡ false → b �
 earlier_second f a b e h = sym (or_else_clean a b (ap faulty (sym e) ∙ h))
 
 module _ (P : List (List ℕ)) (E : List EntryList) where
-  module _ (formed : Fault) (is : formed ≡ or_else (fault_of (first_fault (pattern_tests P))) (fault_of (first_fault (scheme_tests E)))) where
+  module _ (formed : Fault) (is : formed ≡ or_else (fault_of (first_fault (pattern_tests P)))
+      (fault_of (first_fault (scheme_tests E)))) where
     -- the first finding of all, where a list is not well-formed, and where it is
     pub found_formed : faulty formed ≡ true → fault_of (first_fault (judge_tests P E)) ≡ formed
     found_formed h = verdict_parts P E ∙ sym (earlier_first formed _ (fault_of (first_fault (claim_tests P E))) is h)
@@ -123,14 +124,16 @@ module _ (set : List (List ℕ)) (lengths : List ℕ) (count : ℕ) (q : ProperS
 
     tests_parts : fault_of (first_fault (claim_tests (patterns_of set lengths count) (scheme_in s))) ≡
         or_else (fault_of (first_at LiveGap (live_entry (patterns_of set lengths count)) 0 (scheme_in s)))
-        (fault_of (first_at Irreversible (differing_entry (m_of (patterns_of set lengths count)) (patterns_of set lengths count)) 0 (scheme_in s)))
+        (fault_of (first_at Irreversible (differing_entry (m_of (patterns_of set lengths count))
+        (patterns_of set lengths count)) 0 (scheme_in s)))
     tests_parts =
         two_faults (first_at LiveGap (live_entry (patterns_of set lengths count)) 0 (scheme_in s))
         (first_at Irreversible (differing_entry (m_of (patterns_of set lengths count)) (patterns_of set lengths count)) 0 (scheme_in s))
 
     lost_is : (m : ℕ) → m ≡ m_of (patterns_of set lengths count) →
         fault_of (first_at Irreversible (differing_entry m (patterns_of rows sizes b.count)) 0 (scheme_in s)) ≡
-        fault_of (first_at Irreversible (differing_entry (m_of (patterns_of set lengths count)) (patterns_of set lengths count)) 0 (scheme_in s))
+        fault_of (first_at Irreversible (differing_entry (m_of (patterns_of set lengths count))
+        (patterns_of set lengths count)) 0 (scheme_in s))
     lost_is m e =
         ap₂ (λ (n : ℕ) (Q : List (List ℕ)). fault_of (first_at Irreversible (differing_entry n Q) 0 (scheme_in s))) e basis_holds ∙
         ap fault_of (differs_same (patterns_of set lengths count) q.perms s (m_of (patterns_of set lengths count)))

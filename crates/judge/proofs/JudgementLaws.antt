@@ -69,11 +69,13 @@ or_else_assoc (At r i) b c = refl
 
 -- the tests of the patterns, of the scheme, of the claims
 pub verdict_parts : (P : List (List ℕ)) (E : List EntryList) → fault_of (first_fault (judge_tests P E)) ≡
-    or_else (or_else (fault_of (first_fault (pattern_tests P))) (fault_of (first_fault (scheme_tests E)))) (fault_of (first_fault (claim_tests P E)))
+    or_else (or_else (fault_of (first_fault (pattern_tests P))) (fault_of (first_fault (scheme_tests E))))
+    (fault_of (first_fault (claim_tests P E)))
 verdict_parts P E =
     faults_append (pattern_tests P) (scheme_tests E ++ claim_tests P E) ∙
     ap (or_else (fault_of (first_fault (pattern_tests P)))) (faults_append (scheme_tests E) (claim_tests P E)) ∙
-    or_else_assoc (fault_of (first_fault (pattern_tests P))) (fault_of (first_fault (scheme_tests E))) (fault_of (first_fault (claim_tests P E)))
+    or_else_assoc (fault_of (first_fault (pattern_tests P))) (fault_of (first_fault (scheme_tests E)))
+    (fault_of (first_fault (claim_tests P E)))
 
 -- an answer by its fault: a refusal does not ask for the cells
 pub refused_answer : (f : Fault) (m n : ℕ) → faulty f ≡ true → answered f m ≡ answered f n

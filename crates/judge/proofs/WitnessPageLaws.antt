@@ -57,7 +57,8 @@ number_found_lem (fault r i) = refl
 
 pub nothing_shown : (P : List (List ℕ)) (E : List EntryList) (f : Fault) → (number_in f ≡ 11 → ⊥) → bytes_shown P E f ≡ []
 nothing_shown P E Clean h = refl
-nothing_shown P E (At r i) h = ap (λ (b : Bool). witness_bytes P (cond b (entry_word P (indexed_entry E i)) none)) (ne_eqb (number_of r) 11 h)
+nothing_shown P E (At r i) h = ap (λ (b : Bool). witness_bytes P (cond b (entry_word P (indexed_entry E i)) none))
+    (ne_eqb (number_of r) 11 h)
 
 -- such a page stays as it is
 pub page_kept : (P : List (List ℕ)) (E : List EntryList) (f : Fault) (page : List ℕ) → (number_in f ≡ 11 → ⊥) →
@@ -219,7 +220,8 @@ module _ (P : List (List ℕ)) (E : List EntryList) (before after : List ℕ) (r
   judges =
       record {
         verdict = verdict;
-        numbers = ap told_verdict verdict ∙ told_answered (fault_of found) (compared_cells P E) ∙ told_found found (compared_cells P E ∷ []);
+        numbers = ap told_verdict verdict ∙ told_answered (fault_of found) (compared_cells P E) ∙
+            told_found found (compared_cells P E ∷ []);
         page = page;
         exactly = λ long. rw (same_verdict long) (accepted_exactly P E);
         cells = λ n q. accepted_cells (fault_of found) (compared_cells P E) n (sym verdict ∙ q);

@@ -53,7 +53,8 @@ pub record TextsTrue (s t : List ℕ) : Type 0 where
 pub record JudgesTextsWithoutPage (s t : List ℕ) (r : Verdict) : Type 0 where
   pub verdict : r ≡ verdict_of_texts s t
   -- the number and the value of document 01
-  pub numbers : told_verdict r ≡ told_or (fault_read (patterns_answer s) (scheme_answer t)) (cells_read (patterns_answer s) (scheme_answer t) ∷ [])
+  pub numbers : told_verdict r ≡ told_or (fault_read (patterns_answer s) (scheme_answer t))
+      (cells_read (patterns_answer s) (scheme_answer t) ∷ [])
   -- where the texts spell lists, it is the verdict on these
   pub spelt : (P : List (List ℕ)) (E : List EntryList) → length s ≤ PATTERN_TEXT → length t ≤ SCHEME_TEXT →
       SpellsPatterns s P → SpellsScheme t E → r ≡ verdict_of P E

@@ -155,14 +155,16 @@ module _ (s t : List ℕ) (reading : ReadsPatterns s (patterns_answer s)) (readi
           ap₂ (λ (x y : Fault). or_else (or_else x y) (fault_of (first_fault (claim_tests Q F))))
           (sym (spelt_fault s (patterns_answer s) reading Q a u)) (sym (spelt_scheme_fault t (scheme_answer t) reading-scheme F b v))
 
-      same_bytes : bytes_shown P E (fault_read (patterns_answer s) (scheme_answer t)) ≡ bytes_shown Q F (fault_of (first_fault (judge_tests Q F)))
+      same_bytes : bytes_shown P E (fault_read (patterns_answer s) (scheme_answer t)) ≡
+          bytes_shown Q F (fault_of (first_fault (judge_tests Q F)))
       same_bytes = go (faulty read_fault) refl
         where
           other : number_in read_fault ≡ 11 → ⊥
           other e = omega (arith, read_small)
 
           go : (c : Bool) → faulty read_fault ≡ c →
-              bytes_shown P E (fault_read (patterns_answer s) (scheme_answer t)) ≡ bytes_shown Q F (fault_of (first_fault (judge_tests Q F)))
+              bytes_shown P E (fault_read (patterns_answer s) (scheme_answer t)) ≡
+              bytes_shown Q F (fault_of (first_fault (judge_tests Q F)))
           go true h =
               ap (bytes_shown P E) (found_reading h) ∙ nothing_shown P E read_fault other ∙ sym (nothing_shown Q F read_fault other) ∙
               ap (bytes_shown Q F) (sym (list_parts ∙ or_else_fault read_fault (fault_of (first_fault (claim_tests Q F))) h))
@@ -207,7 +209,8 @@ module _ (s t : List ℕ) (reading : ReadsPatterns s (patterns_answer s)) (readi
             absurd (omega arith)
         go true h (inr long) =
             let n : number_in read_fault ≡ 11 =
-            sym (ap number_in (on_long (length before) (fault_read (patterns_answer s) (scheme_answer t)) long ∙ found_reading h)) ∙ eleven in
+            sym (ap number_in (on_long (length before) (fault_read (patterns_answer s) (scheme_answer t)) long ∙ found_reading h))
+            ∙ eleven in
             absurd (omega (arith, read_small))
 
     pub texts_on_page : JudgesTexts s t before after r

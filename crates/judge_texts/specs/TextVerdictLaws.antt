@@ -73,7 +73,8 @@ read_scheme_fault (At r i) m = refl
 module _ (s : List ℕ) (p : PatternsRead) (reading : ReadsPatterns s p) (P : List (List ℕ))
     (short : length s ≤ PATTERN_TEXT) (spells : SpellsPatterns s P) where
   pub spelt_fault : p.fault ≡ fault_of (first_fault (pattern_tests P))
-  spelt_fault = ap (λ (x : PatternsRead). x.fault) (reading.spelt P short spells) ∙ read_fault_lem (fault_of (first_fault (pattern_tests P))) _
+  spelt_fault = ap (λ (x : PatternsRead). x.fault) (reading.spelt P short spells) ∙
+      read_fault_lem (fault_of (first_fault (pattern_tests P))) _
 
   pub spelt_list : p.fault ≡ Clean → patterns_in p.patterns ≡ P
   spelt_list e = patterns_unique s (patterns_in p.patterns) P (reading.reads e) spells

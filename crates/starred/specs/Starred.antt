@@ -105,7 +105,8 @@ sevens n = replicate n 7
 
 unfoldable pub answer : Question → Answer
 unfolding shown_word_under earliest count_of first_copy is_perm reduce spacing shorter_size vectors free total children deleted merged cell
-    basis m_of compared_to compared_cells_under live_gap differs_under sizes_differ compared_with_under tokens tokens_after token_at read_patterns
+    basis m_of compared_to compared_cells_under live_gap differs_under sizes_differ compared_with_under tokens tokens_after token_at
+    read_patterns
     read_entries items_of same loaded_patterns loaded_scheme bytes parts_of_all widths_of figures
 answer (contains_pattern w β) = contained (containment β w).contained
 answer (first_entries n u) = prefix_and_spacing (reduce u) (spacing n u)

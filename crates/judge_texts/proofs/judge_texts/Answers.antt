@@ -70,7 +70,8 @@ returns-then-is_fault c =
 
 pub judge_claims-judged-requires : goal.judge_claims-judged-requires
 judge_claims-judged-requires c =
-    let formed : let q = c.read_scheme-s in let p = c.read_patterns-p in WellFormed (patterns_in p.result.patterns) (scheme_in q.result.scheme) =
+    let formed : let q = c.read_scheme-s in let p = c.read_patterns-p in
+    WellFormed (patterns_in p.result.patterns) (scheme_in q.result.scheme) =
     let f = c.earlier-unread in
     let q = c.read_scheme-s in
     let p = c.read_patterns-p in
@@ -80,7 +81,8 @@ judge_claims-judged-requires c =
 
 pub show_lost-requires : goal.show_lost-requires
 show_lost-requires c =
-    let formed : let q = c.read_scheme-s in let p = c.read_patterns-p in WellFormed (patterns_in p.result.patterns) (scheme_in q.result.scheme) =
+    let formed : let q = c.read_scheme-s in let p = c.read_patterns-p in
+    WellFormed (patterns_in p.result.patterns) (scheme_in q.result.scheme) =
     let f = c.earlier-unread in
     let q = c.read_scheme-s in
     let p = c.read_patterns-p in
