@@ -8,7 +8,7 @@ use Rattle.word.specs.Word.{first_copy}
 use Rattle.word.specs.Finding.{Finding, clean, fault, first_fault}
 use Rattle.copy_search.specs.Copy.{placed}
 use Rattle.containment.specs.Containment.{containment_tests, answer_of, containment}
-use Rattle.word.specs.EarliestLaws.{copy_length, copy_within}
+use Rattle.word.proofs.EarliestLaws.{copy_length, copy_within}
 use Rattle.word.specs.declared.refusal.Refusal.{Refusal}
 use Rattle.word.specs.declared.refusal.Refusal.TheVariants.{Oversize}
 use Rattle.containment.specs.declared.Contained.{Contained}
