@@ -45,7 +45,8 @@ use Rattle.count_entry.specs.declared.frame.Frame.{Frame}
 pub links_counted : (sheet places : List ℕ) (e offset : ℕ) (from : List ℕ) → length from ≡ LINKS →
     ((a : ℕ) → a < LINKS → get_or from a 0 ≡ offset + link_at sheet places e a) → from ≡ map (λ x. offset + x) (links_at sheet places e)
 links_counted sheet places e offset from long at =
-    ext_get_or 0 from (map (λ x. offset + x) (links_at sheet places e)) (long ∙ sym (length-map (links_at sheet places e) (λ x. offset + x)))
+    ext_get_or 0 from (map (λ x. offset + x) (links_at sheet places e))
+    (long ∙ sym (length-map (links_at sheet places e) (λ x. offset + x)))
     (λ (a : ℕ) (h : a < length from).
     let l : a < LINKS = omega arith in
     at a l ∙ ap (λ n. offset + n) (sym (link_at_lem sheet places e a l)) ∙ sym (get_d_map (λ x. offset + x) (links_at sheet places e) a l))

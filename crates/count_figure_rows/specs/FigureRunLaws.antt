@@ -27,7 +27,8 @@ use Rattle.count_rows.specs.RunLaws.{root_cell_lem}
 use Rattle.count_figure_rows.specs.FigureRows.{root_cell, root_figures}
 
 -- what any cell of a kept row holds are the figures of the cell
-module _ (P : List (List ℕ)) (s : Scheme) (formed : WellFormed P (scheme_in s)) (truth : AllTrue P (scheme_in s)) (n : ℕ) (small : n ≤ LENGTH)
+module _ (P : List (List ℕ)) (s : Scheme) (formed : WellFormed P (scheme_in s)) (truth : AllTrue P (scheme_in s)) (n : ℕ)
+    (small : n ≤ LENGTH)
     (T : List ℕ) (room : number_at (figure_count n) (rows_of (scheme_in s) * width_of n s) ≤ length T) where
   pub figures_there : (j i d : ℕ) (g : List ℕ) → j ≤ n → HasCell n s i d g → i ≤ j → j < i + rows_of (scheme_in s) →
       figures_held (figure_count n) (total g) (figures_walked P n s (cells_of s j) T) (cell_at (rows_of (scheme_in s)) n s i d g) ≡
@@ -74,10 +75,12 @@ module _ (P : List (List ℕ)) (s : Scheme) (formed : WellFormed P (scheme_in s)
     root_figured U e =
         let t : n + 0 ≡ n = omega arith in
         ap₂ (λ (m i : ℕ). take (figure_count m) (drop (number_at (figure_count m) i) U)) last cell_of_lem ∙
-        ap (λ (l : List ℕ). take (figure_count n) (drop (number_at (figure_count n) (cell_at (rows_of (scheme_in s)) n s n root (n ∷ []))) l)) e ∙
+        ap (λ (l : List ℕ). take (figure_count n) (drop (number_at (figure_count n)
+        (cell_at (rows_of (scheme_in s)) n s n root (n ∷ []))) l)) e ∙
         sym (held_front (figure_count n) n (figures_walked P n s (cells_of s n) T) (cell_at (rows_of (scheme_in s)) n s n root (n ∷ []))
         (omega arith)) ∙
-        ap (λ m. figures_held (figure_count n) m (figures_walked P n s (cells_of s n) T) (cell_at (rows_of (scheme_in s)) n s n root (n ∷ [])))
+        ap (λ m. figures_held (figure_count n) m (figures_walked P n s (cells_of s n) T)
+        (cell_at (rows_of (scheme_in s)) n s n root (n ∷ [])))
         (sym t) ∙
         figures_there n n root (n ∷ []) (omega arith) (root_cell_lem n s root n names (omega arith)) (omega arith) (omega arith) ∙
         ap (λ (p : List ℕ). cell_figures P p (n ∷ [])) names.named ∙ root_figures_lem P n

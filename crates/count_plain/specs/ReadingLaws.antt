@@ -45,5 +45,6 @@ module _ (P : List (List ℕ)) (s : Scheme) (sheet : List ℕ) (proper : Proper 
   pub counted_cell : CellAt sheet e g n
   counted_cell = root_cell_lem sheet (sheet_of P s sheet proper t) e n g names h seven q
 
-  pub counted_value : WellFormed P (scheme_in s) → AllTrue P (scheme_in s) → (x : ℕ) → Evaluates sheet e g n x → x ≡ count_of P (scheme_in s) n
+  pub counted_value : WellFormed P (scheme_in s) → AllTrue P (scheme_in s) → (x : ℕ) → Evaluates sheet e g n x →
+      x ≡ count_of P (scheme_in s) n
   counted_value formed truth x ev = root_value_lem sheet (sheet_of P s sheet proper t) e n g names h seven q formed truth x ev

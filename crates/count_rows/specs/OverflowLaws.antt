@@ -105,7 +105,8 @@ module _ (P : List (List ℕ)) (E : List EntryList) (formed : WellFormed P E) (t
 
 -- A sum of what the table holds in the cells of children, as the step makes it: k are the cells
 -- that are filled, and c is the cell that comes next
-module _ (P : List (List ℕ)) (s : Scheme) (formed : WellFormed P (scheme_in s)) (truth : AllTrue P (scheme_in s)) (n : ℕ) (small : n ≤ LENGTH)
+module _ (P : List (List ℕ)) (s : Scheme) (formed : WellFormed P (scheme_in s)) (truth : AllTrue P (scheme_in s)) (n : ℕ)
+    (small : n ≤ LENGTH)
     (T : List ℕ) (room : need_of n (scheme_in s) ≤ length T) (k : List TableCell) (c : TableCell) (l : List TableCell)
     (all : k ++ (c ∷ l) ≡ cells_of s n) (rule : (entry_at s c.entry).rule ≡ expands)
     (f : free (entry_at s c.entry).gaps c.spacing ≡ true) where

@@ -35,7 +35,8 @@ root_cell_lem n s root j names low =
 
 -- "every row less than that many back is there": what any cell of a kept row holds is the size of
 -- the cell
-module _ (P : List (List ℕ)) (s : Scheme) (formed : WellFormed P (scheme_in s)) (truth : AllTrue P (scheme_in s)) (n : ℕ) (small : n ≤ LENGTH)
+module _ (P : List (List ℕ)) (s : Scheme) (formed : WellFormed P (scheme_in s)) (truth : AllTrue P (scheme_in s)) (n : ℕ)
+    (small : n ≤ LENGTH)
     (T : List ℕ) (room : need_of n (scheme_in s) ≤ length T) where
   pub value_there : (j i d : ℕ) (g : List ℕ) → j ≤ n → HasCell n s i d g → i ≤ j → j < i + rows_of (scheme_in s) →
       held (count_walked P n s (cells_of s j) T) (cell_at (rows_of (scheme_in s)) n s i d g) ≡

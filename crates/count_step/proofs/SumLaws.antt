@@ -6,9 +6,9 @@ use native.Mathlib.Numerals.{add-one}
 use native.Mathlib.Omega.{arith}
 use mathlib.Core.Path.{◌≡◌, refl, sym, ap, ap₂, ◌∙◌, subst}
 use mathlib.Core.List.{List, [], ◌∷◌, ◌++◌, map, map-append}
-use lib.ListN.{length, get_or, drop, length-drop, drop_of_length-le}
-use lib.Seq.{drop-cons}
-use Rattle.word.specs.Ceilings.{LENGTH, COUNTS}
+use lib.ListN.{length, get_or, take, drop, length-drop, drop_of_length-le}
+use lib.Seq.{length-take-le, get_or-take, drop-cons}
+use Rattle.word.specs.Ceilings.{COMPONENTS, PREFIX, LENGTH, COUNTS}
 use Rattle.cell.specs.Cell.{total}
 use Rattle.cell.specs.Binomial.{binomial}
 use Rattle.spacing.specs.Sizes.{CHOICES, RANKS}
@@ -18,6 +18,18 @@ use Rattle.spacing.specs.PascalLaws.{binomial_small}
 use Rattle.spacing.specs.TotalLaws.{total_append}
 use Rattle.count_step.specs.Step.{held}
 use Rattle.count_step.specs.Sums.{part_places, places_from, places_of, sum_of}
+
+-- the spacing has one component more than the prefix
+pub spacing_size : (k : ℕ) (g : List ℕ) → length g ≡ COMPONENTS → k ≤ PREFIX → length (take (k + 1) g) ≡ k + 1
+spacing_size k g seven short = length-take-le (k + 1) g (omega (arith, seven, short))
+
+-- one of its components, as it is read
+pub component : (k i x : ℕ) (g : List ℕ) → x ≡ get_or g i 0 → i ≤ k → x ≡ get_or (take (k + 1) g) i 0
+component k i x g e h = e ∙ sym (get_or-take (k + 1) g i 0 (omega arith))
+
+-- the last component, behind the loop
+pub last_component : (k i x : ℕ) (g : List ℕ) → x ≡ get_or g k 0 → k ≡ i → x ≡ get_or (take (k + 1) g) i 0
+last_component k i x g e q = component k k x g e (omega arith) ∙ ap (λ (j : ℕ). get_or (take (k + 1) g) j 0) q
 
 -- the first cell of a part, and the others
 pub part_cut : (at col z end : ℕ) → z < end →
@@ -164,7 +176,8 @@ module _ (links G : List ℕ) (k : ℕ) (size : length G ≡ k + 1) where
             let z1 : suc (z + x) ≡ z + x + 1 = omega arith in
             let i1 : suc i ≡ i + 1 = omega arith in
             let step : places_from links i below z (drop i G) ≡
-            part_places (get_or links i 0 + (below + above)) (i + 1) z x ++ places_from links (i + 1) (below + y) (z + x + 1) (drop (i + 1) G) =
+            part_places (get_or links i 0 + (below + above)) (i + 1) z x ++
+            places_from links (i + 1) (below + y) (z + x + 1) (drop (i + 1) G) =
             ap (places_from links i below z) shape ∙
             ap₂ ◌++◌ (ap₂ (λ a c. part_places (get_or links i 0 + (below + a)) c z x) (sym above_from) i1)
             (ap (λ c. places_from links c (below + binomial (z + x) c) (suc (z + x)) (drop c G)) i1 ∙

@@ -22,23 +22,20 @@ returns-then-n-gt-LENGTH c =
 
 pub need-requires : goal.need-requires
 need-requires c =
-    let framed-so : let a = c.args in c.frame_of-frame.result ≡ frame_of c.places_of-places.result a.n a.scheme.count (rows_of (scheme_in a.scheme)) =
     let a = c.args in
+    let framed : c.frame_of-frame.result ≡ frame_of c.places_of-places.result a.n a.scheme.count (rows_of (scheme_in a.scheme)) =
     c.frame_of-frame.ensures ∙ ap (frame_of c.places_of-places.result a.n a.scheme.count) c.rows_of-rows.ensures.0 in
-    let a = c.args in
-    frame_fits a.n a.scheme c.places_of-places.result c.places_of-places.ensures c.frame_of-frame.result
-    (framed-so) c.requires.0
+    frame_fits a.n a.scheme c.places_of-places.result c.places_of-places.ensures c.frame_of-frame.result framed c.requires.0
 
 pub returns-then-cells-need : goal.returns-then-cells-need
 returns-then-cells-need c =
-    let framed-so : let a = c.args in c.frame_of-frame.result ≡ frame_of c.places_of-places.result a.n a.scheme.count (rows_of (scheme_in a.scheme)) =
     let a = c.args in
+    let framed : c.frame_of-frame.result ≡ frame_of c.places_of-places.result a.n a.scheme.count (rows_of (scheme_in a.scheme)) =
     c.frame_of-frame.ensures ∙ ap (frame_of c.places_of-places.result a.n a.scheme.count) c.rows_of-rows.ensures.0 in
-    let a = c.args in
     let is = c.refused-then-cells-need.ensures in
     let q = frame_need a.n a.scheme c.places_of-places.result c.places_of-places.ensures
     c.frame_of-frame.result
-    (framed-so) in
+    framed in
     record {
       found = is ∙ sym (table_refused (scheme_in a.scheme) a.n a.cells (omega arith) (omega
           (arith, c.need.ensures, q)));
@@ -48,15 +45,14 @@ returns-then-cells-need c =
 
 pub returns : goal.returns
 returns c =
-    let framed-so : let a = c.args in c.frame_of-frame.result ≡ frame_of c.places_of-places.result a.n a.scheme.count (rows_of (scheme_in a.scheme)) =
     let a = c.args in
+    let framed : c.frame_of-frame.result ≡ frame_of c.places_of-places.result a.n a.scheme.count (rows_of (scheme_in a.scheme)) =
     c.frame_of-frame.ensures ∙ ap (frame_of c.places_of-places.result a.n a.scheme.count) c.rows_of-rows.ensures.0 in
-    let a = c.args in
     let q = frame_need a.n a.scheme c.places_of-places.result c.places_of-places.ensures
     c.frame_of-frame.result
-    (framed-so) in
+    framed in
     record {
       found = sym (table_serves (scheme_in a.scheme) a.n a.cells (omega arith) (omega (arith, c.need.ensures, q)));
       placed = λ f. c.places_of-places.ensures;
-      framed = λ f. framed-so;
+      framed = λ f. framed;
     }

@@ -7,7 +7,9 @@ use Rattle.count_figures.specs.Adding.{Adds}
 use Rattle.count_figures.proofs.adding.add_moved.Given as goal
 
 abbrev pub invariant-loop-i : goal.invariant-loop-i
-invariant-loop-i l = (length l.figures ≡ length l.initial.figures) × (l.i ≤ l.count) × Adds l.initial.figures l.figures (moved_at l.d (take l.i (drop l.from l.table)))
+invariant-loop-i l =
+    (length l.figures ≡ length l.initial.figures) × (l.i ≤ l.count) ×
+    Adds l.initial.figures l.figures (moved_at l.d (take l.i (drop l.from l.table)))
 
 abbrev pub decreases-loop-i : goal.decreases-loop-i
 decreases-loop-i l = l.count - l.i

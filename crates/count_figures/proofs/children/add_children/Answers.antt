@@ -9,8 +9,8 @@ use native.Mathlib.Numerals.{add-one}
 use mathlib.Core.Path.{◌≡◌, refl, sym, ap, ◌∙◌, subst}
 use mathlib.Core.List.{List, [], ◌++◌, map}
 use lib.ListN.{length, get_or, take, drop, length-map}
-use lib.Seq.{length-take-le, get_or-take, drop-cons}
-use Rattle.word.specs.Ceilings.{COMPONENTS, PREFIX, LENGTH, COLUMNS, FIGURES}
+use lib.Seq.{drop-cons}
+use Rattle.word.specs.Ceilings.{COMPONENTS, LENGTH, COLUMNS, FIGURES}
 use Rattle.word.specs.Lists.{row}
 use Rattle.word.specs.ListLaws.{length_row}
 use Rattle.cell.specs.Cell.{total}
@@ -19,6 +19,7 @@ use Rattle.spacing.specs.PascalLaws.{binomial_small}
 use Rattle.spacing.specs.Sizes.{CHOICES, RANKS}
 use Rattle.count_step.specs.Sums.{part_places}
 use Rattle.count_step.specs.Task.{REACH}
+use Rattle.count_step.proofs.SumLaws.{spacing_size, component, last_component}
 use Rattle.count_step.proofs.SumLaws.{coming_start, above_small, component_small, above_enough, coming_more, coming_end}
 use Rattle.count_figures.specs.Figures.{spread_at}
 use Rattle.count_figures.specs.Adding.{Adds}
@@ -27,14 +28,6 @@ use Rattle.count_figures.specs.declared.children.Shape.{Shape}
 use Rattle.count_figures.proofs.AddLaws.{left_part, left_end}
 use Rattle.count_figures.proofs.children.add_children.Invariants.{whole, Kept, Going}
 use Rattle.count_figures.proofs.children.add_children.Goals as goal
-
--- the spacing has one component more than the prefix
-spacing_size : (k : ℕ) (g : List ℕ) → length g ≡ COMPONENTS → k ≤ PREFIX → length (take (k + 1) g) ≡ k + 1
-spacing_size k g seven short = length-take-le (k + 1) g (omega (arith, seven, short))
-
--- one of its components, as it is read
-component : (k i x : ℕ) (g : List ℕ) → x ≡ get_or g i 0 → i ≤ k → x ≡ get_or (take (k + 1) g) i 0
-component k i x g e h = e ∙ sym (get_or-take (k + 1) g i 0 (omega arith))
 
 -- as many cells as the component has values
 part_size : (at col z n : ℕ) → length (part_places at col z n) ≡ n
@@ -264,10 +257,6 @@ overflow_add-end c =
       c.requires.0.fits.near c.args.task.length,
     )
 
--- the last component, behind the loop
-last : (k i x : ℕ) (g : List ℕ) → x ≡ get_or g k 0 → k ≡ i → x ≡ get_or (take (k + 1) g) i 0
-last k i x g e q = component k k x g e (omega arith) ∙ ap (λ (j : ℕ). get_or (take (k + 1) g) j 0) q
-
 pub add_part-requires-2 : goal.add_part-requires-2
 add_part-requires-2 c =
     let a = c.args in
@@ -276,7 +265,7 @@ add_part-requires-2 c =
     let seven : length a.g ≡ COMPONENTS = (let o = c.well_formed in search rules) in
     let size = spacing_size a.task.length a.g seven p.0.fits.short in
     let q : a.task.length ≡ l.i = omega (arith, l.invariant.coming.reach) in
-    let e = last a.task.length l.i c.wide-last.result a.g c.wide-last.ensures.0 q in (
+    let e = last_component a.task.length l.i c.wide-last.result a.g c.wide-last.ensures.0 q in (
       part_fits size l.invariant c.wide-last.result _ _ e
           (omega (
             arith,
@@ -305,7 +294,7 @@ returns c =
     let next = c.add_part-2.new.figures in
     let x = c.wide-last.result in
     let q : a.task.length ≡ l.i = omega (arith, l.invariant.coming.reach) in
-    let e = last a.task.length l.i x a.g c.wide-last.ensures.0 q in
+    let e = last_component a.task.length l.i x a.g c.wide-last.ensures.0 q in
     left_end (numbers_from a.shape a.table.now) a.figures.now (whole a.shape a.table.now a.task.links G) next
     (l.moved + x)
     (more a.shape a.table.now a.task.links G a.figures.now l.figures next l.moved

@@ -11,7 +11,8 @@ use Rattle.count_figures.proofs.filling.fill_figures.Given as goal
 
 abbrev pub invariant-loop-p : goal.invariant-loop-p
 invariant-loop-p l =
-    Filling (put_figures l.work.numbers) (figure_step l.work l.gaps) l.work.task.length l.work.task.total l.at l.size l.p l.initial.table l.table
+    Filling (put_figures l.work.numbers) (figure_step l.work l.gaps) l.work.task.length l.work.task.total l.at l.size l.p
+    l.initial.table l.table
     (spacing_in l.work.task.length l.next) × (length l.next ≡ COMPONENTS)
 
 abbrev pub decreases-loop-p : goal.decreases-loop-p

@@ -1,5 +1,5 @@
--- The measures of the cycle of calls {cell, next_sum}, and the invariant of the loop. The measure is
--- twice the number that falls at each cell, for the sum one less.
+-- The measures of the cycle of calls {cell, next_sum}, and the invariant of the loop. The measure
+-- is twice the number that falls at each cell, for the sum one less.
 use Prim.Native.Nat.{◌+◌, ◌-◌, ◌≤◌}
 use Rattle.count_step.specs.Step.{LARGEST}
 use Rattle.count_plain.proofs.CellLaws.{measure_of, SumTo}

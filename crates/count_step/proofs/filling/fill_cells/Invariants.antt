@@ -9,7 +9,8 @@ use Rattle.count_step.proofs.filling.fill_cells.Given as goal
 
 abbrev pub invariant-loop-p : goal.invariant-loop-p
 invariant-loop-p l =
-    Filling set (task_step l.task l.gaps) l.task.length l.task.total l.at l.size l.p l.initial.table l.table (spacing_in l.task.length l.next) ×
+    Filling set (task_step l.task l.gaps) l.task.length l.task.total l.at l.size l.p l.initial.table l.table
+    (spacing_in l.task.length l.next) ×
     (length l.next ≡ COMPONENTS)
 
 abbrev pub decreases-loop-p : goal.decreases-loop-p

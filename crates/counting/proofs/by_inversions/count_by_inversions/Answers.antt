@@ -3,16 +3,14 @@
 -- Assumes nothing.
 use native.Mathlib.Omega.{arith}
 use Prim.Native.Nat.{◌+◌}
-use mathlib.Core.Path.{◌≡◌, refl, sym, ap, ◌∙◌}
+use mathlib.Core.Path.{refl, sym, ap, ◌∙◌}
 use lib.ListN.{length}
 use Rattle.word.specs.Inversions.{figures}
 use Rattle.text_page.specs.Page.{overlay}
 use Rattle.text_page.specs.PageLaws.{page_after_lem}
-use Rattle.word.specs.Finding.{first_fault}
-use Rattle.forms.specs.SchemeMemory.{patterns_in, scheme_in, fault_of}
+use Rattle.forms.specs.SchemeMemory.{patterns_in, scheme_in}
 use Rattle.wellformed.proofs.OrderLaws.{not_faulty}
 use Rattle.scheme.specs.ProperLaws.{proper}
-use Rattle.verdict.specs.Verdict.{judge_tests}
 use Rattle.count_rows.specs.Run.{cleared}
 use Rattle.count_answer.proofs.CountLaws.{verdict_fault, clean_accepts}
 use Rattle.count_figure_answer.specs.FigureCounting.{figure_need}
@@ -22,14 +20,13 @@ use Rattle.counting.proofs.by_inversions.count_by_inversions.Goals as goal
 
 pub returns-then-is_fault : goal.returns-then-is_fault
 returns-then-is_fault c =
-    let judged-is : let a = c.args in c.fault_of-judged.result ≡ fault_of (first_fault (judge_tests (patterns_in a.patterns) (scheme_in a.scheme))) =
     let a = c.args in
+    let P = patterns_in a.patterns in
+    let E = scheme_in a.scheme in
     let j = c.judge_without_page-verdict in
-    c.fault_of-judged.ensures ∙ verdict_fault (patterns_in a.patterns) (scheme_in a.scheme) j.result j.ensures.verdict in
-    let a = c.args in
-    refused_judging (patterns_in a.patterns) (scheme_in a.scheme) a.n a.table.now a.results.now
-    c.fault_of-judged.result (judged-is) (sym c.is_fault.ensures ∙ c.if-is_fault.true)
-    c.figures_or.result c.figures_or.ensures
+    let judged-is = c.fault_of-judged.ensures ∙ verdict_fault P E j.result j.ensures.verdict in
+    refused_judging P E a.n a.table.now a.results.now c.fault_of-judged.result judged-is
+    (sym c.is_fault.ensures ∙ c.if-is_fault.true) c.figures_or.result c.figures_or.ensures
 
 pub measured-m-requires : goal.measured-m-requires
 measured-m-requires c =
