@@ -58,7 +58,8 @@ module _ (s : List ℕ) (p : PatternsRead) (is : p ≡ patterns_answer s) where
     pub first_done : (n : ℕ) (page after : List ℕ) (c : Listed) (r : ℕ) → ListsFirst (patterns_in p.patterns) n page after c →
         r ≡ listed_code c → FirstOfText s n page after r
     first_done n page after c r d k =
-        let l : Lists (first_fault (first_tests (patterns_of_text s) n (length page))) (first_avoider (patterns_of_text s) n) n page after c =
+        let l : Lists (first_fault (first_tests (patterns_of_text s) n (length page))) (first_avoider (patterns_of_text s) n) n page after
+        c =
         rw is at d.lists in
         record {
           answer = done_code (λ P. first_tests P n (length page)) (first_avoider (patterns_of_text s) n) n page after c l r k;
