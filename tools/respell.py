@@ -1,10 +1,10 @@
 #!/usr/bin/env python3
-"""Brings the repository's own definitions and lemmas to the toolchain's spelling: snake case, and a
-dash only where it joins the names of two definitions. Run it once, at the top, right after
-port.py. It reads the names that specs/ and proofs/ declare, turns each of them in .antt files, in
-clauses and comments of .rt files, in must-fail edits and in documents, and prints what it turned.
-Types and modules keep their names, and so do functions of src/ and the words of strings.
-With --list it writes nothing."""
+"""Brings the repository's own definitions and lemmas to the toolchain's spelling, snake case. It ran
+once, at the top, right after port.py (docs/PORT.md). It reads the names that specs/ and proofs/
+declare, turns each of them in .antt files, in clauses and comments of .rt files, in must-fail edits
+and in documents, and prints what it turned. Types and modules keep their names, and so do the words
+of strings. Where a lemma would have the name of a definition, it ends in _lem. With --list it
+writes nothing."""
 import pathlib
 import re
 import sys

@@ -33,7 +33,7 @@ abbrev pub listed : List (List ℕ) → ℕ → List (List ℕ)
 listed P n = listed_if (first_fault (first_tests P n WORD)) (avoiders P n)
 
 -- "prints each avoider on a line .. until the last": as many lines as there are avoiders, where no
--- write failed. No contract of the C library says what is written; what each write is handed is
+-- write failed. No contract of the library says what is written; what each write is handed is
 -- asked for by writing::write_bytes.
 pub record PrintsAll (P : List (List ℕ)) (n : ℕ) (r : Printed) : Type 0 where
   pub all : r.whole ≡ true → r.lines ≡ length (listed P n)

@@ -1,5 +1,5 @@
 // The lines of all avoiders, written to standard output one by one.
-ghost use Rattle.std.specs.Prelude.{◌≡◌, [], take, get_or};
+ghost use Rattle.std.specs.Prelude.{◌≡◌, [], take, get_or, pos, IsTrue};
 ghost use Rattle.forms.specs.SchemeMemory.{patterns_in};
 ghost use Rattle.avoider_lines.specs.Followed.{listed, PrintsAll};
 ghost use Rattle.avoider_lines.specs.LineText.{line_of};
@@ -22,7 +22,8 @@ pub struct Printed {
 // Writes the line of each avoider of length n, in lexicographic order, when it is found. It stops
 // at a write that fails.
 pub fn write_avoiders(output: Stdout, patterns: Patterns, n: usize) -> Printed
-    ensures { PrintsAll (patterns_in patterns) n result }
+    ensures lines { PrintsAll (patterns_in patterns) n result }
+    ensures error { IsTrue result.whole → result.error ≡ pos 0 }
 {
     let mut found = first_word(patterns, n);
     let mut lines: u64 = 0;

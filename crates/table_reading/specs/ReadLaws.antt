@@ -1,12 +1,13 @@
 -- Laws of one read of the input.
-use Rattle.std.specs.Prelude.{ℕ, zero, suc, ◌≡◌, refl, true, false, List, ◌++◌, ℤ, pos, negsuc}
+use Rattle.std.specs.Prelude.{ℕ, zero, suc, ◌≡◌, refl, Bool, true, false, cond, List, ◌++◌, ℤ, pos, negsuc, Result, Ok, Err, IfOk, IfErr}
 use Rattle.std.proofs.Common.{arith, sym, ap, ◌∙◌, true≢false, lt-ltb, ne_eqb}
 use Rattle.std.specs.Int.Signed.{lt_z}
 use Rattle.table_reading.specs.declared.State.TheVariants.{More, End, Failed}
 use Rattle.table_lines.specs.Kept.{Memory}
 use Rattle.table_lines.specs.KeptWalk.{kept_on}
 use Rattle.table_lines.specs.KeptLaws.{kept_on_lem}
-use Rattle.table_reading.specs.Reads.{AfterRead, state_after, bytes_got, taken_of, ReadsSome, ReadsAll}
+use Rattle.table_reading.specs.declared.State.{State}
+use Rattle.table_reading.specs.Reads.{AfterRead, interrupted, state_after, bytes_got, taken_of, ReadsSome, ReadsAll}
 
 -- the state by what `read` answered
 
@@ -33,6 +34,25 @@ module _ (error : ℤ) where
       by : (e : ℤ) → (e ≡ pos 4 → ⊥) → Failed ≡ state_after (negsuc n) e
       by (pos m) p = rw (ne_eqb m 4 (λ (q : m ≡ 4). p (ap pos q))) refl
       by (negsuc m) p = refl
+
+-- a read that failed does not end the input
+fails_on : (got error : ℤ) → got ≡ negsuc 0 → state_after got error ≡ End → ⊥
+fails_on got error h e = by (interrupted error) (sym (ap (λ (z : ℤ). state_after z error) h) ∙ e)
+  where
+    is_end : State → Bool
+    is_end More = false
+    is_end End = true
+    is_end Failed = false
+
+    by : (b : Bool) → cond b More Failed ≡ End → ⊥
+    by true q = true≢false (sym (ap is_end q))
+    by false q = true≢false (sym (ap is_end q))
+
+-- so where it ended there is no error: of the answer of std, as the two numbers
+pub end_clean : {E : Type 0} (r : Result ℕ E) (F : E → ℤ) (got error : ℤ) → IfOk r (λ n. (got ≡ pos n) × (error ≡ pos 0)) →
+    IfErr r (λ e. (got ≡ negsuc 0) × (error ≡ F e)) → state_after got error ≡ End → error ≡ pos 0
+end_clean (Ok n) F got error k f e = k.1
+end_clean (Err x) F got error k f e = absurd (fails_on got error f.0 e)
 
 -- what is taken of a chunk is kept of the input so far and its bytes
 pub reads_some : (before : Memory) (chunk : List ℕ) (got error : ℤ) (r : AfterRead) → r ≡

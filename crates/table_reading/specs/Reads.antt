@@ -40,7 +40,7 @@ after_of r a b = record { state = r.state; memory = memory_of r.lines a b }
 unfoldable pub taken_of : Memory → List ℕ → ℤ → ℤ → AfterRead
 taken_of m chunk got error = record { state = state_after got error; memory = kept_on m (bytes_got chunk got) }
 
--- One read. No contract of the C library says which bytes `read` finds: they are some bytes, and
+-- One read. No contract of the library says which bytes a read finds: they are some bytes, and
 -- what holds of the result is that it is what is kept of the input so far and these bytes.
 pub record ReadsSome (before : Memory) (r : AfterRead) : Type 0 where
   pub chunk : List ℕ

@@ -2,11 +2,14 @@
 // there may be more.
 #![tactic(auto)]
 
-ghost use Rattle.std.specs.Prelude.{◌≡◌, []};
+ghost use Rattle.std.specs.Prelude.{◌≡◌, ◌<◌, ◌^◌, [], pos, negsuc, IfOk, IfErr, unwrap_or};
+ghost use Rattle.std.specs.Result.{ForOk};
+ghost use Rattle.std.specs.IoError.{raw_os_error};
+ghost use Rattle.table_reading.specs.declared.State.TheVariants.{End};
 ghost use Rattle.table_lines.specs.Kept.{memory_of, kept_of};
 ghost use Rattle.table_reading.specs.Reads.{state_after, after_of, taken_of, has_more, ReadsSome, ReadsAll};
 
-use std::io::{Read, Stdin};
+use std::io::{Read, Result, Stdin};
 use table_lines::input::{Lines, keep, nothing};
 
 // The number of the error where a signal interrupts a call.
@@ -33,7 +36,8 @@ pub struct Reading {
 // has to end, so it counts its turns down from a number that no run uses up.
 pub fn read_all(input: Stdin, set: &mut [u8], scheme: &mut [u8]) -> Reading
     requires { memory_of (kept_of []).lines set.old scheme.old ≡ kept_of [] }
-    ensures { ReadsAll (after_of result set.new scheme.new) }
+    ensures kept { ReadsAll (after_of result set.new scheme.new) }
+    ensures error { result.state ≡ End → result.error ≡ pos 0 }
 {
     let mut reading = Reading {
         state: State::More,
@@ -63,12 +67,38 @@ fn read_some(
     scheme: &mut [u8],
     chunk: &mut [u8],
 ) -> Reading
-    ensures { ReadsSome (memory_of lines set.old scheme.old)
+    ensures kept { ReadsSome (memory_of lines set.old scheme.old)
         (after_of result set.new scheme.new) }
+    ensures error { result.state ≡ End → result.error ≡ pos 0 }
 {
-    match input.read(chunk) {
-        Ok(n) => taken(lines, set, scheme, chunk, n as isize, 0),
-        Err(e) => taken(lines, set, scheme, chunk, -1, e.raw_os_error().unwrap_or(0)),
+    let answer = answer_of(input.read(chunk));
+    taken(lines, set, scheme, chunk, answer.got, answer.error)
+}
+
+// What a read answered, as the C library says it: how many bytes it brought, or a negative number
+// where it failed; and the number of the error, 0 where it did not fail.
+#[derive(Clone, Copy)]
+struct Answer {
+    got: isize,
+    error: i32,
+}
+
+// The answer of std as those two numbers.
+fn answer_of(read: Result<usize>) -> Answer
+    requires { ForOk read (λ n. n < 2 ^ 63) }
+    ensures ok { IfOk read (λ n. (result.got ≡ pos n) × (result.error ≡ pos 0)) }
+    ensures err { IfErr read (λ e. (result.got ≡ negsuc 0) ×
+        (result.error ≡ unwrap_or (raw_os_error e) (pos 0))) }
+{
+    match read {
+        Ok(n) => Answer {
+            got: n as isize,
+            error: 0,
+        },
+        Err(e) => Answer {
+            got: -1,
+            error: e.raw_os_error().unwrap_or(0),
+        },
     }
 }
 
@@ -82,8 +112,9 @@ fn taken(
     got: isize,
     error: i32,
 ) -> Reading
-    ensures { after_of result set.new scheme.new ≡ taken_of
+    ensures kept { after_of result set.new scheme.new ≡ taken_of
         (memory_of lines set.old scheme.old) chunk.now got error }
+    ensures error { result.error ≡ error }
 {
     let n = io::count(got, chunk);
     let kept = keep(lines, set, scheme, &chunk[..n]);

@@ -18,6 +18,7 @@ loop-turns-init c =
             input = [];
             kept = ap (λ (k : Lines). memory_of k a.set.now a.scheme.now) c.nothing.ensures ∙ c.requires;
           };
+      clean = λ e. refl;
       set_size = refl;
       scheme_size = refl;
       chunk_size = search rules;
@@ -31,7 +32,8 @@ loop-turns-preserved c =
     let r = c.read_some-next in
     let l = c.loop-turns in
     record {
-      reads = reads_on _ _ l.invariant.reads r.ensures;
+      reads = reads_on _ _ l.invariant.reads r.ensures.kept;
+      clean = r.ensures.error;
       set_size = (let k = l.invariant.set_size in search rules);
       scheme_size = (let k = l.invariant.scheme_size in search rules);
       chunk_size = (let k = l.invariant.chunk_size in search rules);
@@ -44,7 +46,7 @@ pub shape_of-scheme-after-loop-turns : goal.shape_of-scheme-after-loop-turns
 shape_of-scheme-after-loop-turns c = c.loop-turns.invariant.scheme_size
 
 pub returns-after-loop-turns : goal.returns-after-loop-turns
-returns-after-loop-turns c = c.loop-turns.invariant.reads
+returns-after-loop-turns c = record { kept = c.loop-turns.invariant.reads; error = c.loop-turns.invariant.clean }
 
 pub shape_of-set-then-not-has_more : goal.shape_of-set-then-not-has_more
 shape_of-set-then-not-has_more c =
@@ -62,4 +64,4 @@ pub returns-then-not-has_more : goal.returns-then-not-has_more
 returns-then-not-has_more c =
     let r = c.read_some-next in
     let l = c.loop-turns in
-    reads_on _ _ l.invariant.reads r.ensures
+    record { kept = reads_on _ _ l.invariant.reads r.ensures.kept; error = r.ensures.error }

@@ -16,9 +16,9 @@ use Rattle.table_reading.proofs.taken.Goals as goal
 abbrev after : State → Memory → AfterRead
 after s m = record { state = s; memory = m }
 
-pub returns : goal.returns
+pub returns-clause-kept : goal.returns-clause-kept
 unfolding taken_of
-returns c =
+returns-clause-kept c =
     let a = c.args in
     let count = c.count-n in
     let before = memory_of a.lines a.set.now a.scheme.now in

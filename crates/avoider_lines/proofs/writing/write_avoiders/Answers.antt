@@ -32,8 +32,8 @@ write_line-requires c =
     let a = c.args in
     at_hand_is (patterns_in a.patterns) a.n _ _ (at_hand (goal.at.write_line-requires c).In-loop-found)
 
-pub returns-in-Err : goal.returns-in-Err
-returns-in-Err c =
+pub returns-in-Err-clause-lines : goal.returns-in-Err-clause-lines
+returns-in-Err-clause-lines c =
     let a = c.args in
     record {
       all = λ e. absurd (true_not_false (sym e));
@@ -56,8 +56,8 @@ loop-found-preserved c =
     let a = c.args in
     rw c.next_word-next.ensures (lines_more (patterns_in a.patterns) a.n _ _ (at_hand (goal.at.loop-found-preserved c).In-loop-found))
 
-pub returns : goal.returns
-returns c =
+pub returns-clause-lines : goal.returns-clause-lines
+returns-clause-lines c =
     let a = c.args in
     let l = c.loop-found in
     let P = patterns_in a.patterns in
