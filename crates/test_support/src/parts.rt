@@ -1,11 +1,14 @@
 // Parts of byte lists.
 
-ghost use Rattle.std.specs.Prelude.{◌≤◌, min, length};
+ghost use Rattle.std.specs.Prelude.{◌≡◌, ◌≢◌, ◌≤◌, ◌<◌, ℕ, min, length, slice_index};
 
 // The index of the first byte x from the index `from` on, and the number of bytes where there is
 // none.
 pub fn find(a: &[u8], from: usize, x: u8) -> usize
-    ensures { min from (length a.now) ≤ result }
+    ensures begun { min from (length a.now) ≤ result }
+    ensures within { result ≤ length a.now }
+    ensures before { (k : ℕ) → from ≤ k → k < result → slice_index a.now k ≢ x }
+    ensures found { result < length a.now → slice_index a.now result ≡ x }
 {
     let mut i = from;
     while i < a.len() {
