@@ -17,6 +17,14 @@ use Rattle.count_figure_answer.specs.FigureCounting.{figure_need}
 use Rattle.count_figure_answer.proofs.FigureCountLaws.{length_refused, table_refused, results_refused, figures_serve}
 use Rattle.count_figure_answer.proofs.FigureMeasureLaws.{figure_need_lem}
 use Rattle.count_figure_answer.proofs.measure.measured.Goals as goal
+use Rattle.count_figure_answer.proofs.measure.measured.Goals.{After-frame_of-frame}
+
+-- the layout is that of the scheme
+framed : (c : After-frame_of-frame) → let a = c.args in
+    c.frame_of-frame.result ≡ frame_of c.places_of-places.result a.n a.scheme.count (rows_of (scheme_in a.scheme))
+framed c =
+    let a = c.args in
+    c.frame_of-frame.ensures ∙ ap (frame_of c.places_of-places.result a.n a.scheme.count) c.rows_of-rows.ensures.0
 
 pub returns-then-n-gt-REFINED : goal.returns-then-n-gt-REFINED
 returns-then-n-gt-REFINED c =
@@ -31,10 +39,9 @@ returns-then-n-gt-REFINED c =
 pub overflow_mul-figures : goal.overflow_mul-figures
 overflow_mul-figures c =
     let a = c.args in
-    let framed : c.frame_of-frame.result ≡ frame_of c.places_of-places.result a.n a.scheme.count (rows_of (scheme_in a.scheme)) =
-    c.frame_of-frame.ensures ∙ ap (frame_of c.places_of-places.result a.n a.scheme.count) c.rows_of-rows.ensures.0 in
     let fits : FrameFits c.frame_of-frame.result =
-    frame_fits a.n a.scheme c.places_of-places.result c.places_of-places.ensures c.frame_of-frame.result framed c.requires.0 in
+    frame_fits a.n a.scheme c.places_of-places.result c.places_of-places.ensures c.frame_of-frame.result
+    (framed (goal.at.overflow_mul-figures c).After-frame_of-frame) c.requires.0 in
     let few : c.figure_count-figures.result ≤ FIGURES =
     omega (arith, c.figure_count-figures.ensures, count_most a.n (omega arith)) in
     omega (
@@ -47,11 +54,10 @@ overflow_mul-figures c =
 pub returns-then-cells-figures : goal.returns-then-cells-figures
 returns-then-cells-figures c =
     let a = c.args in
-    let framed : c.frame_of-frame.result ≡ frame_of c.places_of-places.result a.n a.scheme.count (rows_of (scheme_in a.scheme)) =
-    c.frame_of-frame.ensures ∙ ap (frame_of c.places_of-places.result a.n a.scheme.count) c.rows_of-rows.ensures.0 in
     let needed : c.figure_count-figures.result * c.need.result ≡ figure_need a.n (scheme_in a.scheme) =
     ap₂ ◌*◌ c.figure_count-figures.ensures c.need.ensures ∙
-    figure_need_lem a.n a.scheme c.places_of-places.result c.places_of-places.ensures c.frame_of-frame.result framed in
+    figure_need_lem a.n a.scheme c.places_of-places.result c.places_of-places.ensures c.frame_of-frame.result
+    (framed (goal.at.returns-then-cells-figures c).After-frame_of-frame) in
     let is = c.refused-then-cells-figures.ensures in
     record {
       found = is ∙ sym (table_refused (scheme_in a.scheme) a.n a.cells a.results (omega arith)
@@ -63,11 +69,10 @@ returns-then-cells-figures c =
 pub returns-then-results-figures : goal.returns-then-results-figures
 returns-then-results-figures c =
     let a = c.args in
-    let framed : c.frame_of-frame.result ≡ frame_of c.places_of-places.result a.n a.scheme.count (rows_of (scheme_in a.scheme)) =
-    c.frame_of-frame.ensures ∙ ap (frame_of c.places_of-places.result a.n a.scheme.count) c.rows_of-rows.ensures.0 in
     let needed : c.figure_count-figures.result * c.need.result ≡ figure_need a.n (scheme_in a.scheme) =
     ap₂ ◌*◌ c.figure_count-figures.ensures c.need.ensures ∙
-    figure_need_lem a.n a.scheme c.places_of-places.result c.places_of-places.ensures c.frame_of-frame.result framed in
+    figure_need_lem a.n a.scheme c.places_of-places.result c.places_of-places.ensures c.frame_of-frame.result
+    (framed (goal.at.returns-then-results-figures c).After-frame_of-frame) in
     let is = c.refused-then-results-figures.ensures in
     record {
       found = is ∙ sym (results_refused (scheme_in a.scheme) a.n a.cells a.results (omega arith)
@@ -79,16 +84,15 @@ returns-then-results-figures c =
 pub returns : goal.returns
 returns c =
     let a = c.args in
-    let framed : c.frame_of-frame.result ≡ frame_of c.places_of-places.result a.n a.scheme.count (rows_of (scheme_in a.scheme)) =
-    c.frame_of-frame.ensures ∙ ap (frame_of c.places_of-places.result a.n a.scheme.count) c.rows_of-rows.ensures.0 in
     let needed : c.figure_count-figures.result * c.need.result ≡ figure_need a.n (scheme_in a.scheme) =
     ap₂ ◌*◌ c.figure_count-figures.ensures c.need.ensures ∙
-    figure_need_lem a.n a.scheme c.places_of-places.result c.places_of-places.ensures c.frame_of-frame.result framed in
+    figure_need_lem a.n a.scheme c.places_of-places.result c.places_of-places.ensures c.frame_of-frame.result
+    (framed (goal.at.returns c).After-frame_of-frame) in
     record {
       found = sym (figures_serve (scheme_in a.scheme) a.n a.cells a.results (omega arith)
           (omega (arith, needed)) (omega (arith, c.figure_count-figures.ensures)));
       placed = λ f. c.places_of-places.ensures;
-      framed = λ f. framed;
+      framed = λ f. (framed (goal.at.returns c).After-frame_of-frame);
     }
 
 pub places_of-places-requires : goal.places_of-places-requires
@@ -100,6 +104,5 @@ figure_count-figures-requires c = omega arith
 pub need-requires : goal.need-requires
 need-requires c =
     let a = c.args in
-    let framed : c.frame_of-frame.result ≡ frame_of c.places_of-places.result a.n a.scheme.count (rows_of (scheme_in a.scheme)) =
-    c.frame_of-frame.ensures ∙ ap (frame_of c.places_of-places.result a.n a.scheme.count) c.rows_of-rows.ensures.0 in
-    frame_fits a.n a.scheme c.places_of-places.result c.places_of-places.ensures c.frame_of-frame.result framed c.requires.0
+    frame_fits a.n a.scheme c.places_of-places.result c.places_of-places.ensures c.frame_of-frame.result
+    (framed (goal.at.need-requires c).After-frame_of-frame) c.requires.0

@@ -16,6 +16,17 @@ use Rattle.verdict.specs.Witness.{witness_bytes}
 use Rattle.scheme.specs.SetLaws.{set_holds}
 use Rattle.judge.proofs.LossLaws.{shows_nothing_lem, shows_some}
 use Rattle.judge.proofs.judging.show_lost.Goals as goal
+use Rattle.judge.proofs.judging.show_lost.Goals.{Else-not-word}
+
+-- the array of the word's entries
+all_entries : (c : Else-not-word) → length c.args.word.entries ≡ WORD
+all_entries c =
+    (let o = c.well_formed in search rules)
+
+-- the word that is shown has room
+short : (c : Else-not-word) → c.args.word.length ≤ PREFIX + DIGITS
+short c =
+    c.requires.1 (not-false _ c.if-not-word.false)
 
 pub returns-then-not-word : goal.returns-then-not-word
 returns-then-not-word c =
@@ -26,33 +37,34 @@ returns-then-not-word c =
 
 pub slice_bounds-entries-end : goal.slice_bounds-entries-end
 slice_bounds-entries-end c =
-    let all-entries : length c.args.word.entries ≡ WORD =
-    (let o = c.well_formed in search rules) in
-    let short : c.args.word.length ≤ PREFIX + DIGITS =
-    c.requires.1 (not-false _ c.if-not-word.false) in
-    omega (arith, short, all-entries)
+    omega (
+      arith,
+      (short (goal.at.slice_bounds-entries-end c).Else-not-word),
+      (all_entries (goal.at.slice_bounds-entries-end c).Else-not-word),
+    )
 
 pub slice_bounds-show_witness-end : goal.slice_bounds-show_witness-end
 slice_bounds-show_witness-end c =
-    let all-entries : length c.args.word.entries ≡ WORD =
-    (let o = c.well_formed in search rules) in
-    let short : c.args.word.length ≤ PREFIX + DIGITS =
-    c.requires.1 (not-false _ c.if-not-word.false) in
     let word = c.args.word in
-    sym (length-take-le word.length word.entries (omega (arith, short, all-entries)))
+    sym (length-take-le word.length word.entries
+    (omega (
+      arith,
+      (short (goal.at.slice_bounds-show_witness-end c).Else-not-word),
+      (all_entries (goal.at.slice_bounds-show_witness-end c).Else-not-word),
+    )))
 
 pub show_witness-requires : goal.show_witness-requires
 show_witness-requires c =
-    let all-entries : length c.args.word.entries ≡ WORD =
-    (let o = c.well_formed in search rules) in
-    let short : c.args.word.length ≤ PREFIX + DIGITS =
-    c.requires.1 (not-false _ c.if-not-word.false) in
     let word = c.args.word in
     omega (
       arith,
-      short,
+      (short (goal.at.show_witness-requires c).Else-not-word),
       length-take-le word.length word.entries
-          (omega (arith, short, all-entries)),
+          (omega (
+            arith,
+            (short (goal.at.show_witness-requires c).Else-not-word),
+            (all_entries (goal.at.show_witness-requires c).Else-not-word),
+          )),
     )
 
 pub returns : goal.returns

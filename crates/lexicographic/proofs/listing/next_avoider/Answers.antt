@@ -9,6 +9,16 @@ use Rattle.scheme.specs.FindingLaws.{clean_finding}
 use Rattle.lexicographic.specs.Answers.{next_tests}
 use Rattle.lexicographic.proofs.TestLaws.{next_passed, next_refused, next_put}
 use Rattle.lexicographic.proofs.listing.next_avoider.Goals as goal
+use Rattle.lexicographic.proofs.listing.next_avoider.Goals.{Else-is_fault}
+
+-- no test has a fault
+nothing_found : (c : Else-is_fault) → let a = c.args in
+    first_fault (next_tests (patterns_in a.patterns) a.permutation.now (length a.page.now)) ≡ clean
+nothing_found c =
+    let a = c.args in
+    let f = c.next_fault-fault in
+    clean_finding (first_fault (next_tests (patterns_in a.patterns) a.permutation.now (length a.page.now))) f.result f.ensures
+    (sym c.is_fault.ensures ∙ c.if-is_fault.false)
 
 pub returns-then-is_fault : goal.returns-then-is_fault
 returns-then-is_fault c =
@@ -19,33 +29,20 @@ returns-then-is_fault c =
 
 pub next_listed-answer-requires : goal.next_listed-answer-requires
 next_listed-answer-requires c =
-    let nothing-found : let a = c.args in first_fault (next_tests (patterns_in a.patterns) a.permutation.now (length a.page.now)) ≡ clean =
     let a = c.args in
-    let f = c.next_fault-fault in
-    clean_finding (first_fault (next_tests (patterns_in a.patterns) a.permutation.now (length a.page.now))) f.result f.ensures
-    (sym c.is_fault.ensures ∙ c.if-is_fault.false) in
-    let a = c.args in
-    let p = next_passed (patterns_in a.patterns) a.permutation.now (length a.page.now) (nothing-found) in
+    let p = next_passed (patterns_in a.patterns) a.permutation.now (length a.page.now)
+    (nothing_found (goal.at.next_listed-answer-requires c).Else-is_fault) in
     (p.formed, p.small, p.perm, p.avoids_all)
 
 pub put_listed-requires : goal.put_listed-requires
 put_listed-requires c =
-    let nothing-found : let a = c.args in first_fault (next_tests (patterns_in a.patterns) a.permutation.now (length a.page.now)) ≡ clean =
     let a = c.args in
-    let f = c.next_fault-fault in
-    clean_finding (first_fault (next_tests (patterns_in a.patterns) a.permutation.now (length a.page.now))) f.result f.ensures
-    (sym c.is_fault.ensures ∙ c.if-is_fault.false) in
-    let a = c.args in
-    (next_passed (patterns_in a.patterns) a.permutation.now (length a.page.now) (nothing-found)).small
+    (next_passed (patterns_in a.patterns) a.permutation.now (length a.page.now)
+    (nothing_found (goal.at.put_listed-requires c).Else-is_fault)).small
 
 pub returns : goal.returns
 returns c =
-    let nothing-found : let a = c.args in first_fault (next_tests (patterns_in a.patterns) a.permutation.now (length a.page.now)) ≡ clean =
-    let a = c.args in
-    let f = c.next_fault-fault in
-    clean_finding (first_fault (next_tests (patterns_in a.patterns) a.permutation.now (length a.page.now))) f.result f.ensures
-    (sym c.is_fault.ensures ∙ c.if-is_fault.false) in
     let a = c.args in
     let put = c.put_listed in
-    next_put (patterns_in a.patterns) a.permutation.now a.page.now _ _ put.result (nothing-found)
+    next_put (patterns_in a.patterns) a.permutation.now a.page.now _ _ put.result (nothing_found (goal.at.returns c).Else-is_fault)
     c.next_listed-answer.ensures put.ensures
