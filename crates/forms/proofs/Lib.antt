@@ -1,3 +1,2 @@
 -- The laws that the proofs of the crate forms cite.
 pub mod CodeWalk
-pub mod SameWalk

@@ -10,6 +10,7 @@ use Rattle.std.proofs.Math.ListN.{get_or-append}
 use Rattle.word.specs.Lists.{all, row}
 use Rattle.word.specs.ListLaws.{same_or_not}
 use Rattle.word.specs.Word.{is_perm, within}
+use lib.Pointwise.{pointwise}
 use Rattle.cell.specs.Basis.{same}
 use Rattle.cell.proofs.BuiltCells.{same_refl}
 use Rattle.forms.specs.SchemeMemory.{padded}
@@ -77,3 +78,11 @@ take_row (x ∷ l) d (suc n) h = ap (λ u. x ∷ u) (take_row l d n (omega arith
     later : (a n : ℕ) → map (λ i. get_or l i d) (row a n) ≡ map (λ i. get_or (x ∷ l) i d) (row (suc a) n)
     later a zero = refl
     later a (suc n) = ap (λ u. get_or l a d ∷ u) (later (suc a) n)
+
+-- std compares slices place by place
+pub same_pointwise : (a b : List ℕ) → same a b ≡ pointwise eqb a b
+unfolding same
+same_pointwise [] [] = refl
+same_pointwise [] (y ∷ b) = refl
+same_pointwise (x ∷ a) [] = refl
+same_pointwise (x ∷ a) (y ∷ b) = ap (λ (r : Bool). eqb x y && r) (same_pointwise a b)

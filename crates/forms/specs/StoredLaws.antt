@@ -3,9 +3,11 @@
 -- Assumes nothing.
 use Rattle.std.specs.Prelude.{ℕ, zero, suc, ◌+◌, ◌≤◌, ◌<◌, ◌≡◌, refl, List, [], ◌∷◌, ◌++◌, length, get_or, take, drop, set}
 use Rattle.std.proofs.Common.{add-zero, add-suc, suc-add, add-one, arith, sym, ap, ◌∙◌, length-drop, length-set, take-suc, take-suc-set}
-use Rattle.std.proofs.Common.{get_or-drop, take_all, length-take-le}
+use Rattle.std.proofs.Common.{get_or-drop, take_all, length-take-le, take-append-drop, append_assoc}
 use Rattle.std.proofs.Math.Seq.{set_out}
+use Rattle.std.proofs.lemmas.List.{drop-drop, drop-set-lt}
 use Rattle.std.proofs.lemmas.List.Edits.{sets}
+use borrow.Rule.Slice.PartMut.{put_mid}
 
 -- one number more, copied from place `at` of the list l on
 pub copied_more : (l : List ℕ) (at i : ℕ) (b : List ℕ) → i < length b → at + i < length l → take i b ≡ take i (drop at l)
@@ -42,3 +44,22 @@ sets_front t at [] (suc i) h = refl
 sets_front t at (x ∷ u) (suc i) h =
     let k : length (set t at x) ≤ suc at + i = omega (arith, length-set t at x) in
     sets_front (set t at x) (suc at) u i k
+
+-- numbers that are copied over a part of a list are stored there one after the other
+pub sets_part : (t : List ℕ) (at k : ℕ) (xs : List ℕ) → at + k ≤ length t → k ≡ length xs → put_mid at k t xs ≡ sets t at xs
+sets_part t at zero [] h e = take-append-drop at t
+sets_part t at (suc k) [] h e = absurd (omega arith)
+sets_part t at zero (x ∷ xs) h e = absurd (omega arith)
+sets_part t at (suc k) (x ∷ xs) h e =
+    let here : at < length t = omega arith in
+    let next : put_mid (suc at) k (set t at x) xs ≡ sets (set t at x) (suc at) xs =
+    sets_part (set t at x) (suc at) k xs (omega (arith, length-set t at x)) (omega arith) in
+    rw (
+      drop-drop (suc k) at t,
+      add-suc at k,
+      ← append_assoc (take at t) (x ∷ []) (xs ++ drop (suc (at + k)) t),
+      ← take-suc-set t at x here,
+      ← suc-add at k,
+      ← drop-drop k (suc at) t,
+      ← drop-set-lt (suc at) t at x (omega arith),
+    ) next

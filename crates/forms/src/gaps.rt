@@ -5,7 +5,6 @@ ghost use Rattle.word.specs.Ceilings.{COMPONENTS, GAPS};
 ghost use Rattle.forms.specs.GapForm.{gap_from, entry_gap};
 
 use crate::memory::{Entry, Gap};
-use word::bytes::wide;
 use word::limits::{COMPONENTS, GAPS, PARTS};
 
 // The vector with index j.
@@ -13,14 +12,10 @@ pub fn gap_at(gaps: [u8; PARTS], widths: [u8; GAPS], j: usize) -> Gap
     requires { j < GAPS }
     ensures { result ≡ gap_from gaps widths j }
 {
-    let width = wide(widths[j]);
+    let width = usize::from(widths[j]);
     let from = COMPONENTS * j;
     let mut parts = [0u8; COMPONENTS];
-    let mut i: usize = 0;
-    while i < COMPONENTS {
-        parts[i] = gaps[from + i];
-        i += 1;
-    }
+    parts.copy_from_slice(&gaps[from..from + COMPONENTS]);
     Gap { parts, width }
 }
 
@@ -41,10 +36,6 @@ pub fn with_gap(gaps: [u8; PARTS], j: usize, parts: [u8; COMPONENTS]) -> [u8; PA
 {
     let start = COMPONENTS * j;
     let mut stored = gaps;
-    let mut i: usize = 0;
-    while i < COMPONENTS {
-        stored[start + i] = parts[i];
-        i += 1;
-    }
+    stored[start..start + COMPONENTS].copy_from_slice(&parts);
     stored
 }

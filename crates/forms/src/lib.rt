@@ -4,8 +4,5 @@
 
 pub mod codes;
 pub mod gaps;
-pub mod lists;
 pub mod memory;
 pub mod order;
-pub mod positions;
-pub mod sets;

@@ -1,7 +1,10 @@
 // Patterns and schemes in memory. A count or a length may be any number: one beyond its array is
 // refused as oversize by that field alone.
+ghost use Rattle.std.specs.Prelude.{◌≡◌, take};
+ghost use Rattle.forms.specs.SchemeMemory.{six_of};
+ghost use Rattle.forms.specs.SetMemory.{held};
+
 use word::limits::{COMPONENTS, DIGITS, ENTRIES, GAPS, PARTS, PATTERNS, PREFIX};
-use word::refusal::Refusal;
 
 // One pattern: its digits, and how many they are.
 #[derive(Clone, Copy)]
@@ -10,13 +13,29 @@ pub struct Pattern {
     pub length: usize,
 }
 
-// A set of patterns: so many of the items. The checker takes no field that is an array of arrays,
-// so each pattern is a struct here; an array of arrays of digits with lengths beside it is what
-// containment is handed.
+impl Pattern {
+    // The digits that memory holds: as many as the length says, and at most DIGITS.
+    pub fn as_slice(&self) -> &[u8]
+        ensures { result.now ≡ held self.now }
+    {
+        &self.digits[..self.length.min(DIGITS)]
+    }
+}
+
+// A set of patterns: so many of the items.
 #[derive(Clone, Copy)]
 pub struct Patterns {
     pub items: [Pattern; PATTERNS],
     pub count: usize,
+}
+
+impl Patterns {
+    // The patterns that memory holds: as many as the count says, and at most PATTERNS.
+    pub fn as_slice(&self) -> &[Pattern]
+        ensures { result.now ≡ take self.now.count self.now.items }
+    {
+        &self.items[..self.count.min(PATTERNS)]
+    }
 }
 
 // One gap vector: its components, and how many they are.
@@ -26,18 +45,22 @@ pub struct Gap {
     pub width: usize,
 }
 
-// The positions that an entry deletes together: the first PREFIX of them by name, since an enum
-// holds no array, and how many there are. 255 stands for every number beyond. Names that the count
-// does not reach are 0 where a text was read.
+// The positions that an entry deletes together: the first PREFIX of them, and how many there are.
+// 255 stands for every number beyond. Places that the count does not reach are 0 where a text was
+// read.
 #[derive(Clone, Copy)]
 pub struct Positions {
-    pub first: u8,
-    pub second: u8,
-    pub third: u8,
-    pub fourth: u8,
-    pub fifth: u8,
-    pub sixth: u8,
+    pub positions: [u8; PREFIX],
     pub count: u8,
+}
+
+impl Positions {
+    // The positions that memory holds: as many as the count says, and at most PREFIX.
+    pub fn as_slice(&self) -> &[u8]
+        ensures { result.now ≡ take self.now.count (six_of self.now) }
+    {
+        &self.positions[..usize::from(self.count).min(PREFIX)]
+    }
 }
 
 // What an entry does: it expands, or it deletes positions together (02, order 4).
@@ -67,9 +90,11 @@ pub struct Scheme {
     pub count: usize,
 }
 
-// What the tests of a list find: nothing, or a refusal with the index at fault.
-#[derive(Clone, Copy)]
-pub enum Fault {
-    Clean,
-    At(Refusal, usize),
+impl Scheme {
+    // The entries that memory holds: as many as the count says, and at most ENTRIES.
+    pub fn as_slice(&self) -> &[Entry]
+        ensures { result.now ≡ take self.now.count self.now.entries }
+    {
+        &self.entries[..self.count.min(ENTRIES)]
+    }
 }

@@ -3,3 +3,4 @@ pub mod Listed
 pub mod PatternSet
 pub mod EarliestLaws
 pub mod InversionLaws
+pub mod Chains

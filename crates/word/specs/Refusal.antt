@@ -1,6 +1,7 @@
 -- The number of each refusal in the table of document 01, and in the orders of document 02.
 use Rattle.std.specs.Prelude.{ℕ}
 use Rattle.word.specs.declared.refusal.Refusal.{Refusal}
+use Rattle.word.specs.declared.refusal.Refused.{Refused}
 use Rattle.word.specs.declared.refusal.Refusal.TheVariants.{Misspelt, Oversize, NoPermutation, Repeated}
 use Rattle.word.specs.declared.refusal.Refusal.TheVariants.{Rootless, Width, NoPosition, Childless}
 use Rattle.word.specs.declared.refusal.Refusal.TheVariants.{NoTarget, LiveGap, Irreversible, ShortTable}
@@ -21,3 +22,7 @@ number_of Irreversible = 11
 number_of ShortTable = 12
 number_of ShortPage = 13
 number_of NoAvoider = 14
+
+-- a refusal with the index of the item at fault
+abbrev pub refused_at : Refusal → ℕ → Refused
+refused_at r i = record { refusal = r; index = i }

@@ -1,7 +1,6 @@
-// Words: the refusals, the ceilings, bytes as numbers, permutations.
+// Words: the refusals, the ceilings, permutations.
 #![tactic(auto)]
 
-pub mod bytes;
 pub mod limits;
 pub mod permutation;
 pub mod refusal;

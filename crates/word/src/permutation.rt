@@ -2,39 +2,30 @@
 ghost use Rattle.std.specs.Prelude.{◌≡◌, drop};
 ghost use Rattle.word.specs.Word.{is_perm, has};
 
-use crate::bytes::wide;
-
 // Whether x stands in s at the index `from` or later.
 pub fn stands_from(s: &[u8], from: usize, x: u8) -> bool
     ensures { result ≡ has x (drop from s.now) }
 {
-    let mut i = from;
-    while i < s.len() {
-        if s[i] == x {
-            return true;
-        }
-        i += 1;
+    match s.get(from..) {
+        Some(rest) => rest.contains(&x),
+        None => false,
     }
-    false
 }
 
 // Whether s lists 1 to its length, each once.
 pub fn is_permutation(s: &[u8]) -> bool
     ensures { result ≡ is_perm s.now }
 {
-    let mut i: usize = 0;
-    while i < s.len() {
-        let x = s[i];
+    for (i, &x) in s.iter().enumerate() {
         if x == 0 {
             return false;
         }
-        if s.len() < wide(x) {
+        if s.len() < usize::from(x) {
             return false;
         }
         if stands_from(s, i + 1, x) {
             return false;
         }
-        i += 1;
     }
     true
 }

@@ -1,9 +1,9 @@
 // The refusals: a case for each row of the table of document 01, in its order, and then those of
 // the orders of document 02.
 ghost use Rattle.std.specs.Prelude.{◌≡◌};
-ghost use Rattle.word.specs.Refusal.{number_of};
+ghost use Rattle.word.specs.Refusal.{number_of, refused_at};
 
-#[derive(Clone, Copy)]
+#[derive(Clone, Copy, PartialEq, Eq)]
 pub enum Refusal {
     // text not in the notation
     Misspelt,
@@ -36,23 +36,44 @@ pub enum Refusal {
 }
 
 // The number of a refusal in the table.
-pub fn number(r: Refusal) -> u8
-    ensures { result ≡ number_of r }
-{
-    match r {
-        Refusal::Misspelt => 1,
-        Refusal::Oversize => 2,
-        Refusal::NoPermutation => 3,
-        Refusal::Repeated => 4,
-        Refusal::Rootless => 5,
-        Refusal::Width => 6,
-        Refusal::NoPosition => 7,
-        Refusal::Childless => 8,
-        Refusal::NoTarget => 9,
-        Refusal::LiveGap => 10,
-        Refusal::Irreversible => 11,
-        Refusal::ShortTable => 12,
-        Refusal::ShortPage => 13,
-        Refusal::NoAvoider => 14,
+impl From<Refusal> for u8 {
+    ghost from_gives = { λ r n. n ≡ number_of r };
+
+    fn from(refusal: Refusal) -> u8 {
+        match refusal {
+            Refusal::Misspelt => 1,
+            Refusal::Oversize => 2,
+            Refusal::NoPermutation => 3,
+            Refusal::Repeated => 4,
+            Refusal::Rootless => 5,
+            Refusal::Width => 6,
+            Refusal::NoPosition => 7,
+            Refusal::Childless => 8,
+            Refusal::NoTarget => 9,
+            Refusal::LiveGap => 10,
+            Refusal::Irreversible => 11,
+            Refusal::ShortTable => 12,
+            Refusal::ShortPage => 13,
+            Refusal::NoAvoider => 14,
+        }
+    }
+}
+
+// A refusal with the index of the pattern or the entry at fault, or 0 where the fault lies in none.
+#[derive(Clone, Copy, PartialEq, Eq)]
+pub struct Refused {
+    pub refusal: Refusal,
+    pub index: usize,
+}
+
+impl Refusal {
+    // The refusal of the item with an index.
+    pub fn at(self, index: usize) -> Refused
+        ensures { result ≡ refused_at self index }
+    {
+        Refused {
+            refusal: self,
+            index,
+        }
     }
 }

@@ -17,11 +17,11 @@ returns-then-x-eq0 c =
     let l = c.loop-i in
     sym (l.invariant ∙ listed_none (length s) s l.i (omega arith) c.if-x-eq0.true)
 
-pub returns-then-s-wide : goal.returns-then-s-wide
-returns-then-s-wide c =
+pub returns-then-s-from : goal.returns-then-s-from
+returns-then-s-from c =
     let s = c.args.s.now in
     let l = c.loop-i in
-    let above : length s < get_or s l.i 0 = omega (arith, c.wide.ensures.0) in
+    let above : length s < get_or s l.i 0 = omega arith in
     sym (l.invariant ∙ listed_above (length s) s l.i (omega arith) above)
 
 pub returns-then-stands_from : goal.returns-then-stands_from
@@ -34,7 +34,7 @@ pub loop-i-preserved : goal.loop-i-preserved
 loop-i-preserved c =
     let s = c.args.s.now in
     let l = c.loop-i in
-    let inside : get_or s l.i 0 ≤ length s = omega (arith, c.wide.ensures.0) in
+    let inside : get_or s l.i 0 ≤ length s = omega arith in
     l.invariant ∙ listed_next (length s) s l.i (omega arith) c.if-x-eq0.false inside (sym c.stands_from.ensures ∙ c.if-stands_from.false)
 
 pub returns : goal.returns

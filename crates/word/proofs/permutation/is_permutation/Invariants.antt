@@ -1,5 +1,4 @@
--- The invariant and the measure of the loop of `word::permutation::is_permutation`.
-use Prim.Native.Nat.{◌-◌}
+-- The invariant of the loop of `word::permutation::is_permutation`.
 use mathlib.Core.Path.{◌≡◌}
 use lib.ListN.{length, drop}
 use Rattle.word.specs.Word.{is_perm}
@@ -8,6 +7,3 @@ use Rattle.word.proofs.permutation.is_permutation.Given as goal
 
 abbrev pub invariant-loop-i : goal.invariant-loop-i
 invariant-loop-i l = is_perm l.s ≡ listed (length l.s) (drop l.i l.s)
-
-abbrev pub decreases-loop-i : goal.decreases-loop-i
-decreases-loop-i l = length l.s - l.i

@@ -1,22 +1,20 @@
--- `word::permutation::stands_from` meets its contract: what stands from `from` on is what stands
--- from the index on.
+-- `word::permutation::stands_from` meets its contract.
 -- Assumes nothing.
-use mathlib.Core.Path.{sym, ◌∙◌}
-use native.Mathlib.Omega.{arith}
-use Rattle.word.proofs.Listed.{has_here, has_later, has_none}
+use Rattle.std.proofs.Common.{rules, ◌-◌, length-drop, ◌≡◌, drop, length, ◌∙◌, sym, ap, arith}
+use lib.Seq.{take_all}
+use Rattle.word.specs.Word.{has}
+use Rattle.word.proofs.Chains.{has_list}
+use Rattle.word.proofs.Listed.{has_none}
 use Rattle.word.proofs.permutation.stands_from.Goals as goal
 
-pub returns-then-s-i : goal.returns-then-s-i
-returns-then-s-i c =
-    let a = c.args in
-    sym (c.loop-i.invariant ∙ has_here a.x a.s.now c.loop-i.i (omega arith) c.if-s-i.true)
+pub returns-in-Some : goal.returns-in-Some
+returns-in-Some c =
+    let s = c.args.s.now in
+    let from = c.args.from in
+    let here = c.in-Some.ensures.lookup.0 in
+    let rest : c.in-Some.rest.now ≡ drop from s =
+    here.2 ∙ take_all (length s - from) (drop from s) (omega (arith, length-drop from s)) in
+    c.contains.ensures.value ∙ sym (has_list c.args.x c.in-Some.rest.now) ∙ ap (has c.args.x) rest
 
-pub loop-i-preserved : goal.loop-i-preserved
-loop-i-preserved c =
-    let a = c.args in
-    c.loop-i.invariant ∙ has_later a.x a.s.now c.loop-i.i (omega arith) c.if-s-i.false
-
-pub returns : goal.returns
-returns c =
-    let a = c.args in
-    sym (c.loop-i.invariant ∙ has_none a.x a.s.now c.loop-i.i (omega arith))
+pub returns-in-None : goal.returns-in-None
+returns-in-None c = sym (has_none c.args.x c.args.s.now c.args.from (search rules))
