@@ -13,7 +13,10 @@ use Rattle.word.specs.ListLaws.{true_not_false, and_left, same_test, fails_with,
 use Rattle.word.specs.PermLaws.{has_out, has_in, perm_bounds, perm_has}
 use Rattle.completion.specs.Completion.{begins, completable, allowed, all_allowed, goes_on}
 use Rattle.completion.specs.CompletionLaws.{begins_out, begins_in, completable_next, completable_avoids}
+use Rattle.std.specs.Prelude.{Option}
+use Rattle.arrangement.specs.Said.{said_yes, said_no, word_in}
 use Rattle.arrangement.specs.declared.searched.Searched.{Searched}
+use Rattle.arrangement.specs.declared.searched.Searched.TheVariants.{Completed, Impossible, Undecided}
 use Rattle.arrangement.specs.Exchange.{exchange, Rearranged}
 use Rattle.arrangement.specs.ExchangeLaws.{exchange_next, rearranged_none, rearranged_more}
 use Rattle.arrangement.specs.Searching.{Completes, Searches}
@@ -152,15 +155,16 @@ module _ (P : List (List ℕ)) (n : ℕ) (word : List ℕ) (len : ℕ) (k : len 
         on = goes_on P n (take len word)
 
     -- what the call for one value says is passed on where it is no "none"
-    pub tries_passed : (r : Searched) → r.none ≡ false → Searches P n (take (len + 1) (exchange len j w)) r →
+    pub tries_passed : (r : Searched) → ((b : Option ℕ) → r ≡ Impossible b → ⊥) → Searches P n (take (len + 1) (exchange len j w)) r →
         Searches P n (take len word) r
     tries_passed r f g = record {
-      yes = λ (y : r.found ≡ true). shorter (g.yes y);
-      no = λ (y : r.none ≡ true). absurd (true_not_false (sym y ∙ f));
+      yes = λ (y : said_yes r ≡ true). shorter (g.yes y);
+      no = λ (y : said_no r ≡ true). absurd (is_no r y f);
     }
       where
-        shorter : Completes P n (take (len + 1) (exchange len j w)) (take n r.word) → Completes P n (take len word) (take n r.word)
-        shorter c = let (s, e) = begins_out (take len word ++ (get_or word j 0 ∷ [])) (take n r.word) (rw tries_word at c.front) in
+        shorter : Completes P n (take (len + 1) (exchange len j w)) (take n (word_in r)) →
+            Completes P n (take len word) (take n (word_in r))
+        shorter c = let (s, e) = begins_out (take len word ++ (get_or word j 0 ∷ [])) (take n (word_in r)) (rw tries_word at c.front) in
             record {
               perm = c.perm;
               size = c.size;
@@ -169,30 +173,31 @@ module _ (P : List (List ℕ)) (n : ℕ) (word : List ℕ) (len : ℕ) (k : len 
                   begins_in (take len word) (get_or word j 0 ∷ s);
             }
 
+        is_no : (s : Searched) → said_no s ≡ true → ((b : Option ℕ) → s ≡ Impossible b → ⊥) → ⊥
+        is_no (Completed x) y f = true_not_false (sym y)
+        is_no (Impossible b) y f = f b refl
+        is_no Undecided y f = true_not_false (sym y)
+
 -- the ways in which a call ends: no completion, a whole word, an end of the budget
-pub searches_none : (P : List (List ℕ)) (n : ℕ) (u : List ℕ) (r : Searched) → r.found ≡ false → completable P n u ≡ false →
-    Searches P n u r
-searches_none P n u r f e = record {
-  yes = λ (y : r.found ≡ true). absurd (true_not_false (sym y ∙ f));
-  no = λ y. e;
+pub searches_none : (P : List (List ℕ)) (n : ℕ) (u : List ℕ) (b : Option ℕ) → completable P n u ≡ false → Searches P n u (Impossible b)
+searches_none P n u b e = record { yes = λ (y : false ≡ true). absurd (true_not_false (sym y)); no = λ y. e }
+
+pub searches_undecided : (P : List (List ℕ)) (n : ℕ) (u : List ℕ) → Searches P n u Undecided
+searches_undecided P n u = record {
+  yes = λ (y : false ≡ true). absurd (true_not_false (sym y));
+  no = λ (y : false ≡ true). absurd (true_not_false (sym y));
 }
 
-pub searches_undecided : (P : List (List ℕ)) (n : ℕ) (u : List ℕ) (r : Searched) → r.found ≡ false → r.none ≡ false → Searches P n u r
-searches_undecided P n u r f g = record {
-  yes = λ (y : r.found ≡ true). absurd (true_not_false (sym y ∙ f));
-  no = λ (y : r.none ≡ true). absurd (true_not_false (sym y ∙ g));
-}
-
-pub searches_whole : (P : List (List ℕ)) (n : ℕ) (word : List ℕ) (len : ℕ) (r : Searched) → len ≡ n → n ≤ length word →
-    is_perm (take n word) ≡ true → avoids P (take len word) ≡ true → r.none ≡ false → r.word ≡ word → Searches P n (take len word) r
-searches_whole P n word len r h l p a g q = record {
-  yes = λ y. rw (q, h) (record {
+pub searches_whole : (P : List (List ℕ)) (n : ℕ) (word : List ℕ) (len : ℕ) → len ≡ n → n ≤ length word →
+    is_perm (take n word) ≡ true → avoids P (take len word) ≡ true → Searches P n (take len word) (Completed word)
+searches_whole P n word len h l p a = record {
+  yes = λ y. rw h (record {
     perm = p;
     size = length-take-le n word l;
     avoids_all = ap (λ (m : ℕ). avoids P (take m word)) (sym h) ∙ a;
     front = ap (begins (take n word)) (sym (append-nil (take n word))) ∙ begins_in (take n word) [];
   });
-  no = λ (y : r.none ≡ true). absurd (true_not_false (sym y ∙ g));
+  no = λ (y : false ≡ true). absurd (true_not_false (sym y));
 }
 
 -- what rules a completion out: a pattern in the first entries, too many values between two bounds

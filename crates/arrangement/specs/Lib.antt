@@ -1,5 +1,6 @@
 -- The definitions of the crate arrangement, and then its laws.
 pub mod Exchange
+pub mod Said
 pub mod Searching
 pub mod OccurrenceLaws
 pub mod ExchangeLaws

@@ -1,12 +1,15 @@
 -- Laws of what a search says: a completion in hand decides, and a yes or a no is the answer.
-use Rattle.std.specs.Prelude.{ℕ, ◌≡◌, refl, Bool, true, false, ◌||◌, List, length, take}
+use Rattle.std.specs.Prelude.{ℕ, ◌≡◌, refl, true, List, length, take}
 use Rattle.std.proofs.Common.{sym, ap, ◌∙◌}
 use Rattle.word.specs.Word.{is_perm, avoids}
-use Rattle.word.specs.ListLaws.{true_not_false}
 use Rattle.completion.specs.Completion.{completable}
 use Rattle.completion.specs.CompletionLaws.{begins_out, completable_in}
 use Rattle.arrangement.specs.Searching.{Completes, Searches, Decides}
+use Rattle.std.specs.Prelude.{Some, None}
+use Rattle.std.proofs.lemmas.Option.{same_Some, none-some}
+use Rattle.arrangement.specs.Said.{said_no}
 use Rattle.arrangement.specs.declared.searched.Searched.{Searched}
+use Rattle.arrangement.specs.declared.searched.Searched.TheVariants.{Completed}
 
 -- a word with a completion in hand can be completed
 pub completes_can : (P : List (List ℕ)) (n : ℕ) (u w : List ℕ) → Completes P n u w → completable P n u ≡ true
@@ -14,15 +17,11 @@ completes_can P n u w c =
     let (r, q) = begins_out u w c.front in
     completable_in P n u r (ap is_perm q ∙ c.perm) (ap length q ∙ c.size) (ap (avoids P) q ∙ c.avoids_all)
 
--- a search that said yes or no has decided
-pub searches_decide : (P : List (List ℕ)) (n : ℕ) (u : List ℕ) (r : Searched) → Searches P n u r →
-    r.found || r.none ≡ true → Decides P n u r
-searches_decide P n u r s d = go r.found refl r.none refl d
-  where
-    go : (f : Bool) → r.found ≡ f → (z : Bool) → r.none ≡ z → f || z ≡ true → Decides P n u r
-    go true e z q h =
-        let c = s.yes e in record { decided = e ∙ sym (completes_can P n u (take n r.word) c); word = λ t. c }
-    go false e true q h =
-        let none_there = s.no q in
-        record { decided = e ∙ sym none_there; word = λ t. absurd (true_not_false (sym t ∙ none_there)) }
-    go false e false q h = absurd (true_not_false (sym h))
+-- a search that said yes has decided, and so has one that said no
+pub yes_decides : (P : List (List ℕ)) (n : ℕ) (u w : List ℕ) (r : Searched) → Searches P n u r → r ≡ Completed w → Decides P n u (Some w)
+yes_decides P n u w r s e =
+    let c : Completes P n u (take n w) = (rw e at s).yes refl in
+    record { decided = sym (completes_can P n u (take n w) c); word = λ x q. rw (same_Some w x q) at c }
+
+pub no_decides : (P : List (List ℕ)) (n : ℕ) (u : List ℕ) (r : Searched) → Searches P n u r → said_no r ≡ true → Decides P n u None
+no_decides P n u r s e = record { decided = sym (s.no e); word = λ x q. absurd (none-some x q) }

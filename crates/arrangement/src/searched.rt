@@ -1,46 +1,34 @@
-// What a search for a completion says.
-ghost use Rattle.std.specs.Prelude.{◌≡◌, true, false};
+// What a search for a completion says, and how many words it may still try.
+ghost use Rattle.std.specs.Prelude.{◌≡◌, ◌||◌, is_none};
+ghost use Rattle.arrangement.specs.Said.{said_yes, said_no};
 
 use word::limits::WORD;
 
-// Yes with a completion, no, or neither where the budget did not last; and how many words of the
-// budget are left.
+// Yes, with a completion; no, there is none, and so many words of the budget are left; or neither,
+// where the budget did not last. A budget of None is without end.
 #[derive(Clone, Copy)]
-pub struct Searched {
-    pub found: bool,
-    pub none: bool,
-    pub left: usize,
-    pub word: [u8; WORD],
+pub enum Searched {
+    Completed([u8; WORD]),
+    Impossible(Option<usize>),
+    Undecided,
 }
 
-// Yes: this word is a completion.
-pub fn found_as(word: [u8; WORD], left: usize) -> Searched
-    ensures { (result.found ≡ true) × (result.none ≡ false) × (result.word ≡ word) }
-{
-    answer(true, false, left, word)
-}
-
-// No: there is no completion.
-pub fn found_none(word: [u8; WORD], left: usize) -> Searched
-    ensures { (result.found ≡ false) × (result.none ≡ true) }
-{
-    answer(false, true, left, word)
-}
-
-// The budget did not last.
-pub fn undecided(word: [u8; WORD]) -> Searched
-    ensures { (result.found ≡ false) × (result.none ≡ false) }
-{
-    answer(false, false, 0, word)
-}
-
-fn answer(found: bool, none: bool, left: usize, word: [u8; WORD]) -> Searched
-    ensures { (result.found ≡ found) × (result.none ≡ none) × (result.word ≡ word) }
-{
-    Searched {
-        found,
-        none,
-        left,
-        word,
+impl Searched {
+    // Whether it is a yes or a no.
+    pub fn is_decided(self) -> bool
+        ensures { result ≡ said_yes self || said_no self }
+    {
+        match self {
+            Searched::Completed(_) => true,
+            Searched::Impossible(_) => true,
+            Searched::Undecided => false,
+        }
     }
+}
+
+// A budget with one word less.
+pub fn one_less(budget: Option<usize>) -> Option<usize>
+    ensures { is_none result ≡ is_none budget }
+{
+    budget.map(|words| words.saturating_sub(1))
 }

@@ -1,5 +1,5 @@
--- The values from v to n, and what one of them adds to the two tests of the emptiness search; the
--- front of a word, entry by entry.
+-- The values from v to n, and what one of them adds to the two tests of the emptiness search; a
+-- word, entry by entry.
 -- Assumes nothing.
 use Prim.Native.Nat.{ℕ, suc, ◌+◌, ◌-◌, ◌≤◌, ◌<◌}
 use mathlib.Core.Path.{◌≡◌, refl, sym, ap, ◌∙◌}
@@ -7,7 +7,7 @@ use mathlib.Core.Bool.{Bool, true, false, not, and-false}
 use mathlib.Core.List.{List, [], ◌∷◌, ◌++◌}
 use native.Mathlib.Numerals.{add-one}
 use native.Mathlib.Omega.{arith}
-use lib.ListN.{length, get_or, take, drop}
+use lib.ListN.{length, get_or, take, drop, take-append-drop}
 use lib.Seq.{take-suc, take-add, drop-cons}
 use Rattle.word.specs.Lists.{all, any, row, one_to}
 use Rattle.word.specs.Word.{avoids, has}
@@ -86,6 +86,10 @@ front_cut w i len h k =
     let here : i < length w = omega arith in
     ap (λ (m : ℕ). take m w) e ∙ take-add i (suc (len - suc i)) w ∙ rw (drop-cons w i 0 here) refl
 
+-- a word, cut at one of its entries
+cut_at : (w : List ℕ) (i : ℕ) → i < length w → w ≡ take i w ++ (get_or w i 0 ∷ drop (suc i) w)
+cut_at w i h = sym (take-append-drop i w) ∙ ap (λ (t : List ℕ). take i w ++ t) (drop-cons w i 0 h)
+
 pub begun_none : (n : ℕ) → begun n [] ≡ true
 unfolding begun
 begun_none n = refl
@@ -96,13 +100,12 @@ pub begun_more : (n : ℕ) (w : List ℕ) (i : ℕ) → i < length w → begun n
 begun_more n w i h b z a e = rw (add-one i, take-suc w i 0 h) (begun_snoc n (take i w) (get_or w i 0) b (omega arith) a e)
 
 -- an entry that breaks a begun word
-pub begun_fails : (n : ℕ) (w : List ℕ) (i len : ℕ) → i < len → len ≤ length w →
-    ((1 ≤ get_or w i 0) → (get_or w i 0 ≤ n) → (has (get_or w i 0) (take i w) ≡ false) → ⊥) → begun n (take len w) ≡ false
-begun_fails n w i len h k f = go (begun n (take len w)) refl
+pub begun_fails : (n : ℕ) (w : List ℕ) (i : ℕ) → i < length w →
+    ((1 ≤ get_or w i 0) → (get_or w i 0 ≤ n) → (has (get_or w i 0) (take i w) ≡ false) → ⊥) → begun n w ≡ false
+begun_fails n w i k f = go (begun n w) refl
   where
-    go : (b : Bool) → begun n (take len w) ≡ b → b ≡ false
+    go : (b : Bool) → begun n w ≡ b → b ≡ false
     go true e =
-        let (l, m, q) = begun_last n (take i w) (get_or w i 0) (take (len - suc i) (drop (suc i) w))
-        (ap (begun n) (sym (front_cut w i len h k)) ∙ e) in
+        let (l, m, q) = begun_last n (take i w) (get_or w i 0) (drop (suc i) w) (ap (begun n) (sym (cut_at w i k)) ∙ e) in
         absurd (f l m q)
     go false e = refl

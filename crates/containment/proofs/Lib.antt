@@ -1,3 +1,2 @@
 -- The laws that the proofs of containment cite.
 pub mod SetSearch
-pub mod Answer

@@ -17,10 +17,10 @@ use lib.Dec.{ltb}
 use lib.Seq.{take-set-le, take-suc-set, take-suc, drop-cons, get_or-set_same, get_or-set_other, drop-length}
 use lib.Seq.{length-take-le, get_or-take, drop-set-lt, take-take}
 use borrow.Author.Tests.{not-true, not-false}
+use Rattle.std.specs.Prelude.{Some}
 use Rattle.word.specs.Lists.{first, sublists, row}
 use Rattle.word.specs.Word.{iso, entry, first_copy}
 use Rattle.copy_search.specs.Copy.{shown}
-use Rattle.copy_search.specs.declared.FirstCopy.{FirstCopy}
 use Rattle.word.specs.ListLaws.{length_row, same_or_not}
 use Rattle.word.specs.Vocabulary.{fits}
 use Rattle.word.specs.IsoLaws.{iso_snoc, iso_prefix, iso_length}
@@ -349,14 +349,14 @@ unfolding entry
 take_more w d i at entries ha he e =
     rw (add-one d, add-one i, take-suc-set at d (suc i) ha, take-suc-set entries d (get_or w i 0) he, map-append, e) refl
 
-module _ (p w : List ℕ) (l k : ℕ) (eight : length p ≡ 8) (capped : k ≡ min l 8) where
-  pub length_cut : length (take l p) ≡ k
-  length_cut = rw (length-take l p, eight, capped) refl
+module _ (p w : List ℕ) (k : ℕ) (capped : k ≡ min (length p) 8) where
+  pub length_cut : length (take 8 p) ≡ k
+  length_cut = omega (arith, length-take 8 p, capped)
 
-  pub walk_start : (k ≡ 0 → ⊥) → Walk (take l p) w k (replicate 8 0) (replicate 8 0) 0 0
+  pub walk_start : (k ≡ 0 → ⊥) → Walk (take 8 p) w k (replicate 8 0) (replicate 8 0) 0 0
   walk_start h =
       record {
-        answer = sym (left_start (take l p) w (replicate 8 0));
+        answer = sym (left_start (take 8 p) w (replicate 8 0));
         same = refl;
         inside = omega arith;
         positions = refl;
@@ -366,19 +366,19 @@ module _ (p w : List ℕ) (l k : ℕ) (eight : length p ≡ 8) (capped : k ≡ m
         stored = λ j b. absurd (omega arith);
       }
 
-  module _ (at entries : List ℕ) (d i : ℕ) (W : Walk (take l p) w k at entries d i) where
+  module _ (at entries : List ℕ) (d i : ℕ) (W : Walk (take 8 p) w k at entries d i) where
     module _ (h : i < length w) where
-      fit_place : fits (take d p) (get_or p d 0) (take d entries) (get_or w i 0) ≡ place (take l p) w at d (suc i)
+      fit_place : fits (take d p) (get_or p d 0) (take d entries) (get_or w i 0) ≡ place (take 8 p) w at d (suc i)
       unfolding entry
       fit_place =
-          rw (W.same, take-take d l p (omega (arith, W.inside)), get_or-take l p d 0 (omega (arith, W.inside))) refl
+          rw (W.same, take-take d 8 p (omega (arith, W.inside)), get_or-take 8 p d 0 (omega (arith, W.inside, capped))) refl
 
-      pub walk_skip : fits (take d p) (get_or p d 0) (take d entries) (get_or w i 0) ≡ false → Walk (take l p) w k at entries d (i + 1)
+      pub walk_skip : fits (take d p) (get_or p d 0) (take d entries) (get_or w i 0) ≡ false → Walk (take 8 p) w k at entries d (i + 1)
       walk_skip e =
           record {
             answer =
                 W.answer ∙ rw (add-one i, after_cons w i h)
-                (left_skip (take l p) w at d (suc i) (after w (suc i)) (omega (arith, length_cut, W.inside)) (sym fit_place ∙ e));
+                (left_skip (take 8 p) w at d (suc i) (after w (suc i)) (omega (arith, length_cut, W.inside)) (sym fit_place ∙ e));
             same = W.same;
             inside = W.inside;
             positions = W.positions;
@@ -389,16 +389,16 @@ module _ (p w : List ℕ) (l k : ℕ) (eight : length p ≡ 8) (capped : k ≡ m
           }
 
       module _ (e : fits (take d p) (get_or p d 0) (take d entries) (get_or w i 0) ≡ true) where
-        placed : first_copy (take l p) w ≡ left (take l p) w (set at d (i + 1)) (d + 1) (after w (i + 1))
+        placed : first_copy (take 8 p) w ≡ left (take 8 p) w (set at d (i + 1)) (d + 1) (after w (i + 1))
         placed =
             W.answer ∙ rw (add-one i, add-one d, after_cons w i h)
-            (left_place (take l p) w at d (suc i) (omega (arith, length_cut, W.inside))
+            (left_place (take 8 p) w at d (suc i) (omega (arith, length_cut, W.inside))
             (omega (arith, W.positions, W.inside)) (sym fit_place ∙ e))
 
         rest_kept : drop k (set at d (i + 1)) ≡ replicate (8 - k) 0
         rest_kept = drop-set-lt k at d (i + 1) W.inside ∙ W.rest
 
-        pub walk_on : (d + 1 ≡ k → ⊥) → Walk (take l p) w k (set at d (i + 1)) (set entries d (get_or w i 0)) (d + 1) (i + 1)
+        pub walk_on : (d + 1 ≡ k → ⊥) → Walk (take 8 p) w k (set at d (i + 1)) (set entries d (get_or w i 0)) (d + 1) (i + 1)
         walk_on n =
             record {
               answer = placed;
@@ -415,25 +415,25 @@ module _ (p w : List ℕ) (l k : ℕ) (eight : length p ≡ 8) (capped : k ≡ m
             stored_set j b (inl q) = rw (q, get_or-set_same at d (i + 1) 0 (omega (arith, W.positions, W.inside))) (omega arith)
             stored_set j b (inr q) = rw (get_or-set_other at d j (i + 1) 0 q) (W.stored j (omega arith))
 
-        pub walk_found : d + 1 ≡ k → record { found = true; at = set at d (i + 1) } ≡ shown (first_copy (take l p) w)
+        pub walk_found : d + 1 ≡ k → Some (set at d (i + 1)) ≡ shown (first_copy (take 8 p) w)
         walk_found n =
             let next : List ℕ = set at d (i + 1) in
-            let copy : first_copy (take l p) w ≡ some (take k next) =
-            placed ∙ ap (λ (m : ℕ). left (take l p) w next m (after w (i + 1))) (n ∙ sym length_cut) ∙
-            left_found (take l p) w next (after w (i + 1)) ∙ ap (λ (m : ℕ). some (take m next)) length_cut in
+            let copy : first_copy (take 8 p) w ≡ some (take k next) =
+            placed ∙ ap (λ (m : ℕ). left (take 8 p) w next m (after w (i + 1))) (n ∙ sym length_cut) ∙
+            left_found (take 8 p) w next (after w (i + 1)) ∙ ap (λ (m : ℕ). some (take m next)) length_cut in
             let long : length (take k next) ≡ k = length-take-le k next (omega (arith, length-set at d (i + 1), W.positions)) in
             let whole : take k next ++ replicate (8 - length (take k next)) 0 ≡ next =
             ap (λ (m : ℕ). take k next ++ replicate (8 - m) 0) long ∙ ap (λ (r : List ℕ). take k next ++ r) (sym rest_kept) ∙
             take-append-drop k next in
-            rw copy (ap {B = FirstCopy} (λ (x : List ℕ). record { found = true; at = x }) (sym whole))
+            rw copy (ap Some (sym whole))
 
-    pub walk_back : length w - i < k - d → (d ≡ 0 → ⊥) → Walk (take l p) w k at entries (d - 1) (get_or at (d - 1) 0)
+    pub walk_back : length w - i < k - d → (d ≡ 0 → ⊥) → Walk (take 8 p) w k at entries (d - 1) (get_or at (d - 1) 0)
     walk_back h n = back (d - 1) (omega arith)
       where
-        back : (c : ℕ) → d ≡ suc c → Walk (take l p) w k at entries c (get_or at c 0)
+        back : (c : ℕ) → d ≡ suc c → Walk (take 8 p) w k at entries c (get_or at c 0)
         back c e =
             record {
-              answer = W.answer ∙ rw e (left_back (take l p) w at c (after w i) (omega (arith, length_cut, length_after w i, e)));
+              answer = W.answer ∙ rw e (left_back (take 8 p) w at c (after w i) (omega (arith, length_cut, length_after w i, e)));
               same = take_less (entry w) d c at entries (omega arith) W.same;
               inside = omega (arith, W.inside);
               positions = W.positions;
@@ -443,11 +443,11 @@ module _ (p w : List ℕ) (l k : ℕ) (eight : length p ≡ 8) (capped : k ≡ m
               stored = λ j b. W.stored j (omega arith);
             }
 
-    pub walk_none : length w - i < k - d → d ≡ 0 → first_copy (take l p) w ≡ none
-    walk_none h n = W.answer ∙ rw n (left_none (take l p) w at (after w i) (omega (arith, length_cut, length_after w i, n)))
+    pub walk_none : length w - i < k - d → d ≡ 0 → first_copy (take 8 p) w ≡ none
+    walk_none h n = W.answer ∙ rw n (left_none (take 8 p) w at (after w i) (omega (arith, length_cut, length_after w i, n)))
 
 -- the empty pattern stands everywhere, at no position
-pub empty_copy : (β w : List ℕ) → length β ≡ 0 → shown (first_copy β w) ≡ record { found = true; at = replicate 8 0 }
+pub empty_copy : (β w : List ℕ) → length β ≡ 0 → shown (first_copy β w) ≡ Some (replicate 8 0)
 empty_copy β w e =
     let none_left : left β w [] 0 (after w 0) ≡ some [] =
     ap (λ (m : ℕ). left β w [] m (after w 0)) (sym e) ∙ left_found β w [] (after w 0) ∙ ap (λ (m : ℕ). some (take m [])) e in

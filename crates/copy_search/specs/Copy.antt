@@ -1,8 +1,8 @@
 -- The memory form of a first copy: the positions, then zeros. Definitions only.
-use Rattle.std.specs.Prelude.{ℕ, ◌-◌, true, false, List, ◌++◌, length, replicate}
-use Rattle.std.proofs.Math.Option.{Option, none, some}
+use Rattle.std.specs.Prelude.{ℕ, ◌-◌, List, ◌++◌, length, replicate}
+use Rattle.std.specs.Prelude.{Option, Some, None}
+use Rattle.std.proofs.Math.Option.{Option as Maybe, none, some}
 use Rattle.word.specs.Ceilings.{DIGITS}
-use Rattle.copy_search.specs.declared.FirstCopy.{FirstCopy}
 
 -- no positions
 abbrev pub zeros : List ℕ
@@ -12,6 +12,7 @@ zeros = replicate DIGITS 0
 abbrev pub placed : List ℕ → List ℕ
 placed at = at ++ replicate (DIGITS - length at) 0
 
-abbrev pub shown : Option (List ℕ) → FirstCopy
-shown none = record { found = false; at = zeros }
-shown (some at) = record { found = true; at = placed at }
+-- the positions of a copy in memory, if there is one
+abbrev pub shown : Maybe (List ℕ) → Option (List ℕ)
+shown none = None
+shown (some at) = Some (placed at)

@@ -1,37 +1,24 @@
 // The search for the lexicographically first copy of a pattern in a word.
 #![tactic(auto)]
 
-ghost use Rattle.std.specs.Prelude.{◌≡◌, min, take};
+ghost use Rattle.std.specs.Prelude.{◌≡◌, take};
 ghost use Rattle.word.specs.Ceilings.{DIGITS};
 ghost use Rattle.word.specs.Word.{first_copy};
 ghost use Rattle.copy_search.specs.Copy.{shown};
 
 use word::limits::DIGITS;
 
-// Whether there is a copy; the positions of the first one, counted from 1, and zeros after them.
-#[derive(Clone, Copy)]
-pub struct FirstCopy {
-    pub found: bool,
-    pub at: [usize; DIGITS],
-}
-
-// How many digits a pattern of the length `len` has in memory.
-pub fn capped(len: usize) -> usize
-    ensures { result ≡ min len DIGITS }
+// The lexicographically first copy, in w, of the pattern's first DIGITS digits, if there is one:
+// its positions, counted from 1, and zeros after them. The search tries the positions of w for one
+// pattern entry after the other, each position against the pairs with the entries that stand
+// already, and goes back one entry where too few positions are left.
+pub fn first_copy(pattern: &[u8], w: &[u8]) -> Option<[usize; DIGITS]>
+    ensures { result ≡ shown (first_copy (take DIGITS pattern.now) w.now) }
 {
-    if len < DIGITS { len } else { DIGITS }
-}
-
-// The lexicographically first copy, in w, of the first `len` digits of p. The search tries the
-// positions of w for one pattern entry after the other, each position against the pairs with the
-// entries that stand already, and goes back one entry where too few positions are left.
-pub fn first_copy(p: [u8; DIGITS], len: usize, w: &[u8]) -> FirstCopy
-    ensures { result ≡ shown (first_copy (take len p) w.now) }
-{
-    let k = capped(len);
+    let k = pattern.len().min(DIGITS);
     let mut at = [0usize; DIGITS];
     if k == 0 {
-        return FirstCopy { found: true, at };
+        return Some(at);
     }
     let mut entries = [0u8; DIGITS];
     let mut d: usize = 0;
@@ -40,14 +27,13 @@ pub fn first_copy(p: [u8; DIGITS], len: usize, w: &[u8]) -> FirstCopy
         'positions: while k - d <= w.len() - i {
             let x = w[i];
             i += 1;
-            let mut j: usize = 0;
-            'pairs: while j < d {
-                let below = p[j] < p[d];
+            let digit = pattern[d];
+            'pairs: for j in 0..d {
+                let below = pattern[j] < digit;
                 let found_below = entries[j] < x;
                 if below != found_below {
                     continue 'positions;
                 }
-                j += 1;
             }
             at[d] = i;
             entries[d] = x;
@@ -58,13 +44,10 @@ pub fn first_copy(p: [u8; DIGITS], len: usize, w: &[u8]) -> FirstCopy
             continue 'copy;
         }
         if d == 0 {
-            return FirstCopy {
-                found: false,
-                at: [0usize; DIGITS],
-            };
+            return None;
         }
         d -= 1;
         i = at[d];
     }
-    FirstCopy { found: true, at }
+    Some(at)
 }

@@ -1,6 +1,6 @@
 -- The ends in memory, entry by entry, and how many unused values follow them.
 -- Assumes nothing.
-use Prim.Native.Nat.{ℕ, zero, suc, ◌+◌, ◌≤◌, ◌<◌}
+use Prim.Native.Nat.{ℕ, zero, suc, ◌+◌, ◌-◌, ◌≤◌, ◌<◌}
 use mathlib.Core.Path.{◌≡◌, refl, sym, ap, ap₂, ◌∙◌}
 use mathlib.Core.Logic.{◌⊎◌, inl, inr}
 use mathlib.Core.Bool.{Bool, true, false, not, ◌&&◌, cond}
@@ -8,7 +8,7 @@ use mathlib.Core.List.{List, [], ◌∷◌, ◌++◌}
 use native.Mathlib.Numerals.{add-one}
 use native.Mathlib.Omega.{arith}
 use lib.ListN.{length, get_or, take, drop, set, replicate, get_or-replicate, drop_of_length-le}
-use lib.Seq.{take-suc, drop-cons, get_or-take, length-take-le, get_or-set_same, get_or-set_other}
+use lib.Seq.{take-suc, drop-cons, take_all, get_or-set_same, get_or-set_other}
 use Rattle.word.specs.ListLaws.{same_or_not}
 use Rattle.crowding.specs.Crowding.{precedes, bound, start_ends, next_ends, ends_after, ends}
 use Rattle.crowding.specs.Followers.{following, Holds}
@@ -58,37 +58,38 @@ ends_more up n k w i s t h e f l j =
     (f l j ∙ next_same up (get_or w i 0) k (λ l. get_or s l 0) (ends up n (take i w)) e l j ∙
     sym (ends_snoc up n (take i w) (get_or w i 0) l))
 
+pub ends_whole : (up : Bool) (n k : ℕ) (w : List ℕ) (i : ℕ) (s : List ℕ) → length w ≤ i → Holds k (ends up n (take i w)) s →
+    Holds k (ends up n w) s
+ends_whole up n k w i s h e l j = e l j ∙ ap (λ (u : List ℕ). ends up n u l) (take_all i w h)
+
 -- the first ends stay, and the next one is told by `next_end`
 pub next_first : (up : Bool) (x : ℕ) (s : List ℕ) → Holds 1 (next_ends up x (λ l. get_or s l 0)) s
 unfolding next_ends
 next_first up x s zero h = refl
 next_first up x s (suc l) h = absurd (omega arith)
 
-pub next_more : (up : Bool) (x : ℕ) (s t : List ℕ) (l v : ℕ) → l + 1 < length t →
-    v ≡ cond (precedes up (get_or s l 0) x && precedes up x (get_or s (l + 1) 0)) x (get_or s (l + 1) 0) →
-    Holds (l + 1) (next_ends up x (λ l. get_or s l 0)) t → Holds (l + 1 + 1) (next_ends up x (λ l. get_or s l 0)) (set t (l + 1) v)
+pub next_more : (up : Bool) (x : ℕ) (s t : List ℕ) (l v : ℕ) → 1 ≤ l → l < length t →
+    v ≡ cond (precedes up (get_or s (l - 1) 0) x && precedes up x (get_or s l 0)) x (get_or s l 0) →
+    Holds l (next_ends up x (λ l. get_or s l 0)) t → Holds (l + 1) (next_ends up x (λ l. get_or s l 0)) (set t l v)
 unfolding next_ends
-next_more up x s t l v h q e =
-    let next : v ≡ next_ends up x (λ l. get_or s l 0) (l + 1) = rw (add-one l) (rw (add-one l) at q) in
-    holds_more (l + 1) (next_ends up x (λ l. get_or s l 0)) t v h next e
+next_more up x s t l v pos h q e = holds_more l (next_ends up x (λ l. get_or s l 0)) t v h (next (l - 1) (omega arith)) e
+  where
+    next : (m : ℕ) → l ≡ suc m → v ≡ next_ends up x (λ l. get_or s l 0) l
+    next m z = let before : l - 1 ≡ m = omega arith in rw z (rw z at (rw before at q))
 
 -- one unused value more
-module _ (up : Bool) (x : ℕ) (w : List ℕ) (i n : ℕ) (h : i < n) (k : n ≤ length w) where
-  rest_cons : drop i (take n w) ≡ get_or w i 0 ∷ drop (i + 1) (take n w)
-  rest_cons =
-      let here : i < length (take n w) = omega (arith, length-take-le n w k) in
-      rw (add-one i) (drop-cons (take n w) i 0 here ∙ ap (λ (y : ℕ). y ∷ drop (suc i) (take n w)) (get_or-take n w i 0 h))
+module _ (up : Bool) (x : ℕ) (w : List ℕ) (i : ℕ) (h : i < length w) where
+  rest_cons : drop i w ≡ get_or w i 0 ∷ drop (i + 1) w
+  rest_cons = rw (add-one i) (drop-cons w i 0 h)
 
-  pub following_one : precedes up x (get_or w i 0) ≡ true →
-      following up x (drop i (take n w)) ≡ 1 + following up x (drop (i + 1) (take n w))
+  pub following_one : precedes up x (get_or w i 0) ≡ true → following up x (drop i w) ≡ 1 + following up x (drop (i + 1) w)
   unfolding following
   following_one e = rw (rest_cons, e) (omega arith)
 
-  pub following_other : precedes up x (get_or w i 0) ≡ false → following up x (drop i (take n w)) ≡ following up x (drop (i + 1) (take n w))
+  pub following_other : precedes up x (get_or w i 0) ≡ false → following up x (drop i w) ≡ following up x (drop (i + 1) w)
   unfolding following
   following_other e = rw (rest_cons, e) refl
 
-pub following_none : (up : Bool) (x : ℕ) (w : List ℕ) (i n : ℕ) → n ≤ i → n ≤ length w → following up x (drop i (take n w)) ≡ 0
+pub following_none : (up : Bool) (x : ℕ) (w : List ℕ) (i : ℕ) → length w ≤ i → following up x (drop i w) ≡ 0
 unfolding following
-following_none up x w i n h k =
-    let short : length (take n w) ≤ i = omega (arith, length-take-le n w k) in rw (drop_of_length-le (take n w) short) refl
+following_none up x w i h = rw (drop_of_length-le w h) refl

@@ -1,59 +1,45 @@
 -- Whether a pattern in memory is monotone, digit by digit, and the shortest one of a set.
 -- Assumes nothing.
-use Prim.Native.Nat.{ℕ, zero, suc, ◌+◌, ◌≤◌, ◌<◌, min}
-use mathlib.Core.Path.{◌≡◌, refl, sym, ap, ◌∙◌}
-use mathlib.Core.Logic.{◌⊎◌, inl, inr}
+use Prim.Native.Nat.{ℕ, zero, suc, ◌+◌, ◌-◌, ◌≤◌, ◌<◌, min}
+use mathlib.Core.Path.{◌≡◌, refl, sym, ◌∙◌}
 use mathlib.Core.Bool.{Bool, true, false, ◌&&◌}
 use mathlib.Core.List.{List, [], ◌∷◌}
 use native.Mathlib.Numerals.{add-one}
 use native.Mathlib.Omega.{arith}
-use lib.ListN.{length, get_or, take, drop, length-drop}
-use lib.Seq.{drop-cons, get_or-take, length-take-le, take_all}
-use Rattle.word.specs.ListLaws.{below_or_not}
-use Rattle.word.proofs.PatternSet.{from, from_cons}
+use lib.ListN.{length, get_or, drop, drop_of_length-le, length-drop}
+use lib.Seq.{drop-cons}
+use Rattle.forms.specs.SetMemory.{held, held_in}
+use Rattle.forms.specs.declared.memory.Pattern.{Pattern}
 use Rattle.crowding.specs.Crowding.{precedes, monotone, monotone_length, shorter, shortest}
 use Rattle.crowding.specs.MonotoneLaws.{monotone_next}
 
 -- one digit more
-module _ (up : Bool) (p : List ℕ) (len i : ℕ) (h : i + 1 < len) (k : len ≤ length p) where
-  digits_next : monotone up (drop i (take len p)) ≡
-      precedes up (get_or p i 0) (get_or p (i + 1) 0) && monotone up (drop (i + 1) (take len p))
-  digits_next =
-      let size : length (take len p) ≡ len = length-take-le len p k in
-      let one : i < length (take len p) = omega arith in
-      let two : suc i < length (take len p) = omega arith in
-      let next : suc i < len = omega arith in
-      rw (add-one i, drop-cons (take len p) i 0 one, drop-cons (take len p) (suc i) 0 two)
-      (rw (get_or-take len p i 0 (omega arith), get_or-take len p (suc i) 0 next)
-      (monotone_next up (get_or p i 0) (get_or p (suc i) 0) (drop (suc (suc i)) (take len p))))
+module _ (up : Bool) (p : List ℕ) (i : ℕ) (pos : 1 ≤ i) (h : i < length p) where
+  digits_next : monotone up (drop (i - 1) p) ≡ precedes up (get_or p (i - 1) 0) (get_or p i 0) && monotone up (drop i p)
+  digits_next = go (i - 1) (omega arith) refl
+    where
+      go : (m : ℕ) → i ≡ suc m → i - 1 ≡ m →
+          monotone up (drop (i - 1) p) ≡ precedes up (get_or p (i - 1) 0) (get_or p i 0) && monotone up (drop i p)
+      go m z q =
+          let one : m < length p = omega arith in
+          let two : suc m < length p = omega arith in
+          rw (q, z) (rw (drop-cons p m 0 one, drop-cons p (suc m) 0 two)
+          (monotone_next up (get_or p m 0) (get_or p (suc m) 0) (drop (suc (suc m)) p)))
 
-  pub digits_pass : precedes up (get_or p i 0) (get_or p (i + 1) 0) ≡ true →
-      monotone up (drop i (take len p)) ≡ monotone up (drop (i + 1) (take len p))
-  digits_pass e = rw (digits_next, e) refl
+  pub digits_pass : precedes up (get_or p (i - 1) 0) (get_or p i 0) ≡ true → monotone up (drop (i - 1) p) ≡ monotone up (drop (i + 1 - 1) p)
+  digits_pass e = let same : i + 1 - 1 ≡ i = omega arith in rw (digits_next, e, same) refl
 
-  pub digits_fail : precedes up (get_or p i 0) (get_or p (i + 1) 0) ≡ false → monotone up (drop i (take len p)) ≡ false
+  pub digits_fail : precedes up (get_or p (i - 1) 0) (get_or p i 0) ≡ false → monotone up (drop (i - 1) p) ≡ false
   digits_fail e = rw (digits_next, e) refl
 
-pub digits_end : (up : Bool) (p : List ℕ) (len i : ℕ) → len ≤ i + 1 → len ≤ length p → monotone up (drop i (take len p)) ≡ true
+pub digits_end : (up : Bool) (p : List ℕ) (i : ℕ) → 1 ≤ i → length p ≤ i → monotone up (drop (i - 1) p) ≡ true
 unfolding monotone
-digits_end up p len i h k = go (drop i (take len p)) (omega (arith, length-drop i (take len p), length-take-le len p k))
+digits_end up p i pos h = go (drop (i - 1) p) (omega (arith, length-drop (i - 1) p))
   where
     go : (w : List ℕ) → length w ≤ 1 → monotone up w ≡ true
     go [] l = refl
     go (x ∷ []) l = refl
     go (x ∷ (y ∷ w)) l = absurd (omega arith)
-
--- a length above the ceiling is that of the whole row
-pub capped_digits : (p : List ℕ) (len k d : ℕ) → length p ≡ d → k ≡ min len d → (take k p ≡ take len p) × (length (take len p) ≡ k)
-capped_digits p len k d q e = go (below_or_not len d)
-  where
-    go : (len < d) ⊎ (d ≤ len) → (take k p ≡ take len p) × (length (take len p) ≡ k)
-    go (inl h) =
-        let same : k ≡ len = omega arith in
-        (ap (λ (m : ℕ). take m p) same, length-take-le len p (omega arith) ∙ sym same)
-    go (inr h) =
-        let whole : take len p ≡ p = take_all len p (omega arith) in
-        (take_all k p (omega arith) ∙ sym whole, ap length whole ∙ omega arith)
 
 pub length_monotone : (up : Bool) (β : List ℕ) (k : ℕ) → length β ≡ k → monotone up β ≡ true → k ≡ monotone_length up β
 unfolding monotone_length
@@ -92,17 +78,17 @@ shorter_assoc (suc a) (suc b) (suc d) =
     same = omega arith
 
 -- the shortest of a set in memory: of the patterns before place i, and of those from there on
-pub shortest_start : (up : Bool) (P Q : List (List ℕ)) → P ≡ Q → shortest up P ≡ shorter 0 (shortest up Q)
+pub shortest_start : (up : Bool) (P : List (List ℕ)) → shortest up P ≡ shorter 0 (shortest up P)
 unfolding shorter
-shortest_start up P Q e = ap (shortest up) e
+shortest_start up P = refl
 
-pub shortest_end : (up : Bool) (best : ℕ) (Q : List (List ℕ)) → Q ≡ [] → shorter best (shortest up Q) ≡ best
+pub shortest_end : (up : Bool) (best : ℕ) (s : List Pattern) (i : ℕ) → length s ≤ i → shorter best (shortest up (held_in (drop i s))) ≡ best
 unfolding shortest
-shortest_end up best Q e = rw e (shorter_zero best)
+shortest_end up best s i h = rw (drop_of_length-le s h) (shorter_zero best)
 
-pub shortest_more : (up : Bool) (rows : List (List ℕ)) (lengths : List ℕ) (n i best next : ℕ) → i < length rows → i < length lengths →
-    i < n → next ≡ monotone_length up (take (get_or lengths i 0) (get_or rows i [])) →
-    shorter best (shortest up (from rows lengths n i)) ≡ shorter (shorter best next) (shortest up (from rows lengths n (i + 1)))
+pub shortest_more : (up : Bool) (s : List Pattern) (i best next : ℕ) (d : Pattern) → i < length s →
+    next ≡ monotone_length up (held (get_or s i d)) →
+    shorter best (shortest up (held_in (drop i s))) ≡ shorter (shorter best next) (shortest up (held_in (drop (i + 1) s)))
 unfolding shortest
-shortest_more up rows lengths n i best next hr hl hn e =
-    rw (from_cons rows lengths n i hr hl hn, ← e) (shorter_assoc best next (shortest up (from rows lengths n (i + 1))))
+shortest_more up s i best next d h e =
+    rw (drop-cons s i d h, add-one i, ← e) (shorter_assoc best next (shortest up (held_in (drop (suc i) s))))

@@ -1,17 +1,16 @@
 // The test by which a word with too many unused values between two bounds cannot be completed.
 #![tactic(auto)]
 
-ghost use Rattle.std.specs.Prelude.{◌≡◌, ◌&&◌, cond, ◌-◌, ◌*◌, ◌≤◌, ◌<◌, take, drop, get_or};
+ghost use Rattle.std.specs.Prelude.{◌≡◌, ◌&&◌, cond, ◌-◌, ◌*◌, ◌≤◌, ◌<◌, take, drop, get_or, length};
 ghost use Rattle.word.specs.Ceilings.{DIGITS, WORD};
-ghost use Rattle.word.specs.Patterns.{patterns_of};
+ghost use Rattle.forms.specs.SetMemory.{held, held_in};
 ghost use Rattle.crowding.specs.Crowding.{precedes, monotone, monotone_length};
 ghost use Rattle.crowding.specs.Crowding.{shorter, shortest, shortest_rising, shortest_falling};
 ghost use Rattle.crowding.specs.Crowding.{bound, start_ends, next_ends, ends, crowded};
 ghost use Rattle.crowding.specs.Followers.{following, followers_of, Holds, over_row, over_some};
 
-use copy_search::capped;
-use word::bytes::wide;
-use word::limits::{DIGITS, PATTERNS, WORD};
+use forms::memory::Pattern;
+use word::limits::{DIGITS, WORD};
 
 // Whether more unused values lie between the end of an increasing and the end of a decreasing
 // subsequence of the first `len` entries of the word than a completion can take that contains
@@ -28,31 +27,25 @@ pub fn is_crowded(word: [u8; WORD], len: usize, n: usize, rises: usize, falls: u
     if falls == 0 {
         return false;
     }
-    let highs = followers(word, len, n, true, rises);
-    let lows = followers(word, len, n, false, falls);
+    let entries = &word[..len];
+    let unused = &word[..n][len..];
+    let highs = followers(entries, unused, n, true, rises);
+    let lows = followers(entries, unused, n, false, falls);
     some_over(highs, rises, lows, falls, n - len)
 }
 
-// The length of the shortest increasing one of the first `count` patterns of the set, 0 for none.
-pub fn shortest_rising(
-    set: [[u8; DIGITS]; PATTERNS],
-    lengths: [u8; PATTERNS],
-    count: usize,
-) -> usize
-    ensures { (result ≡ shortest_rising (patterns_of set lengths count)) × (result ≤ DIGITS) }
+// The length of the shortest increasing pattern of the set, 0 for none.
+pub fn shortest_rising(patterns: &[Pattern]) -> usize
+    ensures { (result ≡ shortest_rising (held_in patterns.now)) × (result ≤ DIGITS) }
 {
-    shortest_monotone(set, lengths, count, true)
+    shortest_monotone(patterns, true)
 }
 
-// The length of the shortest decreasing one of the first `count` patterns of the set, 0 for none.
-pub fn shortest_falling(
-    set: [[u8; DIGITS]; PATTERNS],
-    lengths: [u8; PATTERNS],
-    count: usize,
-) -> usize
-    ensures { (result ≡ shortest_falling (patterns_of set lengths count)) × (result ≤ DIGITS) }
+// The length of the shortest decreasing pattern of the set, 0 for none.
+pub fn shortest_falling(patterns: &[Pattern]) -> usize
+    ensures { (result ≡ shortest_falling (held_in patterns.now)) × (result ≤ DIGITS) }
 {
-    shortest_monotone(set, lengths, count, false)
+    shortest_monotone(patterns, false)
 }
 
 // Whether x comes before y, up or down.
@@ -98,59 +91,48 @@ fn next_ends(ends: [u8; DIGITS], up: bool, x: u8, k: usize) -> [u8; DIGITS]
     ensures { Holds k (next_ends up x (λ l. get_or ends l 0)) result }
 {
     let mut next = ends;
-    let mut l: usize = 0;
-    while l + 1 < k {
-        next[l + 1] = next_end(up, ends[l], x, ends[l + 1]);
-        l += 1;
+    for l in 1..k {
+        next[l] = next_end(up, ends[l - 1], x, ends[l]);
     }
     next
 }
 
-// The first k ends of the first `len` entries of the word.
-fn ends_of(word: [u8; WORD], len: usize, n: usize, up: bool, k: usize) -> [u8; DIGITS]
-    requires { (len ≤ WORD) × (n ≤ WORD) × (k ≤ DIGITS) }
-    ensures { Holds k (ends up n (take len word)) result }
+// The first k ends of the entries of a word.
+fn ends_of(entries: &[u8], n: usize, up: bool, k: usize) -> [u8; DIGITS]
+    requires { (n ≤ WORD) × (k ≤ DIGITS) }
+    ensures { Holds k (ends up n entries.now) result }
 {
     let mut ends = start_ends(up, n);
-    let mut i: usize = 0;
-    while i < len {
-        let next = next_ends(ends, up, word[i], k);
+    for &x in entries {
+        let next = next_ends(ends, up, x, k);
         ends = next;
-        i += 1;
     }
     ends
 }
 
 // How many of the unused values x comes before.
-fn count_following(word: [u8; WORD], len: usize, n: usize, up: bool, x: u8) -> u8
-    requires { (len ≤ n) × (n ≤ WORD) }
-    ensures { result ≡ following up x (drop len (take n word)) }
+fn count_following(unused: &[u8], up: bool, x: u8) -> u8
+    requires { length unused.now ≤ WORD }
+    ensures { result ≡ following up x unused.now }
 {
     let mut count: u8 = 0;
-    let mut i = len;
-    while i < n {
-        if is_before(up, x, word[i]) {
+    for &value in unused {
+        if is_before(up, x, value) {
             count += 1;
-            i += 1;
-        } else {
-            i += 1;
         }
     }
     count
 }
 
-// For each of the first k ends of the first `len` entries, how many of the unused values it comes
-// before.
-fn followers(word: [u8; WORD], len: usize, n: usize, up: bool, k: usize) -> [u8; DIGITS]
-    requires { (len ≤ n) × (n ≤ WORD) × (k ≤ DIGITS) }
-    ensures { Holds k (followers_of up n (take len word) (drop len (take n word))) result }
+// For each of the first k ends of the entries, how many of the unused values it comes before.
+fn followers(entries: &[u8], unused: &[u8], n: usize, up: bool, k: usize) -> [u8; DIGITS]
+    requires { (length unused.now ≤ WORD) × (n ≤ WORD) × (k ≤ DIGITS) }
+    ensures { Holds k (followers_of up n entries.now unused.now) result }
 {
-    let ends = ends_of(word, len, n, up, k);
+    let ends = ends_of(entries, n, up, k);
     let mut counts = [0u8; DIGITS];
-    let mut l: usize = 0;
-    while l < k {
-        counts[l] = count_following(word, len, n, up, ends[l]);
-        l += 1;
+    for l in 0..k {
+        counts[l] = count_following(unused, up, ends[l]);
     }
     counts
 }
@@ -178,13 +160,11 @@ fn row_over(room: usize, high: u8, lows: [u8; DIGITS], falls: usize, unused: usi
     requires { (room ≤ DIGITS) × (falls ≤ DIGITS) × (unused ≤ WORD) }
     ensures { result ≡ over_row room high unused lows falls }
 {
-    let mut m: usize = 0;
-    while m < falls {
+    for m in 0..falls {
         let fit = most(room, left(falls, m)) + unused;
-        if fit < wide(high) + wide(lows[m]) {
+        if fit < usize::from(high) + usize::from(lows[m]) {
             return true;
         }
-        m += 1;
     }
     false
 }
@@ -200,37 +180,36 @@ fn some_over(
     requires { (rises ≤ DIGITS) × (falls ≤ DIGITS) × (unused ≤ WORD) }
     ensures { result ≡ over_some unused highs rises lows falls }
 {
-    let mut l: usize = 0;
-    while l < rises {
+    for l in 0..rises {
         if row_over(left(rises, l), highs[l], lows, falls, unused) {
             return true;
         }
-        l += 1;
     }
     false
 }
 
-// Whether the first `len` digits of p increase or decrease.
-fn is_monotone(p: [u8; DIGITS], len: usize, up: bool) -> bool
-    requires { len ≤ DIGITS }
-    ensures { result ≡ monotone up (take len p) }
+// Whether the digits increase or decrease.
+fn is_monotone(digits: &[u8], up: bool) -> bool
+    ensures { result ≡ monotone up digits.now }
 {
-    let mut i: usize = 0;
-    while i + 1 < len {
-        if !is_before(up, p[i], p[i + 1]) {
+    for i in 1..digits.len() {
+        if !is_before(up, digits[i - 1], digits[i]) {
             return false;
         }
-        i += 1;
     }
     true
 }
 
 // The length of a monotone pattern, 0 for any other.
-fn monotone_length(p: [u8; DIGITS], len: usize, up: bool) -> usize
-    ensures { (result ≡ monotone_length up (take len p)) × (result ≤ DIGITS) }
+fn monotone_length(p: &Pattern, up: bool) -> usize
+    ensures { (result ≡ monotone_length up (held p.now)) × (result ≤ DIGITS) }
 {
-    let k = capped(len);
-    if is_monotone(p, k, up) { k } else { 0 }
+    let digits = p.as_slice();
+    if is_monotone(digits, up) {
+        digits.len()
+    } else {
+        0
+    }
 }
 
 // The smaller of two lengths, where 0 is none.
@@ -244,27 +223,16 @@ fn shorter_of(a: usize, b: usize) -> usize
     if b == 0 {
         return a;
     }
-    if a < b { a } else { b }
+    a.min(b)
 }
 
-// The length of the shortest monotone one of the first `count` patterns of the set, 0 for none.
-fn shortest_monotone(
-    set: [[u8; DIGITS]; PATTERNS],
-    lengths: [u8; PATTERNS],
-    count: usize,
-    up: bool,
-) -> usize
-    ensures { (result ≡ shortest up (patterns_of set lengths count)) × (result ≤ DIGITS) }
+// The length of the shortest monotone pattern of the set, 0 for none.
+fn shortest_monotone(patterns: &[Pattern], up: bool) -> usize
+    ensures { (result ≡ shortest up (held_in patterns.now)) × (result ≤ DIGITS) }
 {
     let mut best: usize = 0;
-    let mut i: usize = 0;
-    while i < PATTERNS {
-        if count <= i {
-            return best;
-        }
-        let next = monotone_length(set[i], lengths[i] as usize, up);
-        best = shorter_of(best, next);
-        i += 1;
+    for p in patterns {
+        best = shorter_of(best, monotone_length(p, up));
     }
     best
 }

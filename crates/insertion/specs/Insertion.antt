@@ -1,8 +1,10 @@
 -- A value put into a word, and what the search that puts values in promises. Definitions only.
-use Rattle.std.specs.Prelude.{ℕ, ◌≡◌, Bool, true, ◌||◌, length, take, drop}
+use Rattle.std.specs.Prelude.{ℕ, ◌≡◌, Bool, true, ◌||◌, length, take, drop, Option, is_none}
 use mathlib.Core.List.{List, ◌∷◌, ◌++◌, Sublistᴰ}
 use Rattle.word.specs.Word.{is_perm, avoids}
 use Rattle.arrangement.specs.declared.searched.Searched.{Searched}
+use Rattle.arrangement.specs.declared.searched.Searched.TheVariants.{Impossible}
+use Rattle.arrangement.specs.Said.{said_yes, said_no, word_in}
 use Rattle.arrangement.specs.Searching.{Completes}
 
 -- x with v put in at a place, before the entry that stood there
@@ -22,8 +24,10 @@ abbrev pub NoneAround : List (List ℕ) → ℕ → ℕ → List ℕ → Type 0
 NoneAround P n fixed x = (w : List ℕ) → Around P n fixed x w → ⊥
 
 -- a yes comes with an avoider of length n that begins with the first `fixed` entries of x; with a
--- no there is none around x; and without an end to the budget it is one of the two
+-- no there is none around x; and without an end to the budget it is one of the two, and what is
+-- left of the budget has no end either
 pub record PutsIn (P : List (List ℕ)) (n fixed : ℕ) (x : List ℕ) (endless : Bool) (r : Searched) : Type 0 where
-  pub yes : r.found ≡ true → Completes P n (take fixed x) (take n r.word)
-  pub no : r.none ≡ true → NoneAround P n fixed x
-  pub ends : endless ≡ true → r.found || r.none ≡ true
+  pub yes : said_yes r ≡ true → Completes P n (take fixed x) (take n (word_in r))
+  pub no : said_no r ≡ true → NoneAround P n fixed x
+  pub ends : endless ≡ true → said_yes r || said_no r ≡ true
+  pub left : (b : Option ℕ) → r ≡ Impossible b → is_none b ≡ endless

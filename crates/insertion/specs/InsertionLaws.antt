@@ -1,9 +1,8 @@
 -- Laws of putting values in: a word that is part of a larger one stays a part of it with one more
 -- value at some place, so all places together leave nothing out.
-use Rattle.std.specs.Prelude.{ℕ, zero, suc, ◌+◌, ◌-◌, ◌≤◌, ◌<◌, ◌≡◌, refl, Bool, true, false, ◌||◌}
-use Rattle.std.specs.Prelude.{cond, ◌⊎◌, length, get_or, take, drop, eqb}
+use Rattle.std.specs.Prelude.{ℕ, zero, suc, ◌+◌, ◌-◌, ◌≤◌, ◌<◌, ◌≡◌, refl, Bool, true, false}
+use Rattle.std.specs.Prelude.{◌⊎◌, length, get_or, take, drop, Option, is_none}
 use Rattle.std.proofs.Common.{sym, ap, ◌∙◌, subst, inl, inr, add-one, arith, take-append-drop, take-suc, take-take, take_at, length-take-le}
-use Rattle.std.proofs.Math.Bool.{or-true}
 use mathlib.Core.List.{List, [], ◌∷◌, ◌++◌, append-nil, Memᴰ}
 use mathlib.Core.List.Sublistᴰ
 use mathlib.Core.List.{Sublistᴰ}
@@ -16,7 +15,9 @@ use Rattle.word.specs.PermLaws.{has_out, has_in, perm_has}
 use Rattle.cell.specs.SublistLaws.{sublist_length}
 use Rattle.completion.specs.Completion.{begins, completable}
 use Rattle.completion.specs.CompletionLaws.{begins_in, completable_out}
+use Rattle.arrangement.specs.Said.{said_yes, said_no}
 use Rattle.arrangement.specs.declared.searched.Searched.{Searched}
+use Rattle.arrangement.specs.declared.searched.Searched.TheVariants.{Completed, Impossible, Undecided}
 use Rattle.arrangement.specs.Exchange.{exchange, Rearranged}
 use Rattle.arrangement.specs.ExchangeLaws.{take_exchange, rearranged_none, rearranged_more}
 use Rattle.arrangement.specs.Searching.{Searches}
@@ -153,61 +154,64 @@ module _ (P : List (List ℕ)) (n fixed : ℕ) (word : List ℕ) (len : ℕ) (h 
 
 -- what the call for one place says is passed on where it is no "none"
 pub passed_on : (P : List (List ℕ)) (n fixed : ℕ) (word : List ℕ) (len place : ℕ) (w : List ℕ) (endless : Bool) (r : Searched) →
-    fixed ≤ len → Turns P n fixed word len place w → r.none ≡ false → PutsIn P n fixed (take (len + 1) w) endless r →
-    PutsIn P n fixed (take len word) endless r
+    fixed ≤ len → Turns P n fixed word len place w → ((b : Option ℕ) → r ≡ Impossible b → ⊥) →
+    PutsIn P n fixed (take (len + 1) w) endless r → PutsIn P n fixed (take len word) endless r
 passed_on P n fixed word len place w endless r h t e g = record {
-  yes = λ (y : r.found ≡ true). rw same_front at (g.yes y);
-  no = λ (y : r.none ≡ true). absurd (true_not_false (sym y ∙ e));
+  yes = λ (y : said_yes r ≡ true). rw same_front at (g.yes y);
+  no = λ (y : said_no r ≡ true). absurd (is_no r y e);
   ends = g.ends;
+  left = g.left;
 }
   where
     same_front : take fixed (take (len + 1) w) ≡ take fixed (take len word)
     same_front = take-take fixed (len + 1) w (omega arith) ∙ t.kept.front ∙ sym (take-take fixed len word h)
 
+    is_no : (s : Searched) → said_no s ≡ true → ((b : Option ℕ) → s ≡ Impossible b → ⊥) → ⊥
+    is_no (Completed x) y f = true_not_false (sym y)
+    is_no (Impossible b) y f = f b refl
+    is_no Undecided y f = true_not_false (sym y)
+
 -- the ways in which a call ends: none around the word, a whole word, an end of the budget
-pub puts_none : (P : List (List ℕ)) (n fixed : ℕ) (x : List ℕ) (endless : Bool) (r : Searched) → r.found ≡ false → r.none ≡ true →
-    NoneAround P n fixed x → PutsIn P n fixed x endless r
-puts_none P n fixed x endless r f g none = record {
-  yes = λ (y : r.found ≡ true). absurd (true_not_false (sym y ∙ f));
+pub puts_none : (P : List (List ℕ)) (n fixed : ℕ) (x : List ℕ) (endless : Bool) (b : Option ℕ) → is_none b ≡ endless →
+    NoneAround P n fixed x → PutsIn P n fixed x endless (Impossible b)
+puts_none P n fixed x endless b e none = record {
+  yes = λ (y : false ≡ true). absurd (true_not_false (sym y));
   no = λ y. none;
-  ends = λ y. ap (λ (b : Bool). r.found || b) g ∙ or-true r.found;
+  ends = λ y. refl;
+  left = λ d q. let same : b ≡ d = cc in ap is_none (sym same) ∙ e;
 }
 
-pub puts_whole : (P : List (List ℕ)) (n fixed : ℕ) (word : List ℕ) (len : ℕ) (endless : Bool) (r : Searched) → len ≡ n → n ≤ length word →
-    is_perm (take n word) ≡ true → avoids P (take len word) ≡ true → r.found ≡ true → r.none ≡ false → r.word ≡ word →
-    PutsIn P n fixed (take len word) endless r
-puts_whole P n fixed word len endless r h l p a f g q = record {
-  yes = λ y. rw q (record {
+pub puts_whole : (P : List (List ℕ)) (n fixed : ℕ) (word : List ℕ) (len : ℕ) (endless : Bool) → len ≡ n → n ≤ length word →
+    is_perm (take n word) ≡ true → avoids P (take len word) ≡ true → PutsIn P n fixed (take len word) endless (Completed word)
+puts_whole P n fixed word len endless h l p a = record {
+  yes = λ y. record {
     perm = p;
     size = length-take-le n word l;
     avoids_all = ap (λ (m : ℕ). avoids P (take m word)) (sym h) ∙ a;
     front = ap (λ (m : ℕ). begins (take fixed (take m word)) (take n word)) h ∙
         ap (begins (take fixed (take n word))) (sym (take-append-drop fixed (take n word))) ∙
         begins_in (take fixed (take n word)) (drop fixed (take n word));
-  });
-  no = λ (y : r.none ≡ true). absurd (true_not_false (sym y ∙ g));
-  ends = λ y. ap (λ (b : Bool). b || r.none) f;
+  };
+  no = λ (y : false ≡ true). absurd (true_not_false (sym y));
+  ends = λ y. refl;
+  left = λ d q. cc;
 }
 
-pub puts_undecided : (P : List (List ℕ)) (n fixed : ℕ) (x : List ℕ) (endless : Bool) (r : Searched) → r.found ≡ false → r.none ≡ false →
-    endless ≡ false → PutsIn P n fixed x endless r
-puts_undecided P n fixed x endless r f g e = record {
-  yes = λ (y : r.found ≡ true). absurd (true_not_false (sym y ∙ f));
-  no = λ (y : r.none ≡ true). absurd (true_not_false (sym y ∙ g));
+pub puts_undecided : (P : List (List ℕ)) (n fixed : ℕ) (x : List ℕ) (endless : Bool) →
+    endless ≡ false → PutsIn P n fixed x endless Undecided
+puts_undecided P n fixed x endless e = record {
+  yes = λ (y : false ≡ true). absurd (true_not_false (sym y));
+  no = λ (y : false ≡ true). absurd (true_not_false (sym y));
   ends = λ (y : endless ≡ true). absurd (true_not_false (sym y ∙ e));
+  left = λ d q. cc;
 }
-
--- a budget that counts has an end
-pub spent_ends : (endless : Bool) (budget : ℕ) → cond endless false (eqb budget 0) ≡ true → endless ≡ false
-spent_ends true budget e = absurd (true_not_false (sym e))
-spent_ends false budget e = refl
 
 -- with no value put in yet, the answer is that for the fixed entries
 pub puts_searches : (P : List (List ℕ)) (n fixed : ℕ) (word : List ℕ) (endless : Bool) (r : Searched) → fixed ≤ length word →
     PutsIn P n fixed (take fixed word) endless r → Searches P n (take fixed word) r
 puts_searches P n fixed word endless r l g = record {
-  yes = λ (y : r.found ≡ true). rw (take-take fixed fixed word (omega arith)) at (g.yes y);
-  no = λ (y : r.none ≡ true). not_so (completable P n (take fixed word)) refl (g.no y);
+  yes = λ (y : said_yes r ≡ true). rw (take-take fixed fixed word (omega arith)) at (g.yes y);
+  no = λ (y : said_no r ≡ true). not_so (completable P n (take fixed word)) refl (g.no y);
 }
   where
     not_so : (b : Bool) → completable P n (take fixed word) ≡ b → NoneAround P n fixed (take fixed word) → b ≡ false

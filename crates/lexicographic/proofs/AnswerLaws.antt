@@ -2,7 +2,7 @@
 -- and of the next avoider.
 use Prim.Native.Nat.{ℕ, ◌≤◌}
 use Rattle.std.proofs.Common.{zero-add, ◌∙◌, arith}
-use Rattle.std.specs.Prelude.{◌≡◌, refl, Bool, true, length, take, drop}
+use Rattle.std.specs.Prelude.{◌≡◌, refl, Bool, true, false, length, take, drop, Ok, Err}
 use Rattle.std.proofs.Math.Path.{sym, ap, fun_ext}
 use mathlib.Core.List.{List, ◌++◌, Memᴰ}
 use Rattle.std.proofs.Math.Option.{Option, none, some}
@@ -13,29 +13,12 @@ use Rattle.word.specs.Word.{is_perm, avoiders, perms, before}
 use Rattle.word.specs.Listing.{head_of, first_avoider, next_avoider}
 use Rattle.word.specs.ListingLaws.{first_given, first_none_avoids, next_given, next_none}
 use Rattle.word.specs.Finding.{Finding, clean, fault, first_fault}
-use Rattle.word.specs.declared.refusal.Refusal.{Refusal}
 use Rattle.cell.specs.Basis.{basis}
 use Rattle.cell.proofs.BasisLaws.{basis_avoids}
-use Rattle.forms.specs.SchemeMemory.{fault_of, faulty}
-use Rattle.forms.specs.declared.memory.Fault.{Fault}
-use Rattle.forms.specs.declared.memory.Fault.TheVariants.{Clean, At}
+use Rattle.forms.specs.SchemeMemory.{Fault, fault_of, faulty}
 use Rattle.text_page.specs.Page.{overlay}
 use Rattle.text_page.specs.PageLaws.{overlay_whole}
-use Rattle.lexicographic.specs.Answers.{first_tests, next_tests, answered, listed_or, Puts, Lists, ListsFirst, ListsNext}
-use Rattle.lexicographic.specs.declared.answer.Listed.{Listed}
-use Rattle.lexicographic.specs.declared.answer.Listed.TheVariants.{Given, Nothing, Refused}
-
--- the answers are told apart
-abbrev case_of : Listed → ℕ
-case_of Given = 0
-case_of Nothing = 1
-case_of (Refused r i) = 2
-
-not_given : (r : Refusal) (i : ℕ) (c : Listed) → c ≡ Refused r i → c ≡ Given → ⊥
-not_given r i c q g = let z : ◌≡◌ {A = ℕ} 2 0 = ap case_of (sym q ∙ g) in absurd (omega (arith, z))
-
-pub listed_fault : (f : Fault) (r : Refusal) (i : ℕ) → f ≡ At r i → Refused r i ≡ listed_or f
-listed_fault f r i e = rw e refl
+use Rattle.lexicographic.specs.Answers.{Listed, first_tests, next_tests, answered, listed_or, Puts, Lists, ListsFirst, ListsNext}
 
 -- a refused call: the page is as it was
 pub lists_refused : (f : Finding) (o : Option (List ℕ)) (n : ℕ) (page : List ℕ) (r : Listed) →
@@ -45,16 +28,20 @@ lists_refused (fault v i) o n page r e h = record {
   answer = e;
   numbers = rw e refl;
   written = refl;
-  front = λ g. absurd (not_given v i r e g);
-  rest = λ g. absurd (not_given v i r e g);
+  front = λ g. cc;
+  rest = λ g. cc;
 }
 
 -- an avoider put on the page, or nothing
-pub puts_some : (o : Option (List ℕ)) (w page after : List ℕ) → o ≡ some w → after ≡ overlay 0 w page → Puts o page after Given
+pub puts_some : (o : Option (List ℕ)) (w page after : List ℕ) → o ≡ some w → after ≡ overlay 0 w page → Puts o page after (Ok true)
 puts_some o w page after e q = rw e (record { answer = refl; written = q })
 
-pub puts_none : (o : Option (List ℕ)) (page after : List ℕ) → o ≡ none → after ≡ page → Puts o page after Nothing
+pub puts_none : (o : Option (List ℕ)) (page after : List ℕ) → o ≡ none → after ≡ page → Puts o page after (Ok false)
 puts_none o page after e q = rw e (record { answer = refl; written = q })
+
+-- two answers that differ
+other : ◌≡◌ {A = Listed} (Ok false) (Ok true) → ⊥
+other e = cc
 
 -- what was put on the page
 pub lists_put : (f : Finding) (o : Option (List ℕ)) (n : ℕ) (page after : List ℕ) (r : Listed) → f ≡ clean → Puts o page after r →
@@ -63,8 +50,8 @@ lists_put f none n page after r e p size room = record {
   answer = rw e p.answer;
   numbers = rw (p.answer, e) refl;
   written = rw e p.written;
-  front = λ g. let z : ◌≡◌ {A = ℕ} 1 0 = ap case_of (sym p.answer ∙ g) in absurd (omega (arith, z));
-  rest = λ g. let z : ◌≡◌ {A = ℕ} 1 0 = ap case_of (sym p.answer ∙ g) in absurd (omega (arith, z));
+  front = λ g. absurd (other (sym p.answer ∙ g));
+  rest = λ g. absurd (other (sym p.answer ∙ g));
 }
 lists_put f (some w) n page after r e p size room =
     let l : length w ≡ n = size w refl in
@@ -79,10 +66,10 @@ lists_put f (some w) n page after r e p size room =
     }
 
 -- where the answer is that there is none
-none_there : (f : Fault) (o : Option (List ℕ)) → Nothing ≡ answered f o → o ≡ none
-none_there Clean none e = refl
-none_there Clean (some w) e = let z : ◌≡◌ {A = ℕ} 1 0 = ap case_of e in absurd (omega (arith, z))
-none_there (At r i) o e = let z : ◌≡◌ {A = ℕ} 1 2 = ap case_of e in absurd (omega (arith, z))
+none_there : (f : Fault) (o : Option (List ℕ)) → Ok false ≡ answered f o → o ≡ none
+none_there (Ok u) none e = refl
+none_there (Ok u) (some w) e = absurd (other e)
+none_there (Err r) o e = cc
 
 pub lists_first : (P : List (List ℕ)) (n : ℕ) (page after : List ℕ) (r : Listed) →
     Lists (first_fault (first_tests P n (length page))) (first_avoider P n) n page after r → ListsFirst P n page after r

@@ -10,14 +10,13 @@ use Rattle.word.specs.ListingLaws.{first_given, next_given}
 use Rattle.word.specs.ListLaws.{true_not_false}
 use Rattle.word.specs.Finding.{Finding, clean, fault, test, first_fault}
 use Rattle.word.specs.declared.refusal.Refusal.TheVariants.{Oversize, NoPermutation, ShortPage, NoAvoider}
-use Rattle.forms.specs.SchemeMemory.{fault_of, faulty}
-use Rattle.forms.specs.declared.memory.Fault.{Fault}
-use Rattle.forms.specs.declared.memory.Fault.TheVariants.{Clean, At}
+use Rattle.std.specs.Prelude.{Ok, Err}
+use Rattle.word.specs.Refusal.{refused_at}
+use Rattle.forms.specs.SchemeMemory.{Fault, fault_of, faulty}
 use Rattle.scheme.specs.WellFormed.{pattern_tests}
 use Rattle.scheme.specs.FindingLaws.{clean_in, clean_left, clean_right, clean_append, clean_test}
-use Rattle.lexicographic.specs.Answers.{length_tests, word_tests, first_tests, next_tests, listed_or, Puts, ListsFirst, ListsNext}
+use Rattle.lexicographic.specs.Answers.{Listed, length_tests, word_tests, first_tests, next_tests, listed_or, Puts, ListsFirst, ListsNext}
 use Rattle.lexicographic.proofs.AnswerLaws.{lists_refused, lists_put, lists_first, lists_next}
-use Rattle.lexicographic.specs.declared.answer.Listed.{Listed}
 
 -- the first tests find a fault
 pub found_before : (l m : List Finding) (f : Fault) → f ≡ fault_of (first_fault l) → faulty f ≡ true → f ≡ fault_of (first_fault (l ++ m))
@@ -40,32 +39,32 @@ module _ (P : List (List ℕ)) (formed : first_fault (pattern_tests P) ≡ clean
   decides : (m : List Finding) (f : Finding) → first_fault m ≡ f → fault_of f ≡ fault_of (first_fault (pattern_tests P ++ m))
   decides m f e = sym (ap fault_of (clean_append (pattern_tests P) m formed ∙ e))
 
-  pub first_long : (n room : ℕ) → WORD < n → At Oversize 0 ≡ fault_of (first_fault (first_tests P n room))
+  pub first_long : (n room : ℕ) → WORD < n → Err (refused_at Oversize 0) ≡ fault_of (first_fault (first_tests P n room))
   first_long n room h = decides (length_tests n room) (fault Oversize 0) (rw (lt-ltb WORD n h) refl)
 
-  pub first_short : (n room : ℕ) → n ≤ WORD → room < n → At ShortPage 0 ≡ fault_of (first_fault (first_tests P n room))
+  pub first_short : (n room : ℕ) → n ≤ WORD → room < n → Err (refused_at ShortPage 0) ≡ fault_of (first_fault (first_tests P n room))
   first_short n room h k = decides (length_tests n room) (fault ShortPage 0) (rw (le-ltb WORD n h, lt-ltb room n k) refl)
 
-  pub first_clean : (n room : ℕ) → n ≤ WORD → n ≤ room → Clean ≡ fault_of (first_fault (first_tests P n room))
+  pub first_clean : (n room : ℕ) → n ≤ WORD → n ≤ room → Ok tt ≡ fault_of (first_fault (first_tests P n room))
   first_clean n room h k = decides (length_tests n room) clean (rw (le-ltb WORD n h, le-ltb room n k) refl)
 
   module _ (w : List ℕ) (room : ℕ) where
-    pub next_long : WORD < length w → At Oversize 0 ≡ fault_of (first_fault (next_tests P w room))
+    pub next_long : WORD < length w → Err (refused_at Oversize 0) ≡ fault_of (first_fault (next_tests P w room))
     next_long h = decides (word_tests P w room) (fault Oversize 0) (rw (lt-ltb WORD (length w) h) refl)
 
     module _ (h : length w ≤ WORD) where
-      pub next_no_permutation : is_perm w ≡ false → At NoPermutation 0 ≡ fault_of (first_fault (next_tests P w room))
+      pub next_no_permutation : is_perm w ≡ false → Err (refused_at NoPermutation 0) ≡ fault_of (first_fault (next_tests P w room))
       next_no_permutation p = decides (word_tests P w room) (fault NoPermutation 0) (rw (le-ltb WORD (length w) h, p) refl)
 
       module _ (p : is_perm w ≡ true) where
-        pub next_no_avoider : avoids P w ≡ false → At NoAvoider 0 ≡ fault_of (first_fault (next_tests P w room))
+        pub next_no_avoider : avoids P w ≡ false → Err (refused_at NoAvoider 0) ≡ fault_of (first_fault (next_tests P w room))
         next_no_avoider a = decides (word_tests P w room) (fault NoAvoider 0) (rw (le-ltb WORD (length w) h, p, a) refl)
 
-        pub next_short : avoids P w ≡ true → room < length w → At ShortPage 0 ≡ fault_of (first_fault (next_tests P w room))
+        pub next_short : avoids P w ≡ true → room < length w → Err (refused_at ShortPage 0) ≡ fault_of (first_fault (next_tests P w room))
         next_short a k = decides (word_tests P w room) (fault ShortPage 0)
             (rw (le-ltb WORD (length w) h, p, a, lt-ltb room (length w) k) refl)
 
-        pub next_clean : avoids P w ≡ true → length w ≤ room → Clean ≡ fault_of (first_fault (next_tests P w room))
+        pub next_clean : avoids P w ≡ true → length w ≤ room → Ok tt ≡ fault_of (first_fault (next_tests P w room))
         next_clean a k = decides (word_tests P w room) clean (rw (le-ltb WORD (length w) h, p, a, le-ltb room (length w) k) refl)
 
 -- what holds where the tests find nothing

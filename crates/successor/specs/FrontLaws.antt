@@ -15,7 +15,9 @@ use Rattle.cell.proofs.BuiltCells.{same_out}
 use Rattle.completion.specs.Completion.{begins}
 use Rattle.arrangement.specs.Searching.{Completes}
 use Rattle.arrangement.specs.SearchingLaws.{completes_can}
-use Rattle.successor.specs.Values.{NoneBetween, LeastValue, Avoider, least_from, Lowers}
+use Rattle.std.specs.Prelude.{refl, Option, Some, None}
+use Rattle.std.specs.Option.{unwrap_or}
+use Rattle.successor.specs.Values.{NoneBetween, LeastValue, SeeksValue, Avoider, least_from, Lowers}
 use Rattle.successor.specs.StepLaws.{completes_next, least_value, NoneAfter, after_none, after_less, after_found}
 use Rattle.successor.specs.WordLaws.{zero_value}
 
@@ -86,6 +88,12 @@ module _ (P : List (List ℕ)) (n i : ℕ) (w : List ℕ) (inside : i < n) (room
         avoider = g;
         same_least = least_value P n (take i w) x shorter (from_zero x h) can ∙ ap (least_from P n) (sym one_more);
       }
+
+  -- one of the two
+  pub lowers_either : (high : ℕ) (o : Option (List ℕ)) → high ≡ get_or w i 0 → Avoider P n (take n w) →
+      SeeksValue P n (take i w) 1 high o → Lowers P n i (i + 1) w (unwrap_or o w)
+  lowers_either high (Some b) e g v = lowers_found high b (v.yes b refl)
+  lowers_either high None e g v = lowers_own g (rw e at (v.no refl))
 
   -- one place less: no larger value there
   pub next_less : NoneAfter P n (take n w) (take (i + 1) w) → NoneBetween P n (take i w) (get_or w i 0 + 1) (n + 1) →

@@ -1,18 +1,18 @@
 -- What the searches for a value and for an avoider promise. Definitions only.
-use Rattle.std.specs.Prelude.{ℕ, ◌≤◌, ◌<◌, ◌≡◌, true, false, cond, List, [], ◌∷◌, ◌++◌, length, get_or, take, drop}
-use Rattle.std.proofs.Math.Option.{Option, none, some}
+use Rattle.std.specs.Prelude.{ℕ, ◌≤◌, ◌<◌, ◌≡◌, true, false, List, [], ◌∷◌, ◌++◌, length, get_or, take, drop}
+use Rattle.std.specs.Prelude.{Option, Some, None}
+use Rattle.std.proofs.Math.Option.{Option as Maybe, none, some}
 use Rattle.word.specs.Lists.{first}
 use Rattle.word.specs.Word.{is_perm, avoids, avoiders, has}
 use Rattle.completion.specs.Completion.{begins, completable}
 use Rattle.arrangement.specs.Searching.{Completes}
-use Rattle.arrangement.specs.declared.searched.Searched.{Searched}
 
--- the place of v among the entries from the place i to n of a word, or n
-pub record PlaceOf (w : List ℕ) (i n v r : ℕ) : Type 0 where
-  pub from : i ≤ r
-  pub to : r ≤ n
-  pub there : r < n → get_or w r 0 ≡ v
-  pub nowhere : r ≡ n → has v (drop i (take n w)) ≡ false
+-- the place of v among the entries from the place i to n of a word, or none
+pub record PlaceOf (w : List ℕ) (i n v : ℕ) (r : Option ℕ) : Type 0 where
+  pub from : (j : ℕ) → r ≡ Some j → i ≤ j
+  pub to : (j : ℕ) → r ≡ Some j → j < n
+  pub there : (j : ℕ) → r ≡ Some j → get_or w j 0 ≡ v
+  pub nowhere : r ≡ None → has v (drop i (take n w)) ≡ false
 
 -- u with each value from `low` to below `high` behind it cannot be completed
 abbrev pub NoneBetween : List (List ℕ) → ℕ → List ℕ → ℕ → ℕ → Type 0
@@ -27,9 +27,9 @@ pub record LeastValue (P : List (List ℕ)) (n : ℕ) (u : List ℕ) (low high :
   pub completes : Completes P n (u ++ (value ∷ [])) w
 
 -- the answer to which value from `low` to below `high` is the least with which u can be completed
-pub record SeeksValue (P : List (List ℕ)) (n : ℕ) (u : List ℕ) (low high : ℕ) (r : Searched) : Type 0 where
-  pub yes : r.found ≡ true → LeastValue P n u low high (take n r.word)
-  pub no : r.found ≡ false → NoneBetween P n u low high
+pub record SeeksValue (P : List (List ℕ)) (n : ℕ) (u : List ℕ) (low high : ℕ) (r : Option (List ℕ)) : Type 0 where
+  pub yes : (w : List ℕ) → r ≡ Some w → LeastValue P n u low high (take n w)
+  pub no : r ≡ None → NoneBetween P n u low high
 
 -- w is an avoider of length n
 pub record Avoider (P : List (List ℕ)) (n : ℕ) (w : List ℕ) : Type 0 where
@@ -38,7 +38,7 @@ pub record Avoider (P : List (List ℕ)) (n : ℕ) (w : List ℕ) : Type 0 where
   pub avoids_all : avoids P w ≡ true
 
 -- the first avoider of length n that begins with u
-abbrev pub least_from : List (List ℕ) → ℕ → List ℕ → Option (List ℕ)
+abbrev pub least_from : List (List ℕ) → ℕ → List ℕ → Maybe (List ℕ)
 least_from P n u = first (begins u) (avoiders P n)
 
 -- one place further: r is an avoider, and the first avoider with the first i entries of w is the
@@ -48,5 +48,6 @@ pub record Lowers (P : List (List ℕ)) (n i j : ℕ) (w r : List ℕ) : Type 0 
   pub same_least : least_from P n (take i w) ≡ least_from P n (take j r)
 
 -- the avoider that an answer gives, or none
-abbrev pub given_in : ℕ → Searched → Option (List ℕ)
-given_in n r = cond r.found (some (take n r.word)) none
+abbrev pub given_in : ℕ → Option (List ℕ) → Maybe (List ℕ)
+given_in n (Some w) = some (take n w)
+given_in n None = none

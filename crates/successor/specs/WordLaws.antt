@@ -4,7 +4,6 @@ use Rattle.std.specs.Prelude.{ℕ, zero, suc, ◌+◌, ◌≤◌, ◌<◌, ◌�
 use Rattle.std.proofs.Common.{sym, ap, ◌∙◌, inl, inr, arith, take-append-drop, take-take}
 use Rattle.std.proofs.Common.{length-take-le, get_or-take, drop-cons, add-one, eqb-true}
 use mathlib.Core.List.{List, [], ◌∷◌, ◌++◌, Memᴰ}
-use Rattle.std.proofs.Math.Option.{none, some}
 use Rattle.std.proofs.Math.Seq.{drop-length}
 use Rattle.word.specs.Lists.{any, row, one_to}
 use Rattle.word.specs.Word.{is_perm, distinct, has}
@@ -14,8 +13,14 @@ use Rattle.completion.specs.Completion.{completable, begun}
 use Rattle.completion.specs.CompletionLaws.{not_begun, begun_last}
 use Rattle.arrangement.specs.Exchange.{exchange}
 use Rattle.arrangement.specs.ExchangeLaws.{exchange_next}
+use Rattle.std.specs.Prelude.{Some, None, Option, cond}
+use Rattle.std.proofs.Math.Option.{none, some}
+use Rattle.std.proofs.lemmas.Option.{same_Some, none-some}
+use Rattle.arrangement.specs.Said.{said_yes, said_no}
+use Rattle.arrangement.specs.Searching.{Completes, Searches, Decides}
+use Rattle.arrangement.specs.SearchingLaws.{yes_decides, no_decides}
 use Rattle.arrangement.specs.declared.searched.Searched.{Searched}
-use Rattle.arrangement.specs.Searching.{Decides}
+use Rattle.arrangement.specs.declared.searched.Searched.TheVariants.{Completed, Impossible, Undecided}
 use Rattle.successor.specs.Values.{NoneBetween, SeeksValue, given_in}
 
 -- numbers in a row are distinct, so 1 to n is a permutation
@@ -91,8 +96,8 @@ row_more a (suc n) = ap (λ (t : List ℕ). a ∷ t)
     (row_more (suc a) n ∙ ap (λ (x : ℕ). row (suc a) n ++ (x ∷ [])) (omega arith))
 
 -- what is decided where there is no completion
-pub decides_none : (P : List (List ℕ)) (n : ℕ) (u : List ℕ) (r : Searched) → completable P n u ≡ false → r.found ≡ false → Decides P n u r
-decides_none P n u r e f = record { decided = f ∙ sym e; word = λ t. absurd (true_not_false (sym t ∙ e)) }
+pub decides_none : (P : List (List ℕ)) (n : ℕ) (u : List ℕ) → completable P n u ≡ false → Decides P n u None
+decides_none P n u e = record { decided = sym e; word = λ w q. absurd (none-some w q) }
 
 -- the front with an entry brought behind it
 pub brought : (w r : List ℕ) (i j v : ℕ) → i ≤ j → j < length w → get_or w j 0 ≡ v → r ≡ exchange i j w →
@@ -110,20 +115,37 @@ none_more P n u low v h e y a b = go (same_or_not y v)
     go (inr q) = h y a (omega (arith, b, q))
 
 -- the answers of the search for a value
-pub seeks_found : (P : List (List ℕ)) (n : ℕ) (u : List ℕ) (low high v : ℕ) (r : Searched) → Decides P n (u ++ (v ∷ [])) r →
-    r.found ≡ true → low ≤ v → v < high → NoneBetween P n u low v → SeeksValue P n u low high r
-seeks_found P n u low high v r d t a b h = record {
-  yes = λ e. record { value = v; from = a; below = b; least = h; completes = d.word (sym d.decided ∙ t) };
-  no = λ f. absurd (true_not_false (sym t ∙ f));
+pub seeks_found : (P : List (List ℕ)) (n : ℕ) (u : List ℕ) (low high v : ℕ) (w : List ℕ) → Completes P n (u ++ (v ∷ [])) (take n w) →
+    low ≤ v → v < high → NoneBetween P n u low v → SeeksValue P n u low high (Some w)
+seeks_found P n u low high v w c a b h = record {
+  yes = λ x q. record { value = v; from = a; below = b; least = h; completes = rw (same_Some w x q) at c };
+  no = λ q. absurd (none-some w (sym q));
 }
 
-pub seeks_none : (P : List (List ℕ)) (n : ℕ) (u : List ℕ) (low high : ℕ) (r : Searched) → r.found ≡ false →
-    NoneBetween P n u low high → SeeksValue P n u low high r
-seeks_none P n u low high r f h = record { yes = λ t. absurd (true_not_false (sym t ∙ f)); no = λ e. h }
+pub seeks_none : (P : List (List ℕ)) (n : ℕ) (u : List ℕ) (low high : ℕ) → NoneBetween P n u low high → SeeksValue P n u low high None
+seeks_none P n u low high h = record { yes = λ w q. absurd (none-some w q); no = λ q. h }
 
 -- what an answer gives
-pub given_some : (n : ℕ) (r : Searched) (w : List ℕ) → r.found ≡ true → r.word ≡ w → given_in n r ≡ some (take n w)
-given_some n r w e q = rw (e, q) refl
+pub given_some : (n : ℕ) (r : Option (List ℕ)) (w : List ℕ) → r ≡ Some w → given_in n r ≡ some (take n w)
+given_some n r w e = rw e refl
 
-pub given_none : (n : ℕ) (r : Searched) → r.found ≡ false → given_in n r ≡ none
+pub given_none : (n : ℕ) (r : Option (List ℕ)) → r ≡ None → given_in n r ≡ none
 given_none n r e = rw e refl
+
+-- the word of a search that said yes
+abbrev pub found_by : Searched → Option (List ℕ)
+found_by (Completed w) = Some w
+found_by (Impossible l) = None
+found_by Undecided = None
+
+-- a search that said yes or no has decided
+pub searches_decide : (P : List (List ℕ)) (n : ℕ) (u : List ℕ) (r : Searched) → Searches P n u r →
+    said_yes r || said_no r ≡ true → Decides P n u (found_by r)
+searches_decide P n u (Completed w) s d = yes_decides P n u w (Completed w) s refl
+searches_decide P n u (Impossible l) s d = no_decides P n u (Impossible l) s refl
+searches_decide P n u Undecided s d = absurd (true_not_false (sym d))
+
+-- a budget that counts has an end
+pub spent_ends : (endless : Bool) (budget : ℕ) → cond endless false (eqb budget 0) ≡ true → endless ≡ false
+spent_ends true budget e = absurd (true_not_false (sym e))
+spent_ends false budget e = refl

@@ -2,14 +2,14 @@
 ghost use Rattle.std.specs.Prelude.{◌≡◌, true, [], ◌∷◌, ◌++◌, ◌+◌, ◌≤◌, ◌<◌, take};
 ghost use Rattle.word.specs.Ceilings.{WORD};
 ghost use Rattle.word.specs.Word.{is_perm};
-ghost use Rattle.word.specs.Patterns.{patterns_of};
+ghost use Rattle.forms.specs.SetMemory.{held_in};
 ghost use Rattle.arrangement.specs.Searching.{Decides};
 ghost use Rattle.successor.specs.Values.{PlaceOf, SeeksValue};
 
 use arrangement::exchange::exchanged;
-use arrangement::searched::{Searched, found_none};
+use forms::memory::Pattern;
 use turns::completed;
-use word::limits::{DIGITS, PATTERNS, WORD};
+use word::limits::WORD;
 
 // The values from `low` to below `high`, for an avoider of length n.
 #[derive(Clone, Copy)]
@@ -19,75 +19,52 @@ pub struct Values {
     pub high: usize,
 }
 
-// A value, for an avoider of length n.
-#[derive(Clone, Copy)]
-struct Wanted {
-    n: usize,
-    value: usize,
-}
-
 // The least of the values with which the first i entries of the word can be completed, as the
 // completion that begins with them and it, or none.
 pub fn least_value(
-    set: [[u8; DIGITS]; PATTERNS],
-    lengths: [u8; PATTERNS],
-    count: usize,
+    patterns: &[Pattern],
     word: [u8; WORD],
     i: usize,
     values: Values,
-) -> Searched
+) -> Option<[u8; WORD]>
     requires { (i < values.n) × (values.n ≤ WORD) × (1 ≤ values.low) × (values.high ≤ values.n + 1) ×
         (is_perm (take values.n word) ≡ true) }
-    ensures { SeeksValue (patterns_of set lengths count) values.n (take i word) values.low values.high result }
+    ensures { SeeksValue (held_in patterns.now) values.n (take i word) values.low values.high result }
 {
-    let n = values.n;
-    let high = values.high;
-    let mut value = values.low;
-    while value < high {
-        let answer = asked(set, lengths, count, word, i, Wanted { n, value });
-        if answer.found {
-            return answer;
+    for value in values.low..values.high {
+        if let Some(answer) = asked(patterns, word, i, values.n, value) {
+            return Some(answer);
         }
-        value += 1;
     }
-    found_none(word, 0)
+    None
 }
 
-// Whether the first i entries of the word can be completed with the value behind them: it is
-// brought to that place from among the unused values.
+// An avoider of length n that begins with the first i entries of the word and the value behind
+// them, if there is one: the value is brought to that place from among the unused ones.
 fn asked(
-    set: [[u8; DIGITS]; PATTERNS],
-    lengths: [u8; PATTERNS],
-    count: usize,
+    patterns: &[Pattern],
     word: [u8; WORD],
     i: usize,
-    wanted: Wanted,
-) -> Searched
-    requires { (i < wanted.n) × (wanted.n ≤ WORD) × (1 ≤ wanted.value) × (wanted.value ≤ wanted.n) ×
-        (is_perm (take wanted.n word) ≡ true) }
-    ensures { Decides (patterns_of set lengths count) wanted.n (take i word ++ (wanted.value ∷ [])) result }
+    n: usize,
+    value: usize,
+) -> Option<[u8; WORD]>
+    requires { (i < n) × (n ≤ WORD) × (1 ≤ value) × (value ≤ n) × (is_perm (take n word) ≡ true) }
+    ensures { Decides (held_in patterns.now) n (take i word ++ (value ∷ [])) result }
 {
-    let n = wanted.n;
-    let value = wanted.value;
-    let j = place_of(word, i, n, value as u8);
-    if j == n {
-        return found_none(word, 0);
-    }
+    let j = place_of(word, i, n, value as u8)?;
     let other = exchanged(word, i, j);
-    completed(set, lengths, count, other, i + 1, n)
+    completed(patterns, other, i + 1, n)
 }
 
-// The place of a value among the entries from the place i to n, or n.
-fn place_of(word: [u8; WORD], i: usize, n: usize, value: u8) -> usize
+// The place of a value among the entries from the place i to n.
+fn place_of(word: [u8; WORD], i: usize, n: usize, value: u8) -> Option<usize>
     requires { (i ≤ n) × (n ≤ WORD) }
     ensures { PlaceOf word i n value result }
 {
-    let mut j = i;
-    while j < n {
+    for j in i..n {
         if word[j] == value {
-            return j;
+            return Some(j);
         }
-        j += 1;
     }
-    n
+    None
 }

@@ -3,10 +3,10 @@
 // to turn.
 #![tactic(auto)]
 
-ghost use Rattle.std.specs.Prelude.{◌≡◌, true, ◌||◌, ◌≤◌, take};
+ghost use Rattle.std.specs.Prelude.{◌≡◌, true, ◌≤◌, take};
 ghost use Rattle.word.specs.Ceilings.{WORD};
 ghost use Rattle.word.specs.Word.{is_perm};
-ghost use Rattle.word.specs.Patterns.{patterns_of};
+ghost use Rattle.forms.specs.SetMemory.{held_in};
 ghost use Rattle.arrangement.specs.Searching.{Searches, Decides};
 ghost use Rattle.turns.specs.Turns.{Ready};
 
@@ -14,8 +14,9 @@ use appending::{Limits, appending_search};
 use arrangement::ordering::{rising_behind, turned_behind};
 use arrangement::searched::Searched;
 use crowding::{shortest_falling, shortest_rising};
+use forms::memory::Pattern;
 use insertion::{Span, insertion_search};
-use word::limits::{DIGITS, PATTERNS, WORD};
+use word::limits::WORD;
 
 // how many words each search may try in the first turn
 const FIRST: usize = 32;
@@ -39,23 +40,16 @@ struct Start {
     falls: usize,
 }
 
-// Whether some avoider of length n begins with the first `len` entries of the word, and one that
-// does. The unused values stand behind these entries.
-pub fn completed(
-    set: [[u8; DIGITS]; PATTERNS],
-    lengths: [u8; PATTERNS],
-    count: usize,
-    word: [u8; WORD],
-    len: usize,
-    n: usize,
-) -> Searched
+// An avoider of length n that begins with the first `len` entries of the word, if there is one. The
+// unused values stand behind these entries.
+pub fn completed(patterns: &[Pattern], word: [u8; WORD], len: usize, n: usize) -> Option<[u8; WORD]>
     requires { (len ≤ n) × (n ≤ WORD) × (is_perm (take n word) ≡ true) }
-    ensures { Decides (patterns_of set lengths count) n (take len word) result }
+    ensures { Decides (held_in patterns.now) n (take len word) result }
 {
     let up = rising_behind(word, len, n);
     let down = turned_behind(up, len, n);
-    let rises = shortest_rising(set, lengths, count);
-    let falls = shortest_falling(set, lengths, count);
+    let rises = shortest_rising(patterns);
+    let falls = shortest_falling(patterns);
     let start = Start {
         up,
         down,
@@ -64,80 +58,57 @@ pub fn completed(
         rises,
         falls,
     };
-    in_turns(set, lengths, count, start)
+    in_turns(patterns, start)
 }
 
 // The turns.
-fn in_turns(
-    set: [[u8; DIGITS]; PATTERNS],
-    lengths: [u8; PATTERNS],
-    count: usize,
-    start: Start,
-) -> Searched
-    requires { Ready (patterns_of set lengths count) start }
-    ensures { Decides (patterns_of set lengths count) start.n (take start.len start.up) result }
+fn in_turns(patterns: &[Pattern], start: Start) -> Option<[u8; WORD]>
+    requires { Ready (held_in patterns.now) start }
+    ensures { Decides (held_in patterns.now) start.n (take start.len start.up) result }
 {
     let mut budget = FIRST;
     while budget < LAST {
-        let answer = one_turn(set, lengths, count, start, budget);
-        if is_decided(answer.found, answer.none) {
-            return answer;
+        match one_turn(patterns, start, budget) {
+            Searched::Completed(word) => return Some(word),
+            Searched::Impossible(_) => return None,
+            Searched::Undecided => budget += budget,
         }
-        budget += budget;
     }
-    let down = start.down;
     let span = Span {
         fixed: start.len,
         n: start.n,
-        budget,
-        endless: true,
+        budget: None,
     };
-    insertion_search(set, lengths, count, down, span)
+    match insertion_search(patterns, start.down, span) {
+        Searched::Completed(word) => Some(word),
+        _ => None,
+    }
 }
 
 // One turn: appending, putting in from the largest value down, putting in from the smallest up.
-fn one_turn(
-    set: [[u8; DIGITS]; PATTERNS],
-    lengths: [u8; PATTERNS],
-    count: usize,
-    start: Start,
-    budget: usize,
-) -> Searched
-    requires { Ready (patterns_of set lengths count) start }
-    ensures { Searches (patterns_of set lengths count) start.n (take start.len start.up) result }
+fn one_turn(patterns: &[Pattern], start: Start, budget: usize) -> Searched
+    requires { Ready (held_in patterns.now) start }
+    ensures { Searches (held_in patterns.now) start.n (take start.len start.up) result }
 {
-    let up = start.up;
     let limits = Limits {
         n: start.n,
-        budget,
+        budget: Some(budget),
         rises: start.rises,
         falls: start.falls,
         pairs: PAIRS <= budget,
     };
-    let first = appending_search(set, lengths, count, up, start.len, limits);
-    if is_decided(first.found, first.none) {
+    let first = appending_search(patterns, start.up, start.len, limits);
+    if first.is_decided() {
         return first;
     }
     let span = Span {
         fixed: start.len,
         n: start.n,
-        budget,
-        endless: false,
+        budget: Some(budget),
     };
-    let down = start.down;
-    let second = insertion_search(set, lengths, count, down, span);
-    if is_decided(second.found, second.none) {
+    let second = insertion_search(patterns, start.down, span);
+    if second.is_decided() {
         return second;
     }
-    insertion_search(set, lengths, count, up, span)
-}
-
-// Whether a search said yes or no.
-fn is_decided(found: bool, none: bool) -> bool
-    ensures { result ≡ found || none }
-{
-    if found {
-        return true;
-    }
-    none
+    insertion_search(patterns, start.up, span)
 }

@@ -1,7 +1,7 @@
 -- The measure of the recursion `appending::append`, how many values are still to come, and the
--- invariant and the measure of its loop.
+-- invariant of its loop.
 use Prim.Native.Nat.{◌-◌}
-use Rattle.word.specs.Patterns.{patterns_of}
+use Rattle.forms.specs.SetMemory.{held_in}
 use Rattle.appending.specs.AppendingLaws.{Tries}
 use Rattle.appending.proofs.+append.Given as goal
 
@@ -9,7 +9,4 @@ abbrev pub decreases-append : goal.decreases-append
 decreases-append l = l.limits.n - l.len
 
 abbrev pub invariant-loop-j : goal.invariant-loop-j
-invariant-loop-j l = Tries (patterns_of l.set l.lengths l.count) l.limits.n l.word l.len l.j l.w
-
-abbrev pub decreases-loop-j : goal.decreases-loop-j
-decreases-loop-j l = l.limits.n - l.j
+invariant-loop-j l = Tries (held_in l.patterns) l.limits.n l.fn.word l.len l.j l.w

@@ -1,44 +1,19 @@
--- `basis::is_basic` meets its contract: no other pattern of the set is contained if none
--- from the index on is.
+-- `basis::is_basic` meets its contract: each pattern of the set leaves the pattern in the basis.
 -- Assumes nothing.
-use mathlib.Core.Path.{◌≡◌, sym, ◌∙◌}
-use borrow.Author.Rules.{rules}
-use native.Mathlib.Omega.{arith}
-use lib.ListN.{length, take}
-use Rattle.word.proofs.PatternSet.{from, from_counted, from_end}
-use Rattle.basis.proofs.BasisWalk.{basic_start, basic_none, basic_here, basic_later}
+use mathlib.Core.Path.{◌∙◌}
+use mathlib.Core.Bool.{not, ◌||◌}
+use Rattle.std.proofs.Common.{rules, tests}
+use Rattle.std.proofs.lemmas.Iterator.{YieldsList-from_slice}
+use Rattle.std.proofs.lemmas.Iterator.Search.{all_from_yields_List}
+use Rattle.word.specs.Word.{contains}
+use Rattle.cell.specs.Basis.{same}
+use Rattle.forms.specs.SetMemory.{held}
+use Rattle.basis.proofs.BasisWalk.{basic_held}
 use Rattle.basis.proofs.is_basic.Goals as goal
-
-pub loop-j-init : goal.loop-j-init
-loop-j-init c = let a = c.args in basic_start a.set a.lengths a.count (take a.b a.q)
-
-pub returns-then-count-j : goal.returns-then-count-j
-returns-then-count-j c =
-    let a = c.args in
-    let l = c.loop-j in
-    sym (l.invariant ∙ basic_none (from a.set a.lengths a.count l.j) (take a.b a.q)
-    (from_counted a.set a.lengths a.count l.j (omega arith)))
-
-pub returns-then-not-leaves : goal.returns-then-not-leaves
-returns-then-not-leaves c =
-    let a = c.args in
-    let l = c.loop-j in
-    let t = c.leaves in
-    sym (l.invariant ∙ basic_here a.set a.lengths a.count (take a.b a.q) l.j
-    (search rules) (search rules) (omega arith) t.result t.ensures c.if-not-leaves.true)
-
-pub loop-j-preserved : goal.loop-j-preserved
-loop-j-preserved c =
-    let a = c.args in
-    let l = c.loop-j in
-    let t = c.leaves in
-    l.invariant ∙ basic_later a.set a.lengths a.count (take a.b a.q) l.j
-    (search rules) (search rules) (omega arith) t.result t.ensures c.if-not-leaves.false
 
 pub returns : goal.returns
 returns c =
     let a = c.args in
-    let l = c.loop-j in
-    let rows : length a.set ≡ 24 = search rules in
-    sym (l.invariant ∙ basic_none (from a.set a.lengths a.count l.j) (take a.b a.q)
-    (from_end a.set a.lengths a.count l.j (omega arith)))
+    let β = held a.q.now in
+    all_from_yields_List (λ p. same (held p) β || not (contains (held p) β)) _ _ c.all.result c.all.ensures.ran
+    (YieldsList-from_slice a.patterns.now cc) (λ x b q k. search (rules, tests)) ∙ basic_held a.patterns.now β

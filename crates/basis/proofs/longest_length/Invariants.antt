@@ -1,13 +1,10 @@
--- The invariant and the measure of the loop of `basis::longest_length`.
-use Prim.Native.Nat.{◌-◌, ◌≤◌, max}
+-- The invariant of the loop of `basis::longest_length`.
+use Prim.Native.Nat.{◌≤◌, max}
 use mathlib.Core.Path.{◌≡◌}
+use lib.ListN.{drop}
 use Rattle.word.specs.Word.{longest}
-use Rattle.word.specs.Patterns.{patterns_of}
-use Rattle.word.proofs.PatternSet.{from}
+use Rattle.forms.specs.SetMemory.{held_in}
 use Rattle.basis.proofs.longest_length.Given as goal
 
-abbrev pub invariant-loop-i : goal.invariant-loop-i
-invariant-loop-i l = (longest (patterns_of l.set l.lengths l.count) ≡ max l.m (longest (from l.set l.lengths l.count l.i))) × (l.m ≤ 8)
-
-abbrev pub decreases-loop-i : goal.decreases-loop-i
-decreases-loop-i l = 24 - l.i
+abbrev pub invariant-loop-pattern : goal.invariant-loop-pattern
+invariant-loop-pattern l = (longest (held_in l.patterns) ≡ max l.m (longest (held_in (drop l.pattern-index l.patterns)))) × (l.m ≤ 8)

@@ -5,7 +5,7 @@ use mathlib.Core.Path.{◌≡◌, sym, ◌∙◌}
 use native.Mathlib.Omega.{arith}
 use lib.ListN.{length, take}
 use lib.Seq.{length-take-le}
-use Rattle.word.specs.Patterns.{patterns_of}
+use Rattle.forms.specs.SetMemory.{held_in}
 use Rattle.completion.specs.CompletionLaws.{too_long, not_begun}
 use borrow.Author.Rules.{rules}
 use Rattle.completion.proofs.completable.Goals as goal
@@ -15,12 +15,12 @@ returns-then-n-len c =
     let a = c.args in
     let long : length a.word ≡ 20 = search rules in
     let size = length-take-le a.len a.word (omega arith) in
-    sym (too_long (patterns_of a.set a.lengths a.count) a.n (take a.len a.word) (omega arith))
+    sym (too_long (held_in a.patterns.now) a.n (take a.len a.word) (omega arith))
 
 pub returns-then-not-is_begun : goal.returns-then-not-is_begun
 returns-then-not-is_begun c =
     let a = c.args in
-    sym (not_begun (patterns_of a.set a.lengths a.count) a.n (take a.len a.word)
+    sym (not_begun (held_in a.patterns.now) a.n (take a.len a.word)
     (sym c.is_begun.ensures ∙ c.if-not-is_begun.true))
 
 pub goes_on-requires : goal.goes_on-requires

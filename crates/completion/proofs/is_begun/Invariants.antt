@@ -1,5 +1,4 @@
--- The invariant and the measure of the loop of `completion::is_begun`.
-use Prim.Native.Nat.{◌-◌, ◌≤◌}
+-- The invariant of the loop of `completion::is_begun`.
 use mathlib.Core.Path.{◌≡◌}
 use mathlib.Core.Bool.{true}
 use lib.ListN.{take}
@@ -7,7 +6,4 @@ use Rattle.completion.specs.Completion.{begun}
 use Rattle.completion.proofs.is_begun.Given as goal
 
 abbrev pub invariant-loop-i : goal.invariant-loop-i
-invariant-loop-i l = (begun l.n (take l.i l.word) ≡ true) × (l.i ≤ l.len)
-
-abbrev pub decreases-loop-i : goal.decreases-loop-i
-decreases-loop-i l = l.len - l.i
+invariant-loop-i l = begun l.n (take l.i l.word) ≡ true

@@ -1,50 +1,55 @@
--- `containment::earliest_in` meets its contract: the earliest pattern of the set that has a
--- copy is the earliest from the index on.
+-- `containment::earliest_in` meets its contract: the earliest pattern of the set that has a copy is
+-- the earliest from the index on.
 -- Assumes nothing.
-use mathlib.Core.Path.{◌≡◌, sym, ap, ◌∙◌}
-use borrow.Author.Rules.{rules}
+use Prim.Native.Nat.{◌+◌}
+use mathlib.Core.List.{List}
+use Prim.Native.Nat.{ℕ}
+use mathlib.Core.Path.{◌≡◌, refl, sym, ap, ◌∙◌}
 use native.Mathlib.Omega.{arith}
-use lib.ListN.{length}
+use lib.ListN.{length, get_or, drop}
+use Rattle.word.specs.Word.{first_copy}
+use Rattle.word.specs.Earliest.{earliest, earliest_from}
+use Rattle.forms.specs.SchemeMemory.{no_pattern}
+use Rattle.forms.specs.SetMemory.{held, held_in}
+use Rattle.copy_search.specs.Copy.{shown}
 use Rattle.containment.specs.SetCopies.{shown_in}
-use Rattle.word.specs.Patterns.{patterns_of}
-use Rattle.containment.specs.declared.SetCopy.{SetCopy}
-use Rattle.word.proofs.PatternSet.{from, from_start, from_counted, from_end, early_start, early_none}
-use Rattle.containment.proofs.SetSearch.{early_here, early_later}
+use Rattle.containment.proofs.SetSearch.{short_copy, early_turn, early_here, early_later, early_none}
 use Rattle.containment.proofs.earliest_in.Goals as goal
+use Rattle.containment.proofs.earliest_in.Goals.{After-first_copy}
+
+-- the pattern at the index
+abbrev here : After-first_copy → List ℕ
+here c = held (get_or c.args.patterns.now c.loop-i.i no_pattern)
+
+copied : (c : After-first_copy) → c.first_copy.result ≡ shown (first_copy (here c) c.args.w.now)
+copied c =
+    short_copy (get_or c.args.patterns.now c.loop-i.i no_pattern) c.as_slice-digits.result.now c.args.w.now
+    c.first_copy.result c.first_copy.ensures c.as_slice-digits.ensures
 
 pub loop-i-init : goal.loop-i-init
-loop-i-init c =
-    let a = c.args in
-    early_start (patterns_of a.set a.lengths a.count) (from a.set a.lengths a.count 0) a.w.now
-    (from_start a.set a.lengths a.count)
+unfolding earliest
+loop-i-init c = refl
 
-pub returns-then-i-ge-PATTERNS : goal.returns-then-i-ge-PATTERNS
-returns-then-i-ge-PATTERNS c =
-    let a = c.args in
+pub returns-in-Some : goal.returns-in-Some
+returns-in-Some c =
+    let s = c.args.patterns.now in
+    let w = c.args.w.now in
     let i = c.loop-i.i in
-    let rows : length a.set ≡ 24 = search rules in
-    c.no_copy.ensures ∙ ap {B = SetCopy} shown_in (sym
-    (c.loop-i.invariant ∙ early_none i (from a.set a.lengths a.count i) a.w.now
-    (from_end a.set a.lengths a.count i (omega arith))))
-
-pub returns-then-copy : goal.returns-then-copy
-returns-then-copy c =
-    let a = c.args in
-    let l = c.loop-i in
-    early_here a.set a.lengths a.count a.w.now l.i (search rules) (search rules) (omega arith)
-    c.copy_of-copy.result c.copy_of-copy.ensures c.if-copy.true ∙ ap {B = SetCopy} shown_in (sym l.invariant)
+    let f = (goal.at.returns-in-Some c).After-first_copy in
+    early_here (here f) w i (length c.as_slice-digits.result.now) c.in-Some.at
+    (earliest_from (i + 1) (held_in (drop (i + 1) s)) w) (ap length c.as_slice-digits.ensures)
+    (sym c.in-Some.is ∙ copied f) ∙
+    ap shown_in (sym (c.loop-i.invariant ∙ early_turn s w i no_pattern c.loop-i-test.true))
 
 pub loop-i-preserved : goal.loop-i-preserved
 loop-i-preserved c =
-    let a = c.args in
-    let l = c.loop-i in
-    l.invariant ∙ early_later a.set a.lengths a.count a.w.now l.i (search rules) (search rules) (omega arith)
-    c.copy_of-copy.result c.copy_of-copy.ensures c.if-copy.false
+    let s = c.args.patterns.now in
+    let w = c.args.w.now in
+    let i = c.loop-i.i in
+    let f = (goal.at.loop-i-preserved c).After-first_copy in
+    c.loop-i.invariant ∙ early_turn s w i no_pattern c.loop-i-test.true ∙
+    early_later (here f) w i (earliest_from (i + 1) (held_in (drop (i + 1) s)) w) (sym c.in_default.is ∙ copied f)
 
 pub returns : goal.returns
 returns c =
-    let a = c.args in
-    let i = c.loop-i.i in
-    c.no_copy-2.ensures ∙ ap {B = SetCopy} shown_in (sym
-    (c.loop-i.invariant ∙ early_none i (from a.set a.lengths a.count i) a.w.now
-    (from_counted a.set a.lengths a.count i (omega arith))))
+    ap shown_in (sym (c.loop-i.invariant ∙ early_none c.args.patterns.now c.args.w.now c.loop-i.i (omega arith)))

@@ -8,22 +8,18 @@ use Rattle.copy_search.proofs.first_copy.Given as goal
 
 abbrev pub invariant-pairs : goal.invariant-pairs
 invariant-pairs l =
-    (l.j ≤ l.d) ×
-    (fits (take l.d l.p) (get_or l.p l.d 0) (take l.d l.entries) l.x ≡ fits (drop l.j (take l.d l.p)) (get_or l.p l.d 0)
-    (drop l.j (take l.d l.entries)) l.x)
-
-abbrev pub decreases-pairs : goal.decreases-pairs
-decreases-pairs l = l.d - l.j
+    fits (take l.d l.pattern) (get_or l.pattern l.d 0) (take l.d l.entries) l.x ≡
+    fits (drop l.j (take l.d l.pattern)) (get_or l.pattern l.d 0) (drop l.j (take l.d l.entries)) l.x
 
 abbrev pub invariant-positions : goal.invariant-positions
-invariant-positions l = Walk (take l.len l.p) l.w l.k l.at l.entries l.d l.i ×
+invariant-positions l = Walk (take 8 l.pattern) l.w l.k l.at l.entries l.d l.i ×
     (weight l.k (length l.w) l.at l.d l.i ≤ weight l.k (length l.w) l.initial.at l.initial.d l.initial.i)
 
 abbrev pub decreases-positions : goal.decreases-positions
 decreases-positions l = length l.w - l.i
 
 abbrev pub invariant-copy : goal.invariant-copy
-invariant-copy l = Walk (take l.len l.p) l.w l.k l.at l.entries l.d l.i
+invariant-copy l = Walk (take 8 l.pattern) l.w l.k l.at l.entries l.d l.i
 
 abbrev pub decreases-copy : goal.decreases-copy
 decreases-copy l = weight l.k (length l.w) l.at l.d l.i

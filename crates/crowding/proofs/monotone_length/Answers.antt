@@ -1,31 +1,27 @@
 -- `crowding::monotone_length` meets its contract.
 -- Assumes nothing.
 use mathlib.Core.Path.{◌≡◌, sym, ap, ◌∙◌}
-use borrow.Author.Rules.{rules}
 use native.Mathlib.Omega.{arith}
-use lib.ListN.{length, take}
+use lib.ListN.{length}
+use Rattle.forms.specs.SetMemory.{held}
+use Rattle.forms.specs.HeldLaws.{held_few}
 use Rattle.crowding.specs.Crowding.{monotone}
-use Rattle.crowding.proofs.PatternLaws.{capped_digits, length_monotone, length_other}
+use Rattle.crowding.proofs.PatternLaws.{length_monotone, length_other}
 use Rattle.crowding.proofs.monotone_length.Goals as goal
 
 pub returns-then-is_monotone : goal.returns-then-is_monotone
 returns-then-is_monotone c =
-    let a = c.args in
-    let k = c.capped-k in
-    let eight : length a.p ≡ 8 = search rules in
-    let (e, l) = capped_digits a.p a.len k.result 8 eight k.ensures in (
-      length_monotone a.up (take a.len a.p) k.result l
-          (ap (monotone a.up) (sym e) ∙ sym c.is_monotone.ensures ∙ c.if-is_monotone.true),
-      omega arith,
+    let β = held c.args.p.now in
+    let e = c.as_slice-digits.ensures in
+    let size : length c.as_slice-digits.result.now ≡ length β = ap length e in (
+      length_monotone c.args.up β (length c.as_slice-digits.result.now) (sym size)
+          (ap (monotone c.args.up) (sym e) ∙ sym c.is_monotone.ensures ∙ c.if-is_monotone.true),
+      omega (arith, size, held_few c.args.p.now),
     )
 
 pub returns-else-is_monotone : goal.returns-else-is_monotone
-returns-else-is_monotone c =
-    let a = c.args in
-    let k = c.capped-k in
-    let eight : length a.p ≡ 8 = search rules in
-    let (e, l) = capped_digits a.p a.len k.result 8 eight k.ensures in (
-      length_other a.up (take a.len a.p)
-          (ap (monotone a.up) (sym e) ∙ sym c.is_monotone.ensures ∙ c.if-is_monotone.false),
-      omega arith,
-    )
+returns-else-is_monotone c = (
+  length_other c.args.up (held c.args.p.now)
+      (ap (monotone c.args.up) (sym c.as_slice-digits.ensures) ∙ sym c.is_monotone.ensures ∙ c.if-is_monotone.false),
+  omega arith,
+)

@@ -1,5 +1,4 @@
--- The invariant and the measure of the loop of `crowding::next_ends`.
-use Prim.Native.Nat.{◌+◌, ◌-◌, ◌≤◌}
+-- The invariant of the loop of `crowding::next_ends`.
 use mathlib.Core.Path.{◌≡◌}
 use lib.ListN.{length, get_or}
 use Rattle.crowding.specs.Crowding.{next_ends}
@@ -7,7 +6,4 @@ use Rattle.crowding.specs.Followers.{Holds}
 use Rattle.crowding.proofs.next_ends.Given as goal
 
 abbrev pub invariant-loop-l : goal.invariant-loop-l
-invariant-loop-l l = Holds (l.l + 1) (next_ends l.up l.x (λ k. get_or l.ends k 0)) l.next × (length l.next ≡ 8) × (l.l ≤ 8)
-
-abbrev pub decreases-loop-l : goal.decreases-loop-l
-decreases-loop-l l = l.k - l.l
+invariant-loop-l l = Holds l.l (next_ends l.up l.x (λ k. get_or l.ends k 0)) l.next × (length l.next ≡ 8)

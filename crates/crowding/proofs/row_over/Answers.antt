@@ -11,16 +11,16 @@ use Rattle.crowding.proofs.row_over.Goals as goal
 pub loop-m-init : goal.loop-m-init
 loop-m-init c =
     let a = c.args in
-    (any_start (over_at a.room a.high a.unused a.lows a.falls) a.falls, omega arith)
+    any_start (over_at a.room a.high a.unused a.lows a.falls) a.falls
 
-pub returns-then-fit-wide : goal.returns-then-fit-wide
-returns-then-fit-wide c =
+pub returns-then-fit-from : goal.returns-then-fit-from
+returns-then-fit-from c =
     let room_for : c.most.result ≡ c.args.room * (c.args.falls - 1 - c.loop-m.m) =
     c.most.ensures.0 ∙ ap (λ (k : ℕ). c.args.room * k) c.left.ensures.0 in
     let a = c.args in
     let l = c.loop-m in
     let room = room_for in
-    sym (l.invariant.0 ∙ any_here (over_at a.room a.high a.unused a.lows a.falls) l.m a.falls (omega arith)
+    sym (l.invariant ∙ any_here (over_at a.room a.high a.unused a.lows a.falls) l.m a.falls (omega arith)
     (over_here a.room a.high a.unused a.lows a.falls l.m (omega arith)))
 
 pub loop-m-preserved : goal.loop-m-preserved
@@ -29,14 +29,12 @@ loop-m-preserved c =
     c.most.ensures.0 ∙ ap (λ (k : ℕ). c.args.room * k) c.left.ensures.0 in
     let a = c.args in
     let l = c.loop-m in
-    let room = room_for in (
-      l.invariant.0 ∙ any_later (over_at a.room a.high a.unused a.lows a.falls) l.m a.falls (omega arith)
-          (over_not a.room a.high a.unused a.lows a.falls l.m (omega arith)),
-      omega arith,
-    )
+    let room = room_for in
+    l.invariant ∙ any_later (over_at a.room a.high a.unused a.lows a.falls) l.m a.falls (omega arith)
+    (over_not a.room a.high a.unused a.lows a.falls l.m (omega arith))
 
 pub returns : goal.returns
 returns c =
     let a = c.args in
     let l = c.loop-m in
-    sym (l.invariant.0 ∙ any_none (over_at a.room a.high a.unused a.lows a.falls) l.m a.falls (omega arith))
+    sym (l.invariant ∙ any_none (over_at a.room a.high a.unused a.lows a.falls) l.m a.falls (omega arith))

@@ -1,5 +1,5 @@
--- The invariant and the measure of the loop of `crowding::row_over`.
-use Prim.Native.Nat.{◌-◌, ◌≤◌}
+-- The invariant of the loop of `crowding::row_over`.
+use Prim.Native.Nat.{◌-◌}
 use mathlib.Core.Path.{◌≡◌}
 use Rattle.word.specs.Lists.{any, row}
 use Rattle.crowding.specs.Followers.{over_at, over_row}
@@ -7,8 +7,4 @@ use Rattle.crowding.proofs.row_over.Given as goal
 
 abbrev pub invariant-loop-m : goal.invariant-loop-m
 invariant-loop-m l =
-    (over_row l.room l.high l.unused l.lows l.falls ≡ any (over_at l.room l.high l.unused l.lows l.falls) (row l.m (l.falls - l.m))) ×
-    (l.m ≤ l.falls)
-
-abbrev pub decreases-loop-m : goal.decreases-loop-m
-decreases-loop-m l = l.falls - l.m
+    over_row l.room l.high l.unused l.lows l.falls ≡ any (over_at l.room l.high l.unused l.lows l.falls) (row l.m (l.falls - l.m))

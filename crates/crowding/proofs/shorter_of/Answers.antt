@@ -14,12 +14,8 @@ returns-then-b-eq0 c =
     let a = c.args in
     (sym (ap (shorter a.a) c.if-b-eq0.true ∙ shorter_zero a.a), omega arith)
 
-pub returns-then-a-b : goal.returns-then-a-b
-returns-then-a-b c =
+pub returns : goal.returns
+returns c =
     let a = c.args in
-    (omega (arith, shorter_min a.a a.b c.if-a-eq0.false c.if-b-eq0.false), omega arith)
-
-pub returns-else-a-b : goal.returns-else-a-b
-returns-else-a-b c =
-    let a = c.args in
-    (omega (arith, shorter_min a.a a.b c.if-a-eq0.false c.if-b-eq0.false), omega arith)
+    let e = shorter_min a.a a.b c.if-a-eq0.false c.if-b-eq0.false in
+    (omega arith, omega arith)

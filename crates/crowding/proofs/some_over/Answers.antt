@@ -18,7 +18,7 @@ rows rises highs unused lows falls l = over_row (rises - 1 - l) (get_or highs l 
 pub loop-l-init : goal.loop-l-init
 loop-l-init c =
     let a = c.args in
-    (any_start (rows a.rises a.highs a.unused a.lows a.falls) a.rises, omega arith)
+    any_start (rows a.rises a.highs a.unused a.lows a.falls) a.rises
 
 pub returns-then-row_over : goal.returns-then-row_over
 returns-then-row_over c =
@@ -26,7 +26,7 @@ returns-then-row_over c =
     let l = c.loop-l in
     let row_of : c.row_over.result ≡ rows a.rises a.highs a.unused a.lows a.falls l.l =
     c.row_over.ensures ∙ ap (λ (k : ℕ). over_row k (get_or a.highs l.l 0) a.unused a.lows a.falls) c.left.ensures.0 in
-    sym (l.invariant.0 ∙ any_here (rows a.rises a.highs a.unused a.lows a.falls) l.l a.rises (omega arith)
+    sym (l.invariant ∙ any_here (rows a.rises a.highs a.unused a.lows a.falls) l.l a.rises (omega arith)
     (sym row_of ∙ c.if-row_over.true))
 
 pub loop-l-preserved : goal.loop-l-preserved
@@ -34,14 +34,12 @@ loop-l-preserved c =
     let a = c.args in
     let l = c.loop-l in
     let row_of : c.row_over.result ≡ rows a.rises a.highs a.unused a.lows a.falls l.l =
-    c.row_over.ensures ∙ ap (λ (k : ℕ). over_row k (get_or a.highs l.l 0) a.unused a.lows a.falls) c.left.ensures.0 in (
-      l.invariant.0 ∙ any_later (rows a.rises a.highs a.unused a.lows a.falls) l.l a.rises (omega arith)
-          (sym row_of ∙ c.if-row_over.false),
-      omega arith,
-    )
+    c.row_over.ensures ∙ ap (λ (k : ℕ). over_row k (get_or a.highs l.l 0) a.unused a.lows a.falls) c.left.ensures.0 in
+    l.invariant ∙ any_later (rows a.rises a.highs a.unused a.lows a.falls) l.l a.rises (omega arith)
+    (sym row_of ∙ c.if-row_over.false)
 
 pub returns : goal.returns
 returns c =
     let a = c.args in
     let l = c.loop-l in
-    sym (l.invariant.0 ∙ any_none (rows a.rises a.highs a.unused a.lows a.falls) l.l a.rises (omega arith))
+    sym (l.invariant ∙ any_none (rows a.rises a.highs a.unused a.lows a.falls) l.l a.rises (omega arith))

@@ -1,5 +1,5 @@
--- The invariant and the measure of the loop of `crowding::some_over`.
-use Prim.Native.Nat.{◌-◌, ◌≤◌}
+-- The invariant of the loop of `crowding::some_over`.
+use Prim.Native.Nat.{◌-◌}
 use mathlib.Core.Path.{◌≡◌}
 use lib.ListN.{get_or}
 use Rattle.word.specs.Lists.{any, row}
@@ -8,8 +8,5 @@ use Rattle.crowding.proofs.some_over.Given as goal
 
 abbrev pub invariant-loop-l : goal.invariant-loop-l
 invariant-loop-l l =
-    (over_some l.unused l.highs l.rises l.lows l.falls ≡
-    any (λ k. over_row (l.rises - 1 - k) (get_or l.highs k 0) l.unused l.lows l.falls) (row l.l (l.rises - l.l))) × (l.l ≤ l.rises)
-
-abbrev pub decreases-loop-l : goal.decreases-loop-l
-decreases-loop-l l = l.rises - l.l
+    over_some l.unused l.highs l.rises l.lows l.falls ≡
+    any (λ k. over_row (l.rises - 1 - k) (get_or l.highs k 0) l.unused l.lows l.falls) (row l.l (l.rises - l.l))

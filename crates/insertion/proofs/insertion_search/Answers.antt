@@ -4,7 +4,8 @@ use mathlib.Core.Path.{◌≡◌}
 use borrow.Author.Rules.{rules}
 use native.Mathlib.Omega.{arith}
 use lib.ListN.{length}
-use Rattle.word.specs.Patterns.{patterns_of}
+use Rattle.std.specs.Prelude.{is_none}
+use Rattle.forms.specs.SetMemory.{held_in}
 use Rattle.insertion.specs.InsertionLaws.{puts_searches}
 use Rattle.insertion.proofs.insertion_search.Goals as goal
 
@@ -13,7 +14,7 @@ returns c =
     let a = c.args in
     let long : length a.word ≡ 20 = search rules in
     let answer = c.put_in.ensures in (
-      puts_searches (patterns_of a.set a.lengths a.count) a.span.n a.span.fixed a.word a.span.endless
+      puts_searches (held_in a.patterns.now) a.span.n a.span.fixed a.word (is_none a.span.budget)
           c.put_in.result (omega arith) answer,
       answer.ends,
     )

@@ -1,24 +1,19 @@
--- `lexicographic::listing::basis_in` meets its contract: the arrays hold the patterns.
+-- `lexicographic::listing::basis_in` meets its contract: the slice holds the patterns.
 -- Assumes nothing.
 use Prim.Native.Nat.{ℕ}
-use mathlib.Core.Path.{◌≡◌, subst}
+use mathlib.Core.Path.{◌≡◌, ap, subst, ◌∙◌}
 use mathlib.Core.List.{List}
 use lib.ListN.{length}
 use borrow.Author.Rules.{rules}
 use Rattle.word.specs.Ceilings.{PATTERNS}
+use Rattle.forms.specs.SetMemory.{held_in}
 use Rattle.basis.specs.BasisSet.{IsBasis}
-use Rattle.scheme.specs.SetLaws.{few, set_holds}
+use Rattle.scheme.specs.SetLaws.{slice_holds}
 use Rattle.lexicographic.proofs.listing.basis_in.Goals as goal
-
-pub basis_of-requires : goal.basis_of-requires
-basis_of-requires c = few c.args.patterns c.requires
 
 pub returns : goal.returns
 returns c =
     let a = c.args in
-    let rows = c.rows_of-rows in
-    let lengths = c.lengths_of-lengths in
-    let hr : length rows.result ≡ PATTERNS = (let o = rows.type_inv in search rules) in
-    let hl : length lengths.result ≡ PATTERNS = (let o = lengths.type_inv in search rules) in
+    let room : length a.patterns.items ≡ PATTERNS = (let g = c.well_formed in search rules) in
     subst (λ (P : List (List ℕ)). IsBasis P c.basis_of.result)
-    (set_holds a.patterns c.requires rows.result lengths.result hr hl rows.ensures lengths.ensures) c.basis_of.ensures
+    (ap held_in c.as_slice.ensures ∙ slice_holds a.patterns c.requires room) c.basis_of.ensures

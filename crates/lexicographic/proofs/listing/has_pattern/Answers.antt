@@ -1,4 +1,4 @@
--- `lexicographic::listing::has_pattern` meets its contract: the arrays hold the patterns.
+-- `lexicographic::listing::has_pattern` meets its contract: the slice holds the patterns.
 -- Assumes nothing.
 use mathlib.Core.Path.{◌≡◌, ap, ◌∙◌}
 use mathlib.Core.Bool.{not}
@@ -8,16 +8,14 @@ use lib.ListN.{length}
 use borrow.Author.Rules.{rules}
 use Rattle.word.specs.Ceilings.{PATTERNS}
 use Rattle.word.specs.Word.{avoids}
-use Rattle.scheme.specs.SetLaws.{set_holds}
+use Rattle.forms.specs.SetMemory.{held_in}
+use Rattle.scheme.specs.SetLaws.{slice_holds}
 use Rattle.lexicographic.proofs.listing.has_pattern.Goals as goal
 
 pub returns : goal.returns
 returns c =
     let a = c.args in
-    let rows = c.rows_of-rows in
-    let lengths = c.lengths_of-lengths in
-    let hr : length rows.result ≡ PATTERNS = (let o = rows.type_inv in search rules) in
-    let hl : length lengths.result ≡ PATTERNS = (let o = lengths.type_inv in search rules) in
+    let room : length a.patterns.items ≡ PATTERNS = (let g = c.well_formed in search rules) in
     c.any_in.ensures ∙
     ap (λ (P : List (List ℕ)). not (avoids P a.permutation.now))
-    (set_holds a.patterns c.requires rows.result lengths.result hr hl rows.ensures lengths.ensures)
+    (ap held_in c.as_slice.ensures ∙ slice_holds a.patterns c.requires room)

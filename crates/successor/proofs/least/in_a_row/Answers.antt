@@ -13,7 +13,7 @@ use Rattle.successor.specs.WordLaws.{row_more}
 use Rattle.successor.proofs.least.in_a_row.Goals as goal
 
 pub loop-i-init : goal.loop-i-init
-loop-i-init c = (refl, refl, omega arith)
+loop-i-init c = (refl, refl)
 
 pub loop-i-preserved : goal.loop-i-preserved
 loop-i-preserved c =
@@ -22,7 +22,6 @@ loop-i-preserved c =
       rw (add-one l.i) (take-suc-set l.word l.i (suc l.i) room ∙
           ap₂ (λ (t : List ℕ) (x : ℕ). t ++ (x ∷ [])) l.invariant.0 (omega arith) ∙ sym (row_more 1 l.i)),
       length-set l.word l.i (l.i + 1) ∙ l.invariant.1,
-      omega arith,
     )
 
 pub returns : goal.returns

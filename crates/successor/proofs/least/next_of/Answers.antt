@@ -2,74 +2,52 @@
 -- after the word.
 -- Assumes nothing.
 use Prim.Native.Nat.{ℕ, ◌+◌, ◌-◌}
-use mathlib.Core.Path.{◌≡◌, sym, subst, ◌∙◌}
-use mathlib.Core.List.{[], ◌∷◌, ◌++◌}
+use mathlib.Core.Path.{◌≡◌, sym, subst}
 use native.Mathlib.Omega.{arith}
 use lib.ListN.{length, take}
 use borrow.Author.Rules.{rules}
 use Rattle.word.specs.Ceilings.{WORD}
-use Rattle.word.specs.Patterns.{patterns_of}
+use Rattle.forms.specs.SetMemory.{held_in}
 use Rattle.successor.specs.StepLaws.{NoneAfter, after_whole}
-use Rattle.successor.specs.WordLaws.{given_some, given_none}
-use Rattle.successor.specs.FrontLaws.{next_less, next_found, next_end, completes_avoider}
+use Rattle.successor.specs.FrontLaws.{next_less, next_found, next_end}
 use Rattle.successor.proofs.least.next_of.Goals as goal
+use Rattle.successor.proofs.least.next_of.Goals.{After-raised}
+
+-- no avoider with a front longer by one place comes after the word
+longer : (c : After-raised) →
+    NoneAfter (held_in c.args.patterns.now) c.args.n (take c.args.n c.args.word) (take (c.loop-i.i - 1 + 1) c.args.word)
+longer c =
+    let a = c.args in
+    let i : c.loop-i.i ≡ c.loop-i.i - 1 + 1 = omega arith in
+    subst (λ (m : ℕ). NoneAfter (held_in a.patterns.now) a.n (take a.n a.word) (take m a.word)) i c.loop-i.invariant
 
 pub loop-i-init : goal.loop-i-init
 loop-i-init c =
     let a = c.args in
-    (after_whole (patterns_of a.set a.lengths a.count) a.n (take a.n a.word) c.requires.1.size, omega arith)
+    after_whole (held_in a.patterns.now) a.n (take a.n a.word) c.requires.1.size
 
-pub raised-larger-requires : goal.raised-larger-requires
-raised-larger-requires c = (omega (arith, c.loop-i.invariant.1), c.requires.0, c.requires.1)
-
-pub least_from-best-requires : goal.least_from-best-requires
-least_from-best-requires c =
+pub returns-in-Some : goal.returns-in-Some
+returns-in-Some c =
     let a = c.args in
     let l = c.loop-i in
-    let v = c.raised-larger.ensures.yes c.if-larger.true in
-    let whole = completes_avoider (patterns_of a.set a.lengths a.count) a.n (take (l.i - 1) a.word ++ (v.value ∷ []))
-    (take a.n c.raised-larger.result.word) v.completes in
-    (omega (arith, l.invariant.1), c.requires.0, whole)
-
-pub returns-then-larger : goal.returns-then-larger
-returns-then-larger c =
-    let all-places : length c.args.word ≡ WORD =
-    search rules in
-    let a = c.args in
-    let l = c.loop-i in
-    let long = all-places in
-    let P = patterns_of a.set a.lengths a.count in
-    let i : l.i ≡ (l.i - 1) + 1 = omega arith in
-    given_some a.n c.found_as.result c.least_from-best.result c.found_as.ensures.0 c.found_as.ensures.2 ∙
-    sym (next_found P a.n (l.i - 1) a.word (omega (arith, l.invariant.1)) (omega (arith, long, c.requires.0))
-    c.raised-larger.result.word (take a.n c.least_from-best.result)
-    (subst (λ (m : ℕ). NoneAfter P a.n (take a.n a.word) (take m a.word)) i l.invariant.0)
-    (c.raised-larger.ensures.yes c.if-larger.true) c.least_from-best.ensures)
+    let long : length a.word ≡ WORD = search rules in
+    sym (next_found (held_in a.patterns.now) a.n (l.i - 1) a.word (omega arith) (omega (arith, long, c.requires.0))
+    c.in-Some.larger (take a.n c.least_from-best.result) (longer (goal.at.returns-in-Some c).After-raised)
+    (c.raised.ensures.yes c.in-Some.larger c.in-Some.is) c.least_from-best.ensures)
 
 pub loop-i-preserved : goal.loop-i-preserved
 loop-i-preserved c =
-    let all-places : length c.args.word ≡ WORD =
-    search rules in
     let a = c.args in
     let l = c.loop-i in
-    let long = all-places in
-    let P = patterns_of a.set a.lengths a.count in
-    let i : l.i ≡ (l.i - 1) + 1 = omega arith in (
-      next_less P a.n (l.i - 1) a.word (omega (arith, l.invariant.1)) (omega (arith, long, c.requires.0))
-          (subst (λ (m : ℕ). NoneAfter P a.n (take a.n a.word) (take m a.word)) i l.invariant.0)
-          (c.raised-larger.ensures.no c.if-larger.false),
-      omega (arith, l.invariant.1),
-    )
+    let long : length a.word ≡ WORD = search rules in
+    next_less (held_in a.patterns.now) a.n (l.i - 1) a.word (omega arith) (omega (arith, long, c.requires.0))
+    (longer (goal.at.loop-i-preserved c).After-raised) (c.raised.ensures.no c.in_default.is)
 
 pub returns : goal.returns
 returns c =
-    let all-places : length c.args.word ≡ WORD =
-    search rules in
     let a = c.args in
     let l = c.loop-i in
-    let long = all-places in
-    let P = patterns_of a.set a.lengths a.count in
+    let long : length a.word ≡ WORD = search rules in
     let none_left : l.i ≡ 0 = omega arith in
-    given_none a.n c.found_none.result c.found_none.ensures.0 ∙
-    sym (next_end P a.n a.word (omega (arith, long, c.requires.0))
-    (subst (λ (m : ℕ). NoneAfter P a.n (take a.n a.word) (take m a.word)) none_left l.invariant.0))
+    sym (next_end (held_in a.patterns.now) a.n a.word (omega (arith, long, c.requires.0))
+    (subst (λ (m : ℕ). NoneAfter (held_in a.patterns.now) a.n (take a.n a.word) (take m a.word)) none_left l.invariant))

@@ -2,27 +2,15 @@
 -- if the entries from the place i on have it.
 -- Assumes nothing.
 use Prim.Native.Nat.{ℕ, ◌≤◌}
-use mathlib.Core.Path.{◌≡◌, refl, ap, ◌∙◌}
+use mathlib.Core.Path.{◌≡◌, ap, ◌∙◌}
 use native.Mathlib.Omega.{arith}
 use lib.ListN.{length, take, drop}
 use borrow.Author.Rules.{rules}
+use Rattle.std.proofs.lemmas.Option.{none-some}
 use Rattle.word.specs.Ceilings.{WORD}
 use Rattle.word.specs.Word.{has}
 use Rattle.successor.specs.WordLaws.{has_later, has_end}
 use Rattle.successor.proofs.values.place_of.Goals as goal
-
-pub loop-j-init : goal.loop-j-init
-loop-j-init c = (omega arith, omega arith, refl)
-
-pub returns-then-word-j : goal.returns-then-word-j
-returns-then-word-j c =
-    let l = c.loop-j in
-    record {
-      from = l.invariant.0;
-      to = l.invariant.1;
-      there = λ h. c.if-word-j.true;
-      nowhere = λ e. absurd (omega (arith, e));
-    }
 
 pub loop-j-preserved : goal.loop-j-preserved
 loop-j-preserved c =
@@ -30,7 +18,7 @@ loop-j-preserved c =
     let l = c.loop-j in
     let long : length a.word ≡ WORD = search rules in
     let room : a.n ≤ length a.word = omega (arith, long) in
-    (omega arith, omega arith, l.invariant.2 ∙ has_later a.word a.n l.j a.value (omega arith) room c.if-word-j.false)
+    l.invariant ∙ has_later a.word a.n l.j a.value (omega arith) room c.if-word-j.false
 
 pub returns : goal.returns
 returns c =
@@ -40,9 +28,9 @@ returns c =
     let room : a.n ≤ length a.word = omega (arith, long) in
     let whole : l.j ≡ a.n = omega arith in
     record {
-      from = omega arith;
-      to = omega arith;
-      there = λ h. absurd (omega (arith, h));
-      nowhere = λ e. l.invariant.2 ∙ ap (λ (m : ℕ). has a.value (drop m (take a.n a.word))) whole ∙
+      from = λ j e. absurd (none-some j e);
+      to = λ j e. absurd (none-some j e);
+      there = λ j e. absurd (none-some j e);
+      nowhere = λ e. l.invariant ∙ ap (λ (m : ℕ). has a.value (drop m (take a.n a.word))) whole ∙
           has_end a.word a.n a.value room;
     }
