@@ -7,7 +7,6 @@ use mathlib.Core.List.Memᴰ
 use mathlib.Core.List.{List, [], ◌∷◌, map, Memᴰ}
 use native.Mathlib.Omega.{arith}
 use lib.ListN.{length, take, drop}
-use lib.Seq.{length-take-le, take-take}
 use borrow.Author.Tests.{lt-ltb, le-ltb}
 use Rattle.word.specs.Word.{under, has, entry}
 use Rattle.word.specs.PermLaws.{perm_bounds}
@@ -50,13 +49,9 @@ hit_placed p R g β levels gone need r h =
     flag : (a : ℕ) → Memᴰ a p → a < 9
     flag a m = let (low, high) = perm_bounds p r.perm m in omega (arith, r.short)
 
--- the same with the pattern cut out of its row
-pub hit_row : (p R g row : List ℕ) (len t : ℕ) (levels gone need : List ℕ) → len ≤ length row →
-    Ready p R g (take len row) levels gone need → total g ≡ t →
-    t < len → hit p R g (take len row) ≡ place (entry_of need) (entry_of levels) (flagged gone) false [] [] (take (len - t) row) p
-hit_row p R g row len t levels gone need l r e h =
-    let long : length (take len row) ≡ len = length-take-le len row l in
-    hit_placed p R g (take len row) levels gone need r (omega arith) ∙
-    ap (λ (w : List ℕ). place (entry_of need) (entry_of levels) (flagged gone) false [] [] w p)
-    (ap (λ (n : ℕ). take n (take len row)) ((ap (λ (n : ℕ). n - total g) long) ∙ ap (λ (n : ℕ). len - n) e) ∙
-    take-take (len - t) len row (omega arith))
+-- the same with a total that is known
+pub hit_of : (p R g β : List ℕ) (t : ℕ) (levels gone need : List ℕ) → Ready p R g β levels gone need → total g ≡ t →
+    t < length β → hit p R g β ≡ place (entry_of need) (entry_of levels) (flagged gone) false [] [] (take (length β - t) β) p
+hit_of p R g β t levels gone need r e h =
+    hit_placed p R g β levels gone need r (omega arith) ∙
+    ap (λ (n : ℕ). place (entry_of need) (entry_of levels) (flagged gone) false [] [] (take (length β - n) β) p) e

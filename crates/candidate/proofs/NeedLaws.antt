@@ -1,29 +1,27 @@
 -- Laws of the needed levels of a set, stored one byte after the other: one byte more, and all.
 -- Assumes nothing.
-use Prim.Native.Nat.{ℕ, ◌+◌, ◌*◌, ◌-◌, ◌/◌, ◌%◌, ◌≤◌, ◌<◌}
+use Prim.Native.Nat.{ℕ, ◌+◌, ◌*◌, ◌/◌, ◌%◌, ◌≤◌, ◌<◌}
 use native.Mathlib.Omega.{arith}
-use mathlib.Core.Path.{◌≡◌, ap, ◌∙◌}
+use mathlib.Core.Path.{◌≡◌, ◌∙◌}
 use mathlib.Core.Logic.{◌⊎◌, inl, inr}
-use mathlib.Core.List.{List}
-use lib.ListN.{length, get_or, take, drop, set}
+use mathlib.Core.List.{List, []}
+use lib.ListN.{length, get_or, drop, set}
 use lib.Seq.{get_or-take, get_or-drop, get_or-set_same, get_or-set_other}
 use Rattle.word.specs.Ceilings.{DIGITS}
 use Rattle.word.specs.Word.{under}
 use Rattle.word.specs.ListLaws.{same_or_not}
 use Rattle.cell.specs.Candidate.{head_length}
 use Rattle.placing.specs.Lookup.{VALUES, NEEDS}
-use Rattle.forms.specs.SetMemory.{pattern_at}
 use Rattle.candidate.specs.Ready.{Needs, AllNeeds}
-use Rattle.basis.proofs.BasisWalk.{take_again}
 
 -- y is the level that x needs as a head entry of the pattern, where its last t entries are the rest
 abbrev pub NeedIs : List ℕ → ℕ → ℕ → ℕ → Type 0
 NeedIs β t x y = t ≤ length β → y ≡ under (drop (head_length β t) β) x
 
-module _ (rows : List (List ℕ)) (lengths : List ℕ) where
+module _ (P : List (List ℕ)) where
   -- the byte at place a
   abbrev pub ByteIs : ℕ → ℕ → Type 0
-  ByteIs a y = NeedIs (pattern_at rows lengths (a / 72)) (a / 9 % 8) (a % 9) y
+  ByteIs a y = NeedIs (get_or P (a / 72) []) (a / 9 % 8) (a % 9) y
 
   -- the bytes before place n are those needed
   abbrev pub Filled : ℕ → List ℕ → Type 0
@@ -36,24 +34,16 @@ module _ (rows : List (List ℕ)) (lengths : List ℕ) where
       go (inl e) = rw (e, get_or-set_same needs n y 0 room) new
       go (inr e) = rw (get_or-set_other needs n a y 0 e) (F a (omega arith))
 
-  pub all_filled : (count n : ℕ) (needs : List ℕ) → length needs ≡ NEEDS → count * 72 ≤ n → Filled n needs →
-      AllNeeds rows lengths count needs
-  all_filled count n needs size enough F = record { sized = size; said = λ t low i h long v b. said t low i h long v b }
+  pub all_filled : (n : ℕ) (needs : List ℕ) → length needs ≡ NEEDS → length P * 72 ≤ n → Filled n needs →
+      AllNeeds P needs
+  all_filled n needs size enough F = record { sized = size; said = λ t low i h long v b. said t low i h long v b }
     where
-      said : (t : ℕ) → t < DIGITS → Needs rows lengths count t needs
+      said : (t : ℕ) → t < DIGITS → Needs P t needs
       said t low i h long v b =
           let a = (i * DIGITS + t) * VALUES + v in
           let inside : a < n = omega arith in
           let pattern : a / 72 ≡ i = omega arith in
           let whole : a / 9 % 8 ≡ t = omega arith in
           let value : a % 9 ≡ v = omega arith in
-          let here : NeedIs (pattern_at rows lengths i) t v (get_or needs a 0) = rw (pattern, whole, value) at (F a inside) in
+          let here : NeedIs (get_or P i []) t v (get_or needs a 0) = rw (pattern, whole, value) at (F a inside) in
           get_or-take VALUES (drop ((i * DIGITS + t) * VALUES) needs) v 0 b ∙ get_or-drop ((i * DIGITS + t) * VALUES) needs v 0 ∙ here long
-
--- the level that is needed of a pattern that is cut at its own length
-pub need_cut : (cut : List ℕ) (n len t x y : ℕ) → len ≡ length (take n cut) →
-    (t ≤ len → y ≡ under (drop (len - t) (take len cut)) x) → NeedIs (take n cut) t x y
-need_cut cut n len t x y e f h =
-    f (omega arith) ∙
-    ap (λ (w : List ℕ). under (drop (len - t) w) x) (ap (λ (m : ℕ). take m cut) e ∙ take_again n cut) ∙
-    ap (λ (m : ℕ). under (drop (m - t) (take n cut)) x) e

@@ -1,12 +1,13 @@
 // The levels that the head entries of the patterns of a set need, for every total: worked out once
 // for a set, and looked up in the search.
-ghost use Rattle.std.specs.Prelude.{◌≡◌, ◌-◌, ◌≤◌, ◌<◌, length, take, drop};
+ghost use Rattle.std.specs.Prelude.{◌≡◌, ◌-◌, ◌≤◌, ◌<◌, length, drop};
 ghost use Rattle.word.specs.Ceilings.{DIGITS, PATTERNS};
 ghost use Rattle.word.specs.Word.{under};
 ghost use Rattle.placing.specs.Lookup.{NEEDS, need_at};
+ghost use Rattle.forms.specs.SetMemory.{held_in};
 ghost use Rattle.candidate.specs.Ready.{AllNeeds};
 
-use basis::digits;
+use forms::memory::Pattern;
 use placing::tables::{VALUES, at_most};
 use word::limits::{DIGITS, PATTERNS};
 
@@ -15,36 +16,28 @@ pub const NEEDS: usize = PATTERNS * DIGITS * VALUES;
 
 // The level that a head entry x of a pattern needs: how many of the pattern's last t entries are at
 // most as large. For a shorter pattern anything.
-fn level_needed(row: [u8; DIGITS], len: usize, t: usize, x: u8) -> u8
-    requires { len ≤ DIGITS }
-    ensures { t ≤ len → result ≡ under (drop (len - t) (take len row)) x }
+fn level_needed(pattern: &[u8], t: usize, x: u8) -> u8
+    requires { length pattern.now ≤ DIGITS }
+    ensures { t ≤ length pattern.now → result ≡ under (drop (length pattern.now - t) pattern.now) x }
 {
-    if len < t {
+    if pattern.len() < t {
         return 0;
     }
-    at_most(row, len - t, len, x)
+    at_most(&pattern[pattern.len() - t..], x)
 }
 
 // The level that each head entry of each pattern needs, for every total: the patterns in their
 // order, for each the totals, for each the values.
-pub fn all_needs(
-    set: [[u8; DIGITS]; PATTERNS],
-    lengths: [u8; PATTERNS],
-    count: usize,
-) -> [u8; NEEDS]
-    requires { count ≤ PATTERNS }
-    ensures { AllNeeds set lengths count result }
+pub fn all_needs(patterns: &[Pattern]) -> [u8; NEEDS]
+    requires { length patterns.now ≤ PATTERNS }
+    ensures { AllNeeds (held_in patterns.now) result }
 {
-    let end = count * (DIGITS * VALUES);
     let mut needs = [0u8; NEEDS];
-    let mut at: usize = 0;
-    while at < end {
+    for at in 0..patterns.len() * (DIGITS * VALUES) {
         let i = at / (DIGITS * VALUES);
         let t = at / VALUES % DIGITS;
         let x = (at % VALUES) as u8;
-        let len = digits(set[i], lengths[i] as usize);
-        needs[at] = level_needed(set[i], len, t, x);
-        at += 1;
+        needs[at] = level_needed(patterns[i].as_slice(), t, x);
     }
     needs
 }
@@ -56,10 +49,6 @@ pub fn need_at(needs: &[u8], t: usize, i: usize) -> [u8; VALUES]
 {
     let from = (i * DIGITS + t) * VALUES;
     let mut need = [0u8; VALUES];
-    let mut v: usize = 0;
-    while v < VALUES {
-        need[v] = needs[from + v];
-        v += 1;
-    }
+    need.copy_from_slice(&needs[from..from + VALUES]);
     need
 }

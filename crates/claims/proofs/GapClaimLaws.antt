@@ -14,7 +14,6 @@ use Rattle.word.specs.Lists.{any, keep, each, row}
 use Rattle.word.specs.Word.{is_perm}
 use Rattle.word.specs.ListLaws.{and_left, and_right, any_out, map_same}
 use Rattle.word.specs.PermLaws.{perm_bounds}
-use Rattle.word.specs.Patterns.{patterns_of}
 use Rattle.cell.specs.Cell.{total, cell, at_least, vectors}
 use Rattle.cell.specs.Built.{level, val}
 use Rattle.cell.proofs.BuiltWords.{level_at_most}
@@ -122,8 +121,8 @@ module _ (P : List (List ℕ)) (p b : List ℕ) where
       shown_empty g perm q
 
 -- the test of a vector against the first k + 1 components of an array
-abbrev pub shows : List (List ℕ) → List ℕ → ℕ → List ℕ → ℕ → List ℕ → List ℕ → Bool
-shows set lengths count prefix k parts = shows_empty (patterns_of set lengths count) (take k prefix) (take (k + 1) parts)
+abbrev pub shows : List (List ℕ) → List ℕ → ℕ → List ℕ → List ℕ → Bool
+shows P prefix k parts = shows_empty P (take k prefix) (take (k + 1) parts)
 
 -- whether the cell at a vector is not empty
 abbrev pub live_at : List (List ℕ) → List ℕ → List ℕ → Bool

@@ -5,12 +5,15 @@ use Prim.Native.Nat.{ℕ, ◌+◌, ◌≤◌, ◌<◌}
 use native.Mathlib.Omega.{arith}
 use mathlib.Core.Path.{◌≡◌, sym, ap, ap₂, ◌∙◌}
 use mathlib.Core.Bool.{true, false}
-use mathlib.Core.List.{List, Memᴰ}
+use mathlib.Core.List.{List, [], Memᴰ}
+use Rattle.std.specs.Prelude.{Option, Some, None, is_some}
+use Rattle.placing.specs.declared.tables.Word.{Word}
+use Rattle.word.specs.ListLaws.{get_or_mem}
 use mathlib.Core.Logic.{◌↔◌}
 use mathlib.Core.Option.{none}
-use lib.ListN.{length, take}
+use lib.ListN.{length, take, get_or}
 use lib.Seq.{length-take-le}
-use Rattle.word.specs.Ceilings.{DIGITS, PATTERNS, PREFIX, PARTS}
+use Rattle.word.specs.Ceilings.{DIGITS, PREFIX, PARTS}
 use Rattle.word.specs.Lists.{all}
 use Rattle.word.specs.Word.{within, longest, is_perm}
 use Rattle.cell.specs.Cell.{total, compared_to}
@@ -18,14 +21,11 @@ use Rattle.cell.specs.Candidate.{violated_first, lost_words, least_of, least_can
 use Rattle.cell.specs.Claim.{DeletionClaim}
 use Rattle.cell.proofs.BasisLaws.{longest_basis}
 use Rattle.forms.specs.GapRows.{gaps_of}
-use Rattle.forms.specs.SetMemory.{pattern_at}
 use Rattle.candidate.specs.Ready.{Given, FoundAt, EntryAnswer}
 use Rattle.lost_word.specs.Shown.{ShowsWord}
 use Rattle.candidate.specs.declared.search.Lost.{Lost}
-use Rattle.lost_word.specs.declared.least.LostWord.{LostWord}
 use Rattle.candidate.proofs.CandidateWalk.{located_total}
 use Rattle.lost_word.proofs.LeastWalk.{candidate_none, candidate_some, candidate_found, shows_found}
-use Rattle.basis.specs.BasisMemory.{pattern_member}
 use Rattle.forms.specs.SchemeList.{deletes}
 use Rattle.scheme.specs.WellFormed.{outside}
 use Rattle.forms.specs.SchemeMemory.{six_of, positions_in, does_of, entry_in}
@@ -44,13 +44,12 @@ use Rattle.scheme.specs.EntryMemoryLaws.{entry_short, gaps_hold, prefix_is, pref
 use Rattle.claims.specs.ComparedLaws.{compared_small}
 
 -- an expanding entry
-pub expands_answer : (m : ℕ) (P : List (List ℕ)) (e : Entry) (w : LostWord) → e.rule ≡ Expand → w.found ≡ false →
-    LostAnswer m P (entry_in e) w
+pub expands_answer : (m : ℕ) (P : List (List ℕ)) (e : Entry) → e.rule ≡ Expand → LostAnswer m P (entry_in e) None
 unfolding differs_under rule_candidate
-expands_answer m P e w q f =
+expands_answer m P e q =
     record {
-      said = f ∙ sym (ap (λ (x : Rule). differs_under m P (entry_in e).prefix (entry_in e).gaps (does_of x)) q);
-      shows = rw q f;
+      said = sym (ap (λ (x : Rule). differs_under m P (entry_in e).prefix (entry_in e).gaps (does_of x)) q);
+      shows = rw q tt;
     }
 
 module _ (e : Entry) (proper : ProperEntry (entry_in e)) (six : length e.prefix ≡ PREFIX) (d : Positions) (rule : DeletesAt e d) where
@@ -66,7 +65,7 @@ module _ (e : Entry) (proper : ProperEntry (entry_in e)) (six : length e.prefix 
         positions_few (length (entry_in e).prefix) (positions_in d) deletes_inside,
         length_padded d.count (six_of d),
       ) in
-      (few, padded_within d.count (six_of d) few)
+      (few, padded_within d.count (six_of d) (omega (arith, few, length_padded PREFIX d.positions)))
 
   pub set_inside : all (within (length (take e.length e.prefix))) (positions_in d) ≡ true
   set_inside =
@@ -74,29 +73,26 @@ module _ (e : Entry) (proper : ProperEntry (entry_in e)) (six : length e.prefix 
       positions_inside (length (entry_in e).prefix) (positions_in d) deletes_inside
 
   -- what the search is given
-  pub given : (set : List (List ℕ)) (lengths : List ℕ) (count : ℕ) → length set ≡ PATTERNS → length lengths ≡
-      PATTERNS → ProperSet set lengths count →
-      Given set lengths count (take e.length e.prefix) (positions_in d)
-  given set lengths count hs hl q =
+  pub given : (P : List (List ℕ)) → ProperSet P → Given P (take e.length e.prefix) (positions_in d)
+  given P q =
       record {
         few = q.few;
-        patterns = λ (i : ℕ) (h : i < count). q.perms (pattern_at set lengths i)
-            (pattern_member set lengths count i h (omega (arith, q.few)) (omega (arith, q.few)));
+        patterns = λ (i : ℕ) (h : i < length P). q.perms (get_or P i []) (get_or_mem P i [] h);
         perm = prefix_perm e proper six;
         short = omega (arith, entry_short e proper, length-take-le e.length e.prefix (omega (arith, entry_short e proper)));
         inside = set_inside;
       }
 
-  module _ (m : ℕ) (P : List (List ℕ)) (lost : Lost) (all : length e.gaps ≡ PARTS)
+  module _ (m : ℕ) (P : List (List ℕ)) (lost : Option Lost) (all : length e.gaps ≡ PARTS)
       (a : EntryAnswer m P (take e.length e.prefix) (gaps_of e.gaps (e.length + 1) e.gap_count) (positions_in d) lost) where
     -- what the search answers is test 11 on the entry
     answers : longest P ≤ m → ((β : List ℕ) → Memᴰ β P → is_perm β ≡ true) →
-        lost.found ≡ differs_under m P (entry_in e).prefix (entry_in e).gaps (entry_in e).rule
+        is_some lost ≡ differs_under m P (entry_in e).prefix (entry_in e).gaps (entry_in e).rule
     answers reach perms =
         let low = longest_basis P in
-        let claimed : (lost.found ≡ false) ↔ DeletionClaim P (entry_in e).prefix (entry_in e).gaps (positions_in d) =
+        let claimed : (is_some lost ≡ false) ↔ DeletionClaim P (entry_in e).prefix (entry_in e).gaps (positions_in d) =
         rw (prefix_is e proper six, ← gaps_hold e proper all) (a.claimed reach) in
-        same_failure lost.found (differs_under m P (entry_in e).prefix (entry_in e).gaps (deletes (positions_in d))) claimed
+        same_failure (is_some lost) (differs_under m P (entry_in e).prefix (entry_in e).gaps (deletes (positions_in d))) claimed
         (differs_law m P (omega arith) perms (entry_in e).prefix (entry_in e).gaps (deletes (positions_in d)) proper.perm
         deletes_inside) ∙
         ap (λ (x : Rule). differs_under m P (entry_in e).prefix (entry_in e).gaps (does_of x)) (sym rule)
@@ -117,38 +113,40 @@ module _ (e : Entry) (proper : ProperEntry (entry_in e)) (six : length e.prefix 
         ap₂ (λ (u : List ℕ) (B : List (List ℕ)). least_candidate m P u B (positions_in d)) (prefix_is e proper six)
         (sym (gaps_hold e proper all))
 
+  -- where nothing is found
+  pub answers_none : (m : ℕ) (P : List (List ℕ)) (all : length e.gaps ≡ PARTS) →
+      EntryAnswer m P (take e.length e.prefix) (gaps_of e.gaps (e.length + 1) e.gap_count) (positions_in d) None →
+      longest P ≤ m → ((β : List ℕ) → Memᴰ β P → is_perm β ≡ true) → LostAnswer m P (entry_in e) None
+  answers_none m P all a reach perms =
+      record {
+        said = answers m P None all a reach perms;
+        shows =
+            rw (rule_is m P None all a ∙ candidate_none m P (take e.length e.prefix)
+            (gaps_of e.gaps (e.length + 1) e.gap_count) (positions_in d) e.length (at m P None all a)) tt;
+      }
+
+  module _ (m : ℕ) (P : List (List ℕ)) (l : Lost) (all : length e.gaps ≡ PARTS)
+      (a : EntryAnswer m P (take e.length e.prefix) (gaps_of e.gaps (e.length + 1) e.gap_count) (positions_in d) (Some l)) where
     -- the total of the spacing that was found
-    pub found_total : lost.found ≡ true → m ≤ DIGITS →
-        (lost.total < DIGITS) × (total (take (e.length + 1) lost.spacing) ≡ lost.total)
-    found_total h most =
+    pub found_total : m ≤ DIGITS → (l.total < DIGITS) × (total (take (e.length + 1) l.spacing) ≡ l.total)
+    found_total most =
         let (low, whole) = located_total m P (take e.length e.prefix) (gaps_of e.gaps (e.length + 1) e.gap_count)
-        (positions_in d) e.length lost at h in
+        (positions_in d) e.length l (at m P (Some l) all a) in
         (omega arith, whole)
 
-    pub answers_none : longest P ≤ m → ((β : List ℕ) → Memᴰ β P → is_perm β ≡ true) → (w : LostWord) →
-        lost.found ≡ false → w.found ≡ false → LostAnswer m P (entry_in e) w
-    answers_none reach perms w h f =
-        record {
-          said = f ∙ sym h ∙ answers reach perms;
-          shows =
-              rw (rule_is ∙ candidate_none m P (take e.length e.prefix)
-              (gaps_of e.gaps (e.length + 1) e.gap_count) (positions_in d) e.length lost at h) f;
-        }
-
-    pub answers_some : longest P ≤ m → ((β : List ℕ) → Memᴰ β P → is_perm β ≡ true) → (w : LostWord) → lost.found ≡ true →
-        ShowsWord (least_of none (lost_words P (take e.length e.prefix) (positions_in d) (take (e.length + 1) lost.spacing))) w →
+    pub answers_some : longest P ≤ m → ((β : List ℕ) → Memᴰ β P → is_perm β ≡ true) → (w : Option Word) →
+        ShowsWord (least_of none (lost_words P (take e.length e.prefix) (positions_in d) (take (e.length + 1) l.spacing))) w →
         LostAnswer m P (entry_in e) w
-    answers_some reach perms w h s =
+    answers_some reach perms w s =
         record {
           said =
               shows_found (least_of none (lost_words P (take e.length e.prefix) (positions_in d)
-              (take (e.length + 1) lost.spacing))) w s ∙
+              (take (e.length + 1) l.spacing))) w s ∙
               candidate_found m P (take e.length e.prefix) (gaps_of e.gaps (e.length + 1) e.gap_count)
-              (positions_in d) e.length lost at h ∙
-              sym h ∙ answers reach perms;
+              (positions_in d) e.length l (at m P (Some l) all a) ∙ answers m P (Some l) all a reach perms;
           shows =
-              rw (rule_is ∙ candidate_some m P (take e.length e.prefix)
-              (gaps_of e.gaps (e.length + 1) e.gap_count) (positions_in d) e.length lost at h) s;
+              rw (rule_is m P (Some l) all a ∙ candidate_some m P (take e.length e.prefix)
+              (gaps_of e.gaps (e.length + 1) e.gap_count) (positions_in d) e.length l (at m P (Some l) all a)) s;
         }
 
 -- the number of compared cells

@@ -2,18 +2,17 @@
 ghost use Rattle.std.specs.Prelude.{◌≡◌, true, not, suc, ◌+◌, ◌≤◌, ◌<◌, length, take, leb};
 ghost use Rattle.word.specs.Ceilings.{PREFIX, COMPONENTS, TOTAL};
 ghost use Rattle.word.specs.Word.{is_perm};
-ghost use Rattle.word.specs.Patterns.{patterns_of};
 ghost use Rattle.cell.specs.Cell.{total, cell};
+ghost use Rattle.forms.specs.SetMemory.{held_in};
 ghost use Rattle.forms.specs.SchemeMemory.{gap_in};
 ghost use Rattle.verdict.specs.Verdict.{is_empty};
 ghost use Rattle.claims.specs.EmptyBelow.{shows_empty, empty_at, empty_below};
 
 use completion::completable;
-use forms::memory::Gap;
+use forms::memory::{Gap, Pattern};
 use placing::tables::{kept, levels_of};
 use spacing::{at_least, first_spacing, next_spacing};
-use word::bytes::wide;
-use word::limits::{COMPONENTS, DIGITS, PATTERNS, PREFIX, TOTAL};
+use word::limits::{COMPONENTS, DIGITS, PREFIX, TOTAL};
 
 // A flag for each value from 0 to DIGITS.
 const FLAGS: usize = DIGITS + 1;
@@ -35,70 +34,52 @@ fn parts_of(b: Gap) -> [u8; COMPONENTS]
 
 // Whether the cell of the prefix at the gap vector is not empty. Smaller vectors are tried first:
 // by the gap law the cell is empty if one of theirs is, and that shows sooner.
-pub fn is_live(
-    set: [[u8; DIGITS]; PATTERNS],
-    lengths: [u8; PATTERNS],
-    count: usize,
-    prefix: [u8; PREFIX],
-    k: usize,
-    b: Gap,
-) -> bool
+pub fn is_live(patterns: &[Pattern], prefix: [u8; PREFIX], k: usize, b: Gap) -> bool
     requires { (k ≤ PREFIX) × (is_perm (take k prefix) ≡ true) × (b.width ≡ suc k) × (total (gap_in b) ≤ TOTAL) }
-    ensures { result ≡ not (is_empty (cell (patterns_of set lengths count) (take k prefix) (gap_in b))) }
+    ensures { result ≡ not (is_empty (cell (held_in patterns.now) (take k prefix) (gap_in b))) }
 {
     let parts = parts_of(b);
-    if has_empty_below(set, lengths, count, prefix, k, parts) {
+    if has_empty_below(patterns, prefix, k, parts) {
         return false;
     }
-    is_live_at(set, lengths, count, prefix, k, parts)
+    is_live_at(patterns, prefix, k, parts)
 }
 
 // Whether the cell at the spacing is not empty: whether its first entries can be completed to an
 // avoider.
-fn is_live_at(
-    set: [[u8; DIGITS]; PATTERNS],
-    lengths: [u8; PATTERNS],
-    count: usize,
-    prefix: [u8; PREFIX],
-    k: usize,
-    parts: [u8; COMPONENTS],
-) -> bool
+fn is_live_at(patterns: &[Pattern], prefix: [u8; PREFIX], k: usize, parts: [u8; COMPONENTS]) -> bool
     requires { (k ≤ PREFIX) × (is_perm (take k prefix) ≡ true) × (total (take (k + 1) parts) ≤ TOTAL) }
-    ensures { result ≡ not (is_empty (cell (patterns_of set lengths count) (take k prefix) (take (k + 1) parts))) }
+    ensures { result ≡ not (is_empty (cell (held_in patterns.now) (take k prefix) (take (k + 1) parts))) }
 {
-    let levels = levels_of(parts, k);
-    let w = kept(prefix, k, levels, [0u8; FLAGS]);
+    let levels = levels_of(&parts[..k + 1]);
+    let w = kept(&prefix[..k], levels, [0u8; FLAGS]);
     let entries = w.entries;
-    let n = k + wide(levels[k]) + wide(parts[k]);
-    completable(set, lengths, count, entries, k, n)
+    let n = k + usize::from(levels[k]) + usize::from(parts[k]);
+    completable(patterns, entries, k, n)
 }
 
 // Whether a vector of a smaller total that is at most this one has an empty cell: by rising total.
 fn has_empty_below(
-    set: [[u8; DIGITS]; PATTERNS],
-    lengths: [u8; PATTERNS],
-    count: usize,
+    patterns: &[Pattern],
     prefix: [u8; PREFIX],
     k: usize,
     parts: [u8; COMPONENTS],
 ) -> bool
     requires { (k ≤ PREFIX) × (is_perm (take k prefix) ≡ true) × (total (take (k + 1) parts) ≤ TOTAL) }
-    ensures { result ≡ empty_below (patterns_of set lengths count) (take k prefix) (take (k + 1) parts) k }
+    ensures { result ≡ empty_below (held_in patterns.now) (take k prefix) (take (k + 1) parts) k }
 {
     let at = PrefixGap {
-        prefix: prefix,
+        prefix,
         length: k,
-        parts: parts,
+        parts,
     };
-    let mut t: usize = 0;
-    while t < TOTAL {
+    for t in 0..TOTAL {
         if is_at_most(parts, k, t) {
             return false;
         }
-        if has_empty(set, lengths, count, at, t) {
+        if has_empty(patterns, at, t) {
             return true;
         }
-        t += 1;
     }
     false
 }
@@ -109,50 +90,35 @@ fn is_at_most(parts: [u8; COMPONENTS], k: usize, t: usize) -> bool
     ensures { result ≡ leb (total (take (k + 1) parts)) t }
 {
     let mut sum: usize = 0;
-    let mut i: usize = 0;
-    while i <= k {
-        sum += wide(parts[i]);
-        i += 1;
+    for i in 0..k + 1 {
+        sum += usize::from(parts[i]);
     }
     sum <= t
 }
 
 // Whether a vector of total t that is at most this one has an empty cell.
-fn has_empty(
-    set: [[u8; DIGITS]; PATTERNS],
-    lengths: [u8; PATTERNS],
-    count: usize,
-    at: PrefixGap,
-    t: usize,
-) -> bool
+fn has_empty(patterns: &[Pattern], at: PrefixGap, t: usize) -> bool
     requires { (at.length ≤ PREFIX) × (is_perm (take at.length at.prefix) ≡ true) × (t ≤ TOTAL) }
-    ensures { result ≡ empty_at (patterns_of set lengths count) (take at.length at.prefix)
+    ensures { result ≡ empty_at (held_in patterns.now) (take at.length at.prefix)
         (take (at.length + 1) at.parts) at.length t }
 {
     let k = at.length;
     let mut g = first_spacing(k, t as u8);
-    loop {
-        if is_empty_below(set, lengths, count, at, g) {
+    'spacings: loop {
+        if is_empty_below(patterns, at, g) {
             return true;
         }
-        let next = next_spacing(g, k);
-        if !next.found {
+        let Some(next) = next_spacing(g, k) else {
             return false;
-        }
-        g = next.g;
+        };
+        g = next;
     }
 }
 
 // Whether the vector g is at most this one and has an empty cell.
-fn is_empty_below(
-    set: [[u8; DIGITS]; PATTERNS],
-    lengths: [u8; PATTERNS],
-    count: usize,
-    at: PrefixGap,
-    g: [u8; COMPONENTS],
-) -> bool
+fn is_empty_below(patterns: &[Pattern], at: PrefixGap, g: [u8; COMPONENTS]) -> bool
     requires { (at.length ≤ PREFIX) × (is_perm (take at.length at.prefix) ≡ true) × (total (take (at.length + 1) g) ≤ TOTAL) }
-    ensures { result ≡ shows_empty (patterns_of set lengths count) (take at.length at.prefix)
+    ensures { result ≡ shows_empty (held_in patterns.now) (take at.length at.prefix)
         (take (at.length + 1) at.parts) (take (at.length + 1) g) }
 {
     let k = at.length;
@@ -161,5 +127,5 @@ fn is_empty_below(
         return false;
     }
     let prefix = at.prefix;
-    !is_live_at(set, lengths, count, prefix, k, g)
+    !is_live_at(patterns, prefix, k, g)
 }

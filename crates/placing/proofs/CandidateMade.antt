@@ -9,7 +9,7 @@ use mathlib.Core.Path.{◌≡◌, refl, sym, ap, ap₂, ◌∙◌}
 use mathlib.Core.Bool.{Bool, true, false, not, cond}
 use mathlib.Core.List.{List, [], ◌∷◌, ◌++◌, map, map-map, append-nil, Memᴰ}
 use lib.ListN.{length, get_or, take, drop, set, length-drop, take-append-drop}
-use lib.Seq.{take-suc-set, append_snoc, get_or-take, length-take-le}
+use lib.Seq.{take-suc-set, append_snoc}
 use borrow.Author.Tests.{eq-eqb, ne_eqb}
 use Rattle.word.specs.Lists.{all, keep}
 use Rattle.word.specs.Word.{under, reduce, has, entry, within, is_perm}
@@ -31,31 +31,31 @@ push e n y v u w h q k = rw (add-one n, take-suc-set e n y h, append_snoc (take 
 pub pushed : (e : List ℕ) (n : ℕ) (u w : List ℕ) → u ≡ [] → take n e ++ u ≡ w → take n e ≡ w
 pushed e n u w q k = sym (append-nil (take n e)) ∙ rw q at k
 
--- the kept values of the first k prefix values, from index i on
+-- the kept values of the prefix values from index i on
 
-module _ (levels gone prefix : List ℕ) (k i : ℕ) where
-  pub kept_here : i < k → k ≤ length prefix → entry_of gone (get_or prefix i 0) ≡ 0 →
-      kept_values levels gone (drop i (take k prefix))
-      ≡ min (get_or prefix i 0 + entry_of levels (get_or prefix i 0)) 255 ∷ kept_values levels gone (drop (i + 1) (take k prefix))
+module _ (levels gone p : List ℕ) (i : ℕ) where
+  pub kept_here : i < length p → entry_of gone (get_or p i 0) ≡ 0 →
+      kept_values levels gone (drop i p) ≡ min (get_or p i 0 + entry_of levels (get_or p i 0)) 255 ∷ kept_values levels gone
+      (drop (i + 1) p)
   unfolding kept_values
-  kept_here h room e = rw (part_cons prefix k i h room, eq-eqb (entry_of gone (get_or prefix i 0)) 0 e) refl
+  kept_here h e = rw (part_cons p i h, eq-eqb (entry_of gone (get_or p i 0)) 0 e) refl
 
-  pub kept_gone : i < k → k ≤ length prefix → (entry_of gone (get_or prefix i 0) ≡ 0 → ⊥) →
-      kept_values levels gone (drop i (take k prefix)) ≡ kept_values levels gone (drop (i + 1) (take k prefix))
+  pub kept_gone : i < length p → (entry_of gone (get_or p i 0) ≡ 0 → ⊥) →
+      kept_values levels gone (drop i p) ≡ kept_values levels gone (drop (i + 1) p)
   unfolding kept_values
-  kept_gone h room e = rw (part_cons prefix k i h room, ne_eqb (entry_of gone (get_or prefix i 0)) 0 e) refl
+  kept_gone h e = rw (part_cons p i h, ne_eqb (entry_of gone (get_or p i 0)) 0 e) refl
 
-  pub kept_end : k ≤ i → k ≤ length prefix → kept_values levels gone (drop i (take k prefix)) ≡ []
+  pub kept_end : length p ≤ i → kept_values levels gone (drop i p) ≡ []
   unfolding kept_values
-  kept_end h room = rw (part_end prefix k i h room) refl
+  kept_end h = rw (part_end p i h) refl
 
 -- the rest, from index j on, of which y is the first value
-pub rest_here : (f : ℕ → ℕ) (row : List ℕ) (to j y : ℕ) → j < to → to ≤ length row → y ≡ f (get_or row j 0) →
-    map f (drop j (take to row)) ≡ y ∷ map f (drop (j + 1) (take to row))
-rest_here f row to j y h room e = rw (part_cons row to j h room, e) refl
+pub rest_here : (f : ℕ → ℕ) (rest : List ℕ) (j y : ℕ) → j < length rest → y ≡ f (get_or rest j 0) →
+    map f (drop j rest) ≡ y ∷ map f (drop (j + 1) rest)
+rest_here f rest j y h e = rw (part_cons rest j h, e) refl
 
-pub rest_end : (f : ℕ → ℕ) (row : List ℕ) (to j : ℕ) → to ≤ j → to ≤ length row → map f (drop j (take to row)) ≡ []
-rest_end f row to j h room = rw (part_end row to j h room) refl
+pub rest_end : (f : ℕ → ℕ) (rest : List ℕ) (j : ℕ) → length rest ≤ j → map f (drop j rest) ≡ []
+rest_end f rest j h = rw (part_end rest j h) refl
 
 -- What is left without the positions R is what does not stand at them.
 
@@ -122,35 +122,30 @@ rest_are need u g says small =
 drop_mem : (n : ℕ) (l : List ℕ) {x : ℕ} → Memᴰ x (drop n l) → Memᴰ x l
 drop_mem n l {x} m = rw (take-append-drop n l) at (mathlib.Core.List.Memᴰ.append_right (take n l) m)
 
-module _ (prefix : List ℕ) (k : ℕ) (levels gone row : List ℕ) (len t : ℕ) (need p R g β : List ℕ)
-    (six : k ≤ 6) (short : t ≤ len) (eight : len ≤ 8) (long : k ≤ length prefix) (room : len ≤ length row)
-    (r : Tabled prefix k levels gone row len t need p R g β) where
+module _ (levels gone : List ℕ) (t : ℕ) (need p R g β : List ℕ)
+    (six : length p ≤ 6) (short : t ≤ length β) (eight : length β ≤ 8)
+    (r : Tabled levels gone t need p R g β) where
   -- the tables serve for the rest
-  pub ready_reached : Reached row (len - t) len need levels k g
+  pub ready_reached : Reached (drop (length β - t) β) need levels (length p) g
   ready_reached = record { size = omega (arith, r.size); says = r.says_levels; small = omega (arith, r.whole); reach = reach }
     where
       u : List ℕ
-      u = drop (len - t) β
+      u = drop (length β - t) β
 
       many : length u ≡ t
-      many = length-drop (len - t) β ∙ rw (r.pattern_is, length-take-le len row room) (omega arith)
+      many = length-drop (length β - t) β ∙ omega arith
 
-      reach : (j : ℕ) → len - t ≤ j → j < len → entry_of need (get_or row j 0) ≤ total g
-      reach j l h =
-          let there : j < length (take len row) = omega (arith, length-take-le len row room) in
-          let m : Memᴰ (get_or row j 0) β = rw (r.pattern_is, ← get_or-take len row j 0 h) (get_or_mem (take len row) j 0 there) in
-          let b = r.small (get_or row j 0) m in
-          omega (arith, r.says_need (get_or row j 0) (omega arith), under_at_most u (get_or row j 0), many, r.whole)
+      reach : (j : ℕ) → j < length u → entry_of need (get_or u j 0) ≤ total g
+      reach j h =
+          let b = r.small (get_or u j 0) (drop_mem (length β - t) β (get_or_mem u j 0 h)) in
+          omega (arith, r.says_need (get_or u j 0) (omega arith), under_at_most u (get_or u j 0), many, r.whole)
 
   -- the kept values with the rest behind them are the built word
-  pub ready_made : kept_values levels gone (take k prefix) ++ map (λ y. lift g (entry_of need y)) (drop (len - t) (take len row))
-      ≡ built (without R p) g (reduce (drop (len - t) β))
+  pub ready_made : kept_values levels gone p ++ map (λ y. lift g (entry_of need y)) (drop (length β - t) β)
+      ≡ built (without R p) g (reduce (drop (length β - t) β))
   unfolding built
   ready_made =
-      let size : length p ≡ k = ap length r.prefix_is ∙ length-take-le k prefix long in
-      rw (← r.prefix_is, ← r.pattern_is)
-      (ap₂ ◌++◌
-      (kept_are levels gone p R g r.perm (omega arith) (rw size r.inside) (omega (arith, r.whole))
-      (rw size r.says_levels) r.flags_gone)
-      (rest_are need (drop (len - t) β) g r.says_need
-      (λ (y : ℕ) (m : Memᴰ y (drop (len - t) β)). r.small y (drop_mem (len - t) β m))))
+      ap₂ ◌++◌
+      (kept_are levels gone p R g r.perm six r.inside (omega (arith, r.whole)) r.says_levels r.flags_gone)
+      (rest_are need (drop (length β - t) β) g r.says_need
+      (λ (y : ℕ) (m : Memᴰ y (drop (length β - t) β)). r.small y (drop_mem (length β - t) β m)))

@@ -23,32 +23,28 @@ use Rattle.cell.proofs.BuiltWords.{lift_low, lift_high}
 use Rattle.cell.proofs.WithoutLaws.{entry_mem}
 use Rattle.placing.specs.Lookup.{entry_of, flagged, Says}
 
--- the first n entries of a list, from index j on
+-- the entries of a list from index j on
 
-pub part_cons : (l : List ℕ) (n j : ℕ) → j < n → n ≤ length l → drop j (take n l) ≡ get_or l j 0 ∷ drop (j + 1) (take n l)
-part_cons l n j h k =
-    let fits : j < length (take n l) = omega (arith, length-take-le n l k) in
-    rw (add-one j, ← get_or-take n l j 0 h) (drop-cons (take n l) j 0 fits)
+pub part_cons : (l : List ℕ) (j : ℕ) → j < length l → drop j l ≡ get_or l j 0 ∷ drop (j + 1) l
+part_cons l j h = rw (add-one j) (drop-cons l j 0 h)
 
-pub part_end : (l : List ℕ) (n j : ℕ) → n ≤ j → n ≤ length l → drop j (take n l) ≡ []
-part_end l n j h k =
-    let past : length (take n l) ≤ j = omega (arith, length-take-le n l k) in
-    drop_of_length-le (take n l) past
+pub part_end : (l : List ℕ) (j : ℕ) → length l ≤ j → drop j l ≡ []
+part_end l j h = drop_of_length-le l h
 
 -- counting the entries that are at most x
 
-module _ (l : List ℕ) (n j x : ℕ) (h : j < n) (k : n ≤ length l) where
-  pub under_counted : get_or l j 0 ≤ x → under (drop j (take n l)) x ≡ suc (under (drop (j + 1) (take n l)) x)
+module _ (l : List ℕ) (j x : ℕ) (h : j < length l) where
+  pub under_counted : get_or l j 0 ≤ x → under (drop j l) x ≡ suc (under (drop (j + 1) l) x)
   unfolding under
-  under_counted e = rw (part_cons l n j h k, le-leb (get_or l j 0) x e) refl
+  under_counted e = rw (part_cons l j h, le-leb (get_or l j 0) x e) refl
 
-  pub under_passed : x < get_or l j 0 → under (drop j (take n l)) x ≡ under (drop (j + 1) (take n l)) x
+  pub under_passed : x < get_or l j 0 → under (drop j l) x ≡ under (drop (j + 1) l) x
   unfolding under
-  under_passed e = rw (part_cons l n j h k, lt-leb (get_or l j 0) x e) refl
+  under_passed e = rw (part_cons l j h, lt-leb (get_or l j 0) x e) refl
 
-pub under_end : (l : List ℕ) (n j x : ℕ) → n ≤ j → n ≤ length l → under (drop j (take n l)) x ≡ 0
+pub under_end : (l : List ℕ) (j x : ℕ) → length l ≤ j → under (drop j l) x ≡ 0
 unfolding under
-under_end l n j x h k = rw (part_end l n j h k) refl
+under_end l j x h = rw (part_end l j h) refl
 
 -- a table that says what f says of one value more
 pub says_more : (a : List ℕ) (n y : ℕ) (f : ℕ → ℕ) → n < length a → y ≡ f n → Says a n f → Says (set a n y) (n + 1) f
@@ -64,7 +60,7 @@ says_first a f e (suc v) h = absurd (omega arith)
 
 -- the level of the next value, and of the last
 
-level_next : (g : List ℕ) (v : ℕ) → v < length g → level g (suc v) ≡ level g v + get_or g v 0
+pub level_next : (g : List ℕ) (v : ℕ) → v < length g → level g (suc v) ≡ level g v + get_or g v 0
 unfolding level
 level_next [] v h = absurd (omega arith)
 level_next (x ∷ g) zero h = omega arith
@@ -103,47 +99,40 @@ flag_none n v b = rw (zeros n v) refl
     zeros (suc n) zero = refl
     zeros (suc n) (suc v) = zeros n v
 
--- the position at index j of the first n, and the value there
+-- the position at index j, and the value there
 
-module _ (prefix positions : List ℕ) (k n j : ℕ) (fits : k ≤ length prefix) (room : n ≤ length positions) (h : j < n)
-    (perm : is_perm (take k prefix) ≡ true) (inside : all (within k) (take n positions) ≡ true) where
-  pub position_bounds : (1 ≤ get_or positions j 0) × (get_or positions j 0 ≤ k)
-  position_bounds =
-      let l : j < length (take n positions) = omega (arith, length-take-le n positions room) in
-      within_out k (get_or positions j 0) (rw (get_or-take n positions j 0 h) at
-      (all_out (within k) (get_or_mem (take n positions) j 0 l) inside))
+module _ (p positions : List ℕ) (j : ℕ) (h : j < length positions) (perm : is_perm p ≡ true)
+    (inside : all (within (length p)) positions ≡ true) where
+  pub position_bounds : (1 ≤ get_or positions j 0) × (get_or positions j 0 ≤ length p)
+  position_bounds = within_out (length p) (get_or positions j 0) (all_out (within (length p)) (get_or_mem positions j 0 h) inside)
 
-  pub position_value : entry (take k prefix) (get_or positions j 0) ≡ get_or prefix (get_or positions j 0 - 1) 0
+  pub position_value : entry p (get_or positions j 0) ≡ get_or p (get_or positions j 0 - 1) 0
   unfolding entry
-  position_value = go (get_or positions j 0) position_bounds.0 position_bounds.1
+  position_value = go (get_or positions j 0) position_bounds.0
     where
-      go : (p : ℕ) → 1 ≤ p → p ≤ k → entry (take k prefix) p ≡ get_or prefix (p - 1) 0
-      go zero a b = absurd (omega arith)
-      go (suc p) a b =
-          let e : suc p - 1 ≡ p = omega arith in
-          rw (e) (get_or-take k prefix p 0 (omega arith))
+      go : (r : ℕ) → 1 ≤ r → entry p r ≡ get_or p (r - 1) 0
+      go zero a = absurd (omega arith)
+      go (suc r) a = let e : suc r - 1 ≡ r = omega arith in rw e refl
 
-  pub position_small : get_or prefix (get_or positions j 0 - 1) 0 ≤ k
+  pub position_small : get_or p (get_or positions j 0 - 1) 0 ≤ length p
   position_small =
       let (a, b) = position_bounds in
-      let l : length (take k prefix) ≡ k = length-take-le k prefix fits in
-      let m = perm_bounds (take k prefix) perm (entry_mem (take k prefix) (get_or positions j 0) a (omega arith)) in
+      let m = perm_bounds p perm (entry_mem p (get_or positions j 0) a b) in
       omega (arith, position_value)
 
   -- its value is flagged
-  pub flag_next : (a : List ℕ) (v : ℕ) → k < length a →
-      flagged (set a (get_or prefix (get_or positions j 0 - 1) 0) 1) v || has v
-      (map (entry (take k prefix)) (drop (j + 1) (take n positions)))
-      ≡ flagged a v || has v (map (entry (take k prefix)) (drop j (take n positions)))
+  pub flag_next : (a : List ℕ) (v : ℕ) → length p < length a →
+      flagged (set a (get_or p (get_or positions j 0 - 1) 0) 1) v || has v (map (entry p) (drop (j + 1) positions))
+      ≡ flagged a v || has v (map (entry p) (drop j positions))
   flag_next a v l =
-      rw (part_cons positions n j h room, ← position_value)
-      (flag_more a (entry (take k prefix) (get_or positions j 0)) (map (entry (take k prefix)) (drop (j + 1) (take n positions))) v
+      rw (part_cons positions j h, ← position_value)
+      (flag_more a (entry p (get_or positions j 0)) (map (entry p) (drop (j + 1) positions)) v
       (omega (arith, position_value, position_small)))
 
-pub flag_end : (e : ℕ → ℕ) (a positions : List ℕ) (n j v : ℕ) → n ≤ j → n ≤ length positions →
-    flagged a v || has v (map e (drop j (take n positions))) ≡ flagged a v
+pub flag_end : (e : ℕ → ℕ) (a positions : List ℕ) (j v : ℕ) → length positions ≤ j →
+    flagged a v || has v (map e (drop j positions)) ≡ flagged a v
 unfolding has
-flag_end e a positions n j v h k = rw (part_end positions n j h k) (or-false (flagged a v))
+flag_end e a positions j v h = rw (part_end positions j h) (or-false (flagged a v))
 
 -- lifting: one more for each prefix value whose level is below s
 

@@ -6,8 +6,7 @@ ghost use Rattle.word.specs.Vocabulary.{fits};
 ghost use Rattle.cell.specs.Candidate.{place};
 ghost use Rattle.placing.specs.Lookup.{entry_of, flagged};
 
-use crate::tables::{Tables, VALUES, told};
-use word::bytes::wide;
+use crate::tables::{Tables, told};
 use word::limits::DIGITS;
 
 // How far the head of a pattern is placed: how many of its entries are, the index in the prefix
@@ -19,33 +18,17 @@ pub struct Placing {
     pub used: bool,
 }
 
-// Whether one of the two holds.
-fn either(a: bool, b: bool) -> bool
-    ensures { result ≡ (a || b) }
-{
-    if a { true } else { b }
-}
-
-// Whether a table flags a value.
-fn is_flagged(table: [u8; VALUES], v: u8) -> bool
-    ensures { result ≡ flagged table v }
-{
-    told(table, v) != 0
-}
-
 // Whether the new pair compares with the first s pairs alike.
 fn pairs_fit(chosen: [u8; DIGITS], head: &[u8], s: usize, x: u8, a: u8) -> bool
     requires { (s ≤ DIGITS) × (s ≤ length head.now) }
     ensures { result ≡ fits (take s head.now) x (take s chosen) a }
 {
-    let mut j: usize = 0;
-    while j < s {
+    for j in 0..s {
         let below = head[j] < x;
         let found_below = chosen[j] < a;
         if below != found_below {
             return false;
         }
-        j += 1;
     }
     true
 }
@@ -72,14 +55,11 @@ pub fn placed(
     let x = head[s];
     let need = tables.need;
     let gone = tables.gone;
-    let level = told(need, x);
-    let mut j = state.from;
-    while j < prefix.len() {
+    let levels = tables.levels;
+    let level = told(&need, x);
+    for j in state.from..prefix.len() {
         let a = prefix[j];
-        j += 1;
-        let v = wide(a);
-        let here = if v < VALUES { tables.levels[v] } else { 0 };
-        if here != level {
+        if told(&levels, a) != level {
             continue;
         }
         if !pairs_fit(chosen, head, s, x, a) {
@@ -87,11 +67,10 @@ pub fn placed(
         }
         let mut next = chosen;
         next[s] = a;
-        let more = either(used, is_flagged(gone, a));
-        let count = s + 1;
+        let more = used || told(&gone, a) != 0;
         let longer = Placing {
-            placed: count,
-            from: j,
+            placed: s + 1,
+            from: j + 1,
             used: more,
         };
         if placed(next, head, prefix, longer, tables) {

@@ -8,7 +8,7 @@ use mathlib.Core.Bool.{Bool, true, false, not, ◌||◌, cond}
 use mathlib.Core.List.{List, [], ◌∷◌, map, map-map, Memᴰ}
 use mathlib.Core.Option.{Option, none, some}
 use lib.ListN.{length, get_or, take, drop, drop_of_length-le}
-use lib.Seq.{length-take-le, drop-cons}
+use lib.Seq.{drop-cons}
 use lib.Dec.{ltb, eqb}
 use borrow.Author.Tests.{not-false, ltb-false, eq-eqb, ne_eqb}
 use Rattle.word.specs.Ceilings.{ENTRIES, PREFIX}
@@ -27,8 +27,7 @@ use Rattle.forms.specs.declared.memory.Positions.{Positions}
 use Rattle.forms.specs.declared.memory.Rule.{Rule}
 use Rattle.forms.specs.declared.memory.Rule.TheVariants.{Expand, Delete}
 use Rattle.forms.specs.declared.memory.Scheme.{Scheme}
-use Rattle.scheme.specs.declared.links.Found.{Found}
-use Rattle.scheme.specs.declared.links.Found.TheVariants.{At, Nothing}
+use Rattle.std.specs.Prelude.{Option as Found, is_some}
 use Rattle.scheme.specs.TestLaws.{first_clean, any_from, or_left}
 use Rattle.scheme.specs.PositionLaws.{positions_few}
 use Rattle.forms.specs.MemoryLaws.{padded_within, length_padded}
@@ -48,20 +47,12 @@ listed_found i (p ∷ ps) q = go (same q p) (listed_found (suc i) ps q)
     go true e = refl
     go false e = e
 
-found_at : (o : Option ℕ) (i : ℕ) → found_of o ≡ At i → present o ≡ true
-found_at none i e = let z : ◌≡◌ {A = ℕ} 0 1 = cc in absurd (omega arith)
-found_at (some j) i e = refl
-
-found_nothing : (o : Option ℕ) → found_of o ≡ Nothing → present o ≡ false
-found_nothing none e = refl
-found_nothing (some j) e = let z : ◌≡◌ {A = ℕ} 0 1 = cc in absurd (omega arith)
-
-module _ (ps : List (List ℕ)) (q : List ℕ) (r : Found) (found : r ≡ found_of (find_in ps q)) where
-  pub at_listed : (i : ℕ) → r ≡ At i → listed ps q ≡ true
-  at_listed i e = listed_found 0 ps q ∙ found_at (find_in ps q) i (sym found ∙ e)
-
-  pub nothing_listed : r ≡ Nothing → listed ps q ≡ false
-  nothing_listed e = listed_found 0 ps q ∙ found_nothing (find_in ps q) (sym found ∙ e)
+pub found_listed : (ps : List (List ℕ)) (q : List ℕ) → is_some (found_of (find_in ps q)) ≡ listed ps q
+found_listed ps q = go (find_in ps q) ∙ sym (listed_found 0 ps q)
+  where
+    go : (o : Option ℕ) → is_some (found_of o) ≡ present o
+    go none = refl
+    go (some i) = refl
 
 -- the entry with index i, and its prefix
 abbrev pub entry_at : Scheme → ℕ → EntryList
@@ -108,7 +99,7 @@ find_each i (p ∷ ps) q b h =
       find_each (suc i) ps q b (λ (x : List ℕ) (m : Memᴰ x ps). h x (Memᴰ.tail m)),
     ) refl
 
-pub find_coded : (codes q : List ℕ) (c : ℕ) → IsCode q c → (r : Found) → r ≡ found_of (find_code codes c) → FindsIn codes q r
+pub find_coded : (codes q : List ℕ) (c : ℕ) → IsCode q c → (r : Found ℕ) → r ≡ found_of (find_code codes c) → FindsIn codes q r
 find_coded codes q c k r e ps w =
     let there : find_code codes c ≡ find_in ps q = rw (w.each, k.is) (find_each 0 ps q k.bytes w.bytes) in
     e ∙ ap found_of there
@@ -123,13 +114,13 @@ unlisted ps q = not (listed ps q)
 abbrev pub missing : List (List ℕ) → List ℕ → ℕ → Bool
 missing ps p a = unlisted ps (child_at p a)
 
--- the children of a prefix of length k, by their last entries from 1 to k + 1
-pub children_start : (t : List ℕ → Bool) (l : List ℕ) (k : ℕ) → is_perm (take k l) ≡ true → k ≤ length l →
-    any t (children (take k l)) ≡ any_from (λ a. t (child_at (take k l) a)) (k + 2) 1
+-- the children of a prefix, by their last entries from 1 on
+pub children_start : (t : List ℕ → Bool) (p : List ℕ) → is_perm p ≡ true →
+    any t (children p) ≡ any_from (λ a. t (child_at p a)) (length p + 2) 1
 unfolding any_from
-children_start t l k e h =
-    let n : suc (length (take k l)) ≡ (k + 2) - 1 = omega (arith, length-take-le k l h) in
-    any_child t (take k l) e ∙ ap (λ n. any (λ a. t (child_at (take k l) a)) (row 1 n)) n
+children_start t p e =
+    let n : suc (length p) ≡ (length p + 2) - 1 = omega arith in
+    any_child t p e ∙ ap (λ n. any (λ a. t (child_at p a)) (row 1 n)) n
 
 -- The tests on one entry
 
@@ -152,7 +143,7 @@ pub set_named : (k : ℕ) (d : Positions) → k ≤ PREFIX → outside k (delete
     (d.count ≤ k) × (positions_in d ≡ take d.count (six_of d))
 set_named k d short h =
     let few : d.count ≤ k = omega (arith, positions_few k (positions_in d) h, length_padded d.count (six_of d)) in
-    (few, padded_within d.count (six_of d) (omega arith))
+    (few, padded_within d.count (six_of d) (omega (arith, length_padded PREFIX d.positions)))
 
 -- What the tests 2, 3 and 7 leave
 

@@ -3,7 +3,7 @@
 use Prim.Native.Nat.{ℕ, suc, ◌+◌, ◌-◌, ◌≤◌, ◌<◌}
 use native.Mathlib.Numerals.{add-one}
 use native.Mathlib.Omega.{arith}
-use mathlib.Core.Path.{◌≡◌, refl, sym, ap, ap₂, ◌∙◌}
+use mathlib.Core.Path.{◌≡◌, refl, sym, ap, ◌∙◌}
 use mathlib.Core.Bool.{Bool, true, false}
 use mathlib.Core.List.Memᴰ
 use mathlib.Core.List.{List, [], ◌∷◌, ◌++◌, map, map-append, Memᴰ}
@@ -26,13 +26,9 @@ use Rattle.scheme.specs.WellFormed.{outside}
 use Rattle.scheme.specs.PositionLaws.{rising_at, positions_rise, deleted_size}
 use Rattle.scheme.specs.DeletedLaws.{deleted_one, deleted_first}
 
--- the digits of a permutation in an array
-pub digit_bounds : (l : List ℕ) (k i : ℕ) → is_perm (take k l) ≡ true → k ≤ length l → i < k → (1 ≤ get_or l i 0) × (get_or l i 0 ≤ k)
-digit_bounds l k i e h j =
-    let s = length-take-le k l h in
-    let b = perm_bounds (take k l) e (get_or_mem (take k l) i 0 (omega arith)) in
-    let q = get_or-take k l i 0 j in
-    omega arith
+-- the digits of a permutation
+pub digit_bounds : (p : List ℕ) (i : ℕ) → is_perm p ≡ true → i < length p → (1 ≤ get_or p i 0) × (get_or p i 0 ≤ length p)
+digit_bounds p i e j = perm_bounds p e (get_or_mem p i 0 j)
 
 -- Children
 
@@ -42,10 +38,10 @@ pub child_more : (digits l : List ℕ) (j a x : ℕ) → j < length digits → j
 child_more digits l j a x hd hl b e =
     rw (add-one, take-suc-set digits j x hd, take-suc l j 0 hl, map-append, e, b) refl
 
-pub child_whole : (digits l : List ℕ) (k a : ℕ) → k < length digits → take k digits ≡ map (bump a) (take k l) →
-    take (k + 1) (set digits k a) ≡ child_at (take k l) a
+pub child_whole : (digits p : List ℕ) (k a : ℕ) → k < length digits → take k digits ≡ map (bump a) p →
+    take (k + 1) (set digits k a) ≡ child_at p a
 unfolding child_at
-child_whole digits l k a h e = rw (add-one, take-suc-set digits k a h, e) refl
+child_whole digits p k a h e = rw (add-one, take-suc-set digits k a h, e) refl
 
 -- a test of some child, by its last entry
 pub any_child : (t : List ℕ → Bool) (p : List ℕ) → is_perm p ≡ true → any t (children p) ≡
@@ -99,55 +95,48 @@ bump_inside m j n h = go (bumped m j)
     go (stays b e) = omega arith
     go (moves b e) = omega arith
 
--- the same of a prefix in an array, by its position r
-module _ (l : List ℕ) (k r : ℕ) (perm : is_perm (take k l) ≡ true) (low : 1 ≤ r) (high : r ≤ k) (fits : k ≤ length l) where
+-- the same by the position r
+module _ (p : List ℕ) (r : ℕ) (perm : is_perm p ≡ true) (low : 1 ≤ r) (high : r ≤ length p) where
   index : suc (r - 1) ≡ r
   index = omega arith
 
-  size : length (take k l) ≡ k
-  size = length-take-le k l fits
+  inside : outside (length p) (deletes (r ∷ [])) ≡ false
+  inside = rw (lt-leb r 0 low, le-ltb (length p) r high) refl
 
-  inside : outside (length (take k l)) (deletes (r ∷ [])) ≡ false
-  inside = rw (size, lt-leb r 0 low, le-ltb k r high) refl
+  pub one_size : length (deleted (r ∷ []) p) ≡ length p - 1
+  one_size = omega (arith, deleted_size (r ∷ []) p inside)
 
-  pub one_size : length (deleted (r ∷ []) (take k l)) ≡ k - 1
-  one_size = omega (arith, deleted_size (r ∷ []) (take k l) inside, size)
-
-  digit_at : (j : ℕ) → j < k - 1 → get_or (deleted (r ∷ []) (take k l)) j 0 ≡ unbump (get_or l (r - 1) 0) (get_or l (bump (r - 1) j) 0)
+  digit_at : (j : ℕ) → j < length p - 1 → get_or (deleted (r ∷ []) p) j 0 ≡ unbump (get_or p (r - 1) 0) (get_or p (bump (r - 1) j) 0)
   digit_at j h =
-      ap (λ n. get_or (deleted (n ∷ []) (take k l)) j 0) (sym index) ∙
-      one_at (r - 1) (take k l) perm j (omega (arith, size)) (omega (arith, size)) ∙
-      ap₂ unbump (get_or-take k l (r - 1) 0 (omega arith)) (get_or-take k l (bump (r - 1) j) 0 (bump_inside (r - 1) j k (omega arith)))
+      ap (λ n. get_or (deleted (n ∷ []) p) j 0) (sym index) ∙
+      one_at (r - 1) p perm j (omega arith) (omega arith)
 
   -- one digit more
-  pub one_more : (digits : List ℕ) (j x : ℕ) → j < k - 1 → j < length digits → x ≡
-      unbump (get_or l (r - 1) 0) (get_or l (bump (r - 1) j) 0) →
-      take j digits ≡ take j (deleted (r ∷ []) (take k l)) → take (j + 1) (set digits j x) ≡ take (j + 1) (deleted (r ∷ []) (take k l))
+  pub one_more : (digits : List ℕ) (j x : ℕ) → j < length p - 1 → j < length digits → x ≡
+      unbump (get_or p (r - 1) 0) (get_or p (bump (r - 1) j) 0) →
+      take j digits ≡ take j (deleted (r ∷ []) p) → take (j + 1) (set digits j x) ≡ take (j + 1) (deleted (r ∷ []) p)
   one_more digits j x h d b e =
       rw (
         add-one,
         take-suc-set digits j x d,
-        take-suc (deleted (r ∷ []) (take k l)) j 0 (omega (arith, one_size)),
+        take-suc (deleted (r ∷ []) p) j 0 (omega (arith, one_size)),
         e,
         b,
         digit_at j h,
       ) refl
 
--- The first `count` positions of an array are left out from the last on: while t of them are there,
--- the next one is that with the index t - 1
-pub next_position : (l p : List ℕ) (k count t : ℕ) → count ≤ length l → is_perm p ≡ true →
-    outside k (deletes (take count l)) ≡ false → 1 ≤ t → t ≤ count →
-    (1 ≤ get_or l (t - 1) 0) × (get_or l (t - 1) 0 + count ≤ k + t) ×
-    (deleted (get_or l (t - 1) 0 ∷ []) (deleted (drop t (take count l)) p) ≡ deleted (drop (t - 1) (take count l)) p)
-next_position l p k count t fits perm inside some high =
-    let R = take count l in
-    let few : length (take count l) ≡ count = length-take-le count l fits in
+-- Positions are left out from the last on: while t of them are there, the next one is that with the
+-- index t - 1
+pub next_position : (R p : List ℕ) (t : ℕ) → is_perm p ≡ true →
+    outside (length p) (deletes R) ≡ false → 1 ≤ t → t ≤ length R →
+    (1 ≤ get_or R (t - 1) 0) × (get_or R (t - 1) 0 + length R ≤ length p + t) ×
+    (deleted (get_or R (t - 1) 0 ∷ []) (deleted (drop t R) p) ≡ deleted (drop (t - 1) R) p)
+next_position R p t perm inside some high =
     let here : suc (t - 1) ≡ t = omega arith in
-    let is : get_or (take count l) (t - 1) 0 ≡ get_or l (t - 1) 0 = get_or-take count l (t - 1) 0 (omega arith) in
-    let (low, rise, room) = rising_at k 0 (t - 1) R (positions_rise k R inside) (omega arith) in (
+    let (low, rise, room) = rising_at (length p) 0 (t - 1) R (positions_rise (length p) R inside) (omega arith) in (
       omega arith,
       omega (arith, length-drop (suc (t - 1)) R),
       sym (ap (λ (S : List ℕ). deleted S p) (drop-cons R (t - 1) 0 (omega arith)) ∙
-          deleted_first k (get_or R (t - 1) 0) (drop (suc (t - 1)) R) p perm low rise ∙
-          ap₂ (λ (r m : ℕ). deleted (r ∷ []) (deleted (drop m R) p)) is here),
+          deleted_first (length p) (get_or R (t - 1) 0) (drop (suc (t - 1)) R) p perm low rise ∙
+          ap (λ (m : ℕ). deleted (get_or R (t - 1) 0 ∷ []) (deleted (drop m R) p)) here),
     )

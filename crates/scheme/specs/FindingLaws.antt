@@ -1,5 +1,5 @@
 -- Laws of tests in a row: when none of them finds a fault, and what that says of each item.
-use Rattle.std.specs.Prelude.{ℕ, suc, ◌≡◌, refl, Bool, true, false, cond, ◌↔◌, ◌⊎◌}
+use Rattle.std.specs.Prelude.{Ok, Err, ℕ, suc, ◌≡◌, refl, Bool, true, false, cond, ◌↔◌, ◌⊎◌}
 use Rattle.std.proofs.Common.{arith, sym, ap, ap₂, ◌∙◌, inl, inr}
 use mathlib.Core.List.Memᴰ
 use mathlib.Core.List.{List, [], ◌∷◌, ◌++◌, Memᴰ}
@@ -7,8 +7,8 @@ use Rattle.word.specs.Lists.{any}
 use Rattle.word.specs.ListLaws.{true_not_false, any_in}
 use Rattle.word.specs.Finding.{Finding, clean, fault, test, first_fault}
 use Rattle.word.specs.declared.refusal.Refusal.{Refusal}
-use Rattle.forms.specs.SchemeMemory.{fault_of, faulty}
-use Rattle.forms.specs.declared.memory.Fault.{Fault}
+use Rattle.word.specs.declared.refusal.Refused.{Refused}
+use Rattle.forms.specs.SchemeMemory.{Fault, fault_of, or_else, faulty}
 use Rattle.scheme.specs.WellFormed.{first_at}
 
 -- a fault is not clean
@@ -19,6 +19,13 @@ fault_not_clean e = let z : ◌≡◌ {A = ℕ} 0 1 = cc in absurd (omega arith)
 pub clean_finding : (x : Finding) (f : Fault) → f ≡ fault_of x → faulty f ≡ false → x ≡ clean
 clean_finding clean f e h = refl
 clean_finding (fault r i) f e h = absurd (true_not_false (sym (ap faulty e) ∙ h))
+
+-- a finding that refuses decides, and one that does not leaves it to the next
+pub stops : (a b : Fault) (e : Refused) → a ≡ Err e → or_else a b ≡ a
+stops a b e h = rw h refl
+
+pub goes : (a b : Fault) → a ≡ Ok tt → or_else a b ≡ b
+goes a b h = rw h refl
 
 -- none of the tests finds a fault
 pub clean_in : {x : Finding} (l : List Finding) → Memᴰ x l → first_fault l ≡ clean → x ≡ clean

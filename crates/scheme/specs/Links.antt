@@ -2,6 +2,7 @@
 -- Definitions only.
 use Rattle.std.specs.Prelude.{ℕ, suc, ◌≤◌, ◌<◌, ◌≡◌, Bool, true, false, not, cond, List, [], ◌∷◌, map, get_or, eqb}
 use Rattle.std.proofs.Math.Option.{Option, none, some}
+use Rattle.std.specs.Prelude.{Option as Found, None, Some}
 use Rattle.word.specs.Ceilings.{ENTRIES, PREFIX}
 use Rattle.word.specs.Lists.{any}
 use Rattle.word.specs.Word.{is_perm}
@@ -13,8 +14,6 @@ use Rattle.forms.specs.SchemeMemory.{padded, no_entry, does_of, scheme_in}
 use Rattle.scheme.specs.WellFormed.{outside, listed, lacks_child, lacks_target}
 use Rattle.forms.specs.declared.memory.Entry.{Entry}
 use Rattle.forms.specs.declared.memory.Scheme.{Scheme}
-use Rattle.scheme.specs.declared.links.Found.{Found}
-use Rattle.scheme.specs.declared.links.Found.TheVariants.{At, Nothing}
 
 -- the place of the first list that is the same as q, with places counted from i
 unfoldable pub find_from : ℕ → List (List ℕ) → List ℕ → Option ℕ
@@ -34,9 +33,9 @@ abbrev pub find_code : List ℕ → ℕ → Option ℕ
 find_code l c = find_code_from 0 l c
 
 -- a place in memory
-abbrev pub found_of : Option ℕ → Found
-found_of none = Nothing
-found_of (some i) = At i
+abbrev pub found_of : Option ℕ → Found ℕ
+found_of none = None
+found_of (some i) = Some i
 
 -- whether there is a place
 abbrev pub present : Option ℕ → Bool
@@ -49,7 +48,7 @@ prefixes_in s = map (λ e. e.prefix) (scheme_in s)
 
 -- what the codes tell of the prefixes that they stand for: the place of one, whether it is listed,
 -- and the tests 8 and 9 of an entry
-abbrev pub FindsIn : List ℕ → List ℕ → Found → Type 0
+abbrev pub FindsIn : List ℕ → List ℕ → Found ℕ → Type 0
 FindsIn codes q r = (ps : List (List ℕ)) → Codes ps codes → r ≡ found_of (find_in ps q)
 
 abbrev pub ListedIn : List ℕ → List ℕ → Bool → Type 0

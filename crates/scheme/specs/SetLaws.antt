@@ -1,5 +1,5 @@
 -- A set of patterns in memory as containment takes it holds the patterns.
-use Rattle.std.specs.Prelude.{ℕ, ◌≤◌, ◌<◌, ◌≡◌, true, length, get_or}
+use Rattle.std.specs.Prelude.{ℕ, ◌≤◌, ◌<◌, ◌≡◌, true, length, get_or, take}
 use Rattle.std.proofs.Common.{arith}
 use mathlib.Core.List.Memᴰ
 use mathlib.Core.List.{List, Memᴰ}
@@ -14,8 +14,8 @@ use Rattle.forms.specs.MemoryLaws.{length_padded}
 use Rattle.scheme.specs.TestLaws.{length_items}
 use Rattle.forms.specs.declared.memory.Patterns.{Patterns}
 use Rattle.scheme.specs.ProperLaws.{few_patterns, proper_pattern}
-use Rattle.forms.specs.SetMemory.{HasDigits, HasLengths}
-use Rattle.forms.specs.HeldLaws.{set_held}
+use Rattle.forms.specs.SetMemory.{held_in, HasDigits, HasLengths}
+use Rattle.forms.specs.HeldLaws.{set_held, held_set}
 
 module _ (s : Patterns) (formed : first_fault (pattern_tests (patterns_in s)) ≡ clean) where
   pub few : s.count ≤ PATTERNS
@@ -27,6 +27,10 @@ module _ (s : Patterns) (formed : first_fault (pattern_tests (patterns_in s)) �
       let q = proper_pattern (patterns_in s) formed (pattern_in p)
       (Memᴰ.map (λ j. pattern_in (get_or s.items j no_pattern)) (row_in 0 s.count i (omega arith) (omega arith))) in
       omega (arith, q.short, length_padded p.length p.digits)
+
+  -- the slice that memory holds has the patterns
+  pub slice_holds : length s.items ≡ PATTERNS → held_in (take s.count s.items) ≡ patterns_in s
+  slice_holds h = held_set s (omega (arith, few, h)) short
 
   module _ (rows : List (List ℕ)) (lengths : List ℕ) (hr : length rows ≡ PATTERNS) (hl : length lengths ≡ PATTERNS)
       (has : HasDigits s.items rows) (sizes : HasLengths s.items lengths) where

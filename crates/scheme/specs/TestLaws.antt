@@ -2,7 +2,7 @@
 -- the first twin, whether one passes a test.
 -- Assumes nothing.
 use Prim.Native.Nat.{ℕ, zero, suc, ◌+◌, ◌-◌, ◌≤◌, ◌<◌}
-use Rattle.std.specs.Prelude.{◌≡◌, Bool, true, false, ◌||◌, cond, ◌⊎◌, length}
+use Rattle.std.specs.Prelude.{Ok, Err, ◌≡◌, Bool, true, false, ◌||◌, cond, ◌⊎◌, length}
 use Rattle.std.proofs.Math.Path.{refl}
 use Rattle.std.proofs.Common.{sym, ap, ◌∙◌, true≢false, inl, inr, arith}
 use mathlib.Core.List.{List, [], ◌∷◌, map, Memᴰ}
@@ -15,10 +15,8 @@ use Rattle.word.specs.Finding.{Finding, clean, fault, first_fault}
 use Rattle.word.specs.declared.refusal.Refusal.{Refusal}
 use Rattle.word.specs.declared.refusal.Refusal.TheVariants.{Repeated}
 use Rattle.scheme.specs.WellFormed.{first_at, first_twin, listed, repeats}
-use Rattle.forms.specs.SchemeMemory.{fault_of, or_else, fault_if}
+use Rattle.forms.specs.SchemeMemory.{Fault, fault_of, or_else, fault_if}
 use Rattle.scheme.specs.TestOrder.{seen}
-use Rattle.forms.specs.declared.memory.Fault.TheVariants.{Clean, At}
-use Rattle.forms.specs.declared.memory.Fault.{Fault}
 
 -- the items g i to g (n - 1)
 unfoldable pub from : {A : Type 0} → (ℕ → A) → ℕ → ℕ → List A
@@ -199,19 +197,19 @@ module _ (r : Refusal) (t : ℕ → Bool) (n : ℕ) (rest : ℕ → Finding)
     where
       go : (found : Fault) (b : Bool) →
           or_else found (fault_of (cond b (fault r i) (rest (i + 1)))) ≡ or_else (or_else found (fault_if b r i)) (fault_of (rest (i + 1)))
-      go Clean true = refl
-      go Clean false = refl
-      go (At q j) b = refl
+      go (Ok u) true = refl
+      go (Ok u) false = refl
+      go (Err d) b = refl
 
 pub noted_end : (found whole : Fault) (x : Finding) → x ≡ clean → whole ≡ or_else found (fault_of x) → found ≡ whole
 noted_end found whole x e w = sym (w ∙ rw e (go found))
   where
-    go : (found : Fault) → or_else found Clean ≡ found
-    go Clean = refl
-    go (At q j) = refl
+    go : (found : Fault) → or_else found (Ok tt) ≡ found
+    go (Ok u) = refl
+    go (Err d) = refl
 
 pub noted_start : {A : Type 0} (r : Refusal) (f : A → Bool) (g : ℕ → A) (n : ℕ) →
-    fault_of (first_at r f 0 (map g (row 0 n))) ≡ or_else Clean (fault_of (first_from r f g n 0))
+    fault_of (first_at r f 0 (map g (row 0 n))) ≡ or_else (Ok tt) (fault_of (first_from r f g n 0))
 noted_start r f g n = ap fault_of (first_start r f g n)
 
 module _ {A : Type 0} (g : ℕ → A) (n : ℕ) where
@@ -224,7 +222,7 @@ module _ {A : Type 0} (g : ℕ → A) (n : ℕ) where
   twin_step twin i h = rw (from_cons g n i h, add-one i) refl
 
 -- findings without a fault
-pub clean_of : (x : Finding) → fault_of x ≡ Clean → x ≡ clean
+pub clean_of : (x : Finding) → fault_of x ≡ Ok tt → x ≡ clean
 clean_of clean e = refl
 clean_of (fault r i) e = let z : ◌≡◌ {A = ℕ} 0 1 = cc in absurd (omega arith)
 

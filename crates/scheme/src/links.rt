@@ -25,32 +25,19 @@ ghost use Rattle.scheme.specs.Links.{
 };
 
 use forms::codes::code_of;
-use forms::memory::{Entry, Fault, Rule, Scheme};
+use forms::memory::{Entry, Rule, Scheme};
 use forms::order::noted;
-use forms::positions::six_of;
-use word::bytes::wide;
 use word::limits::{ENTRIES, PREFIX};
-use word::refusal::Refusal;
-
-// The index of an entry, or that there is none.
-#[derive(Clone, Copy)]
-pub enum Found {
-    At(usize),
-    Nothing,
-}
+use word::refusal::{Refusal, Refused};
 
 // The codes of the prefixes of all entries, and zeros after them.
 pub fn codes_of(s: Scheme) -> [u64; ENTRIES]
     requires { Short s }
     ensures { (length result ≡ ENTRIES) × Codes (prefixes_in s) (take s.count result) }
 {
-    let n = s.count;
     let mut codes = [0u64; ENTRIES];
-    let mut i: usize = 0;
-    while i < n {
-        let e = s.entries[i];
-        codes[i] = entry_code(e);
-        i += 1;
+    for i in 0..s.count {
+        codes[i] = entry_code(s.entries[i]);
     }
     codes
 }
@@ -60,98 +47,78 @@ pub fn entry_code(e: Entry) -> u64
     requires { e.length ≤ PREFIX }
     ensures { IsCode (padded e.length e.prefix) result }
 {
-    let prefix = e.prefix;
-    let k = e.length;
-    code_of(prefix, k)
+    code_of(&e.prefix[..e.length])
 }
 
 // The first of the codes that is this one.
-fn find(codes: &[u64], code: u64) -> Found
+fn find(codes: &[u64], code: u64) -> Option<usize>
     ensures { result ≡ found_of (find_code codes.now code) }
 {
-    let mut i: usize = 0;
-    while i < codes.len() {
-        if code == codes[i] {
-            return Found::At(i);
+    for (i, x) in codes.iter().enumerate() {
+        if code == *x {
+            return Some(i);
         }
-        i += 1;
     }
-    Found::Nothing
+    None
 }
 
-// The first entry whose prefix is the first `length` digits, by the codes of all entries.
-pub fn find_prefix(codes: &[u64], prefix: [u8; PREFIX], length: usize) -> Found
-    requires { length ≤ PREFIX }
-    ensures { FindsIn codes.now (take length prefix) result }
+// The first entry that has a prefix, by the codes of all entries.
+pub fn find_prefix(codes: &[u64], prefix: &[u8]) -> Option<usize>
+    requires { length prefix.now ≤ PREFIX }
+    ensures { FindsIn codes.now prefix.now result }
 {
-    let code = code_of(prefix, length);
-    find(codes, code)
+    find(codes, code_of(prefix))
 }
 
-// Whether an entry has the first `length` digits as its prefix.
-pub fn has_entry(codes: &[u64], prefix: [u8; PREFIX], length: usize) -> bool
-    requires { length ≤ PREFIX }
-    ensures { ListedIn codes.now (take length prefix) result }
+// Whether an entry has the prefix.
+pub fn has_entry(codes: &[u64], prefix: &[u8]) -> bool
+    requires { length prefix.now ≤ PREFIX }
+    ensures { ListedIn codes.now prefix.now result }
 {
-    let found = find_prefix(codes, prefix, length);
-    match found {
-        Found::At(_) => true,
-        Found::Nothing => false,
-    }
+    find_prefix(codes, prefix).is_some()
 }
 
-// The digits of the child of a prefix of length k whose last entry is a.
-pub fn child(prefix: [u8; PREFIX], k: usize, a: u8) -> [u8; PREFIX]
-    requires { (k < PREFIX) × (is_perm (take k prefix) ≡ true) }
-    ensures { take (k + 1) result ≡ child_at (take k prefix) a }
+// The digits of the child of a prefix whose last entry is a.
+pub fn child(prefix: &[u8], a: u8) -> [u8; PREFIX]
+    requires { (length prefix.now < PREFIX) × (is_perm prefix.now ≡ true) }
+    ensures { take (length prefix.now + 1) result ≡ child_at prefix.now a }
 {
-    let mut digits = prefix;
-    let mut j: usize = 0;
-    while j < k {
-        digits[j] = raised(a, prefix[j]);
-        j += 1;
+    let mut digits = [0u8; PREFIX];
+    for (j, y) in prefix.iter().enumerate() {
+        digits[j] = raised(a, *y);
     }
-    digits[k] = a;
+    digits[prefix.len()] = a;
     digits
 }
 
-// The shorter prefix: what is left of a prefix of length k without the first `count` of the
-// positions, reduced. The last position goes first, so that the others stay where they are.
-pub fn shorter(
-    prefix: [u8; PREFIX],
-    k: usize,
-    positions: [u8; PREFIX],
-    count: usize,
-) -> [u8; PREFIX]
-    requires { (k ≤ PREFIX) × (count ≤ k) × (is_perm (take k prefix) ≡ true) × (outside k (deletes (take count positions)) ≡ false) }
-    ensures { take (k - count) result ≡ deleted (take count positions) (take k prefix) }
+// The shorter prefix: what is left of a prefix without some of its positions, reduced. The last
+// position goes first, so that the others stay where they are.
+pub fn shorter(prefix: &[u8], positions: &[u8]) -> [u8; PREFIX]
+    requires { (length prefix.now ≤ PREFIX) × (length positions.now ≤ length prefix.now) × (is_perm prefix.now ≡ true) ×
+        (outside (length prefix.now) (deletes positions.now) ≡ false) }
+    ensures { take (length prefix.now - length positions.now) result ≡ deleted positions.now prefix.now }
 {
-    let mut digits = prefix;
-    let mut n = k;
-    let mut t = count;
-    while 0 < t {
-        t -= 1;
-        let r = wide(positions[t]);
-        let q = without_position(digits, n, r);
-        digits = q;
+    let mut digits = [0u8; PREFIX];
+    digits[..prefix.len()].copy_from_slice(prefix);
+    let mut n = prefix.len();
+    for t in (0..positions.len()).rev() {
+        digits = without_position(&digits[..n], usize::from(positions[t]));
         n -= 1;
     }
     digits
 }
 
-// The digits that are left of a prefix of length k without its position r, reduced: the larger
-// values are lowered by one.
-fn without_position(prefix: [u8; PREFIX], k: usize, r: usize) -> [u8; PREFIX]
-    requires { (1 ≤ r) × (r ≤ k) × (k ≤ PREFIX) × (is_perm (take k prefix) ≡ true) }
-    ensures { take (k - 1) result ≡ deleted (r ∷ []) (take k prefix) }
+// The digits that are left of a prefix without its position r, reduced: the larger values are
+// lowered by one.
+fn without_position(prefix: &[u8], r: usize) -> [u8; PREFIX]
+    requires { (1 ≤ r) × (r ≤ length prefix.now) × (length prefix.now ≤ PREFIX) × (is_perm prefix.now ≡ true) }
+    ensures { take (length prefix.now - 1) result ≡ deleted (r ∷ []) prefix.now }
 {
     let at = r - 1;
     let v = prefix[at];
-    let mut digits = prefix;
-    let mut j: usize = 0;
-    while j < k - 1 {
+    let mut digits = [0u8; PREFIX];
+    for j in 0..prefix.len() - 1 {
         digits[j] = lowered(v, kept(prefix, at, j));
-        j += 1;
     }
     digits
 }
@@ -165,9 +132,9 @@ fn lowered(v: u8, y: u8) -> u8
 }
 
 // The digit with index j of those that are left without the one with index `at`.
-fn kept(prefix: [u8; PREFIX], at: usize, j: usize) -> u8
-    requires { j + 1 < PREFIX }
-    ensures { result ≡ get_or prefix (bump at j) 0 }
+fn kept(prefix: &[u8], at: usize, j: usize) -> u8
+    requires { j + 1 < length prefix.now }
+    ensures { result ≡ get_or prefix.now (bump at j) 0 }
 {
     if j < at { prefix[j] } else { prefix[j + 1] }
 }
@@ -180,23 +147,21 @@ fn raised(a: u8, y: u8) -> u8
     if y < a { y } else { y + 1 }
 }
 
-// Whether a child of a prefix of length k has no entry. The children of a longest prefix have
-// none.
-fn childless(codes: &[u64], prefix: [u8; PREFIX], k: usize) -> bool
-    requires { (k ≤ PREFIX) × (is_perm (take k prefix) ≡ true) }
-    ensures { ChildlessIn codes.now (take k prefix) result }
+// Whether a child of a prefix has no entry. The children of a longest prefix have none.
+fn childless(codes: &[u64], prefix: &[u8]) -> bool
+    requires { (length prefix.now ≤ PREFIX) × (is_perm prefix.now ≡ true) }
+    ensures { ChildlessIn codes.now prefix.now result }
 {
+    let k = prefix.len();
     if k == PREFIX {
         return true;
     }
-    let last = (k as u8) + 1;
-    let mut a: u8 = 1;
-    while a <= last {
-        let q = child(prefix, k, a);
-        if !has_entry(codes, q, k + 1) {
+    let last = k as u8 + 1;
+    for a in 1..last + 1 {
+        let q = child(prefix, a);
+        if !has_entry(codes, &q[..k + 1]) {
             return true;
         }
-        a += 1;
     }
     false
 }
@@ -206,11 +171,8 @@ fn lacks_child(codes: &[u64], e: Entry) -> bool
     requires { LinkedEntry e }
     ensures { LacksChildIn codes.now (entry_in e) result }
 {
-    let rule = e.rule;
-    let p = e.prefix;
-    let k = e.length;
-    match rule {
-        Rule::Expand => childless(codes, p, k),
+    match e.rule {
+        Rule::Expand => childless(codes, &e.prefix[..e.length]),
         Rule::Delete(_) => false,
     }
 }
@@ -220,15 +182,12 @@ fn lacks_target(codes: &[u64], e: Entry) -> bool
     requires { LinkedEntry e }
     ensures { LacksTargetIn codes.now (entry_in e) result }
 {
-    let rule = e.rule;
-    let p = e.prefix;
-    let k = e.length;
-    match rule {
+    match e.rule {
         Rule::Expand => false,
         Rule::Delete(d) => {
-            let count = wide(d.count);
-            let q = shorter(p, k, six_of(d), count);
-            !has_entry(codes, q, k - count)
+            let positions = d.as_slice();
+            let q = shorter(&e.prefix[..e.length], positions);
+            !has_entry(codes, &q[..e.length - positions.len()])
         }
     }
 }
@@ -237,8 +196,8 @@ fn lacks_target(codes: &[u64], e: Entry) -> bool
 // entry whose shorter prefix has no entry.
 #[derive(Clone, Copy)]
 pub struct LinkFaults {
-    pub child: Fault,
-    pub target: Fault,
+    pub child: Result<(), Refused>,
+    pub target: Result<(), Refused>,
 }
 
 // The tests 8 and 9 over all entries, in one pass.
@@ -246,17 +205,12 @@ pub fn link_faults(s: Scheme, codes: &[u64]) -> LinkFaults
     requires { Linked s × Codes (prefixes_in s) codes.now }
     ensures { (result.child ≡ fault_of (child_test (scheme_in s))) × (result.target ≡ fault_of (target_test (scheme_in s))) }
 {
-    let n = s.count;
-    let mut child = Fault::Clean;
-    let mut target = Fault::Clean;
-    let mut i: usize = 0;
-    while i < n {
+    let mut child = Ok(());
+    let mut target = Ok(());
+    for i in 0..s.count {
         let e = s.entries[i];
-        let c = noted(child, lacks_child(codes, e), Refusal::Childless, i);
-        let t = noted(target, lacks_target(codes, e), Refusal::NoTarget, i);
-        child = c;
-        target = t;
-        i += 1;
+        child = noted(child, lacks_child(codes, e), Refusal::Childless, i);
+        target = noted(target, lacks_target(codes, e), Refusal::NoTarget, i);
     }
     LinkFaults { child, target }
 }

@@ -1,22 +1,21 @@
 -- Spacings in memory: the array steps of the first and the next spacing, and the tests on
 -- components and gap vectors from a place on.
 -- Assumes nothing.
-use Prim.Native.Nat.{ℕ, zero, suc, ◌+◌, ◌*◌, ◌-◌, ◌≤◌, ◌<◌}
+use Prim.Native.Nat.{ℕ, zero, suc, ◌+◌, ◌-◌, ◌≤◌, ◌<◌}
+use Rattle.std.specs.Prelude.{Some, None}
 use mathlib.Core.Path.{◌≡◌, refl, sym, ap, ◌∙◌}
 use mathlib.Core.Bool.{Bool, true, false, not, ◌&&◌}
 use mathlib.Core.List.{List, [], ◌∷◌, ◌++◌, map}
 use native.Mathlib.Nat.{sub-zero}
 use native.Mathlib.Numerals.{add-one}
 use native.Mathlib.Omega.{arith}
-use lib.ListN.{length, get_or, take, drop, set, replicate, drop_of_length-le, length-drop}
+use lib.ListN.{length, get_or, take, drop, set, replicate, drop_of_length-le}
 use lib.Dec.{leb}
-use lib.Seq.{drop-cons, split_at, take-set-lt, drop-set-lt, get_or-take, get_or-drop, length-take-le}
+use lib.Seq.{drop-cons, split_at, take-set-lt, drop-set-lt, get_or-take, length-take-le}
 use borrow.Author.Tests.{le-leb, lt-leb}
-use Rattle.word.specs.Ceilings.{COMPONENTS}
 use Rattle.word.specs.Lists.{row}
-use Rattle.word.specs.ListLaws.{true_not_false}
 use Rattle.cell.specs.Cell.{total, at_least, free}
-use Rattle.forms.specs.GapRows.{vector_at, gaps_of, HasVectors}
+use Rattle.forms.specs.GapRows.{vector_at, gaps_of}
 use Rattle.spacing.specs.Following.{first_vector, later, Follows, Steps}
 use Rattle.spacing.specs.SpacingOrder.{step_from, step_to, later_none, later_next, next_total}
 
@@ -104,13 +103,12 @@ seen_down g k j l p s e =
     let len = taken_length g k l in
     (omega arith, cleared_down (take (k + 1) g) j p (omega arith) s.1 (get_or-take (k + 1) g j 0 (omega arith) ∙ e))
 
-pub seen_last : (g : List ℕ) (k j : ℕ) → k < length g → Seen g k j → j ≡ 0 → Steps g k false g
+pub seen_last : (g : List ℕ) (k j : ℕ) → k < length g → Seen g k j → j ≡ 0 → Steps g k None
 seen_last g k j l s e =
     let len = taken_length g k l in
     record {
       follows = record { rest = cleared_last (take (k + 1) g) (omega arith) (rw e at s.1); same_total = refl };
       behind = refl;
-      stays = λ (q : false ≡ false). refl;
     }
 
 module _ (g : List ℕ) (k j : ℕ) (l : k < length g) (p : 0 < j) (s : Seen g k j) (e : get_or g j 0 ≡ 0 → ⊥) where
@@ -149,54 +147,37 @@ module _ (g : List ℕ) (k j : ℕ) (l : k < length g) (p : 0 < j) (s : Seen g k
             rw moved (next_total pre y r (k - j) ∙ ap total (sym parts));
       }
 
-  pub next_memory : Steps g k true (set (set (set g j 0) (j - 1) (get_or g (j - 1) 0 + 1)) k (get_or g j 0 - 1))
+  pub next_memory : Steps g k (Some (set (set (set g j 0) (j - 1) (get_or g (j - 1) 0 + 1)) k (get_or g j 0 - 1)))
   next_memory =
       let y = get_or g (j - 1) 0 + 1 in
       record {
         follows = next_follows;
         behind = drop-set-lt (k + 1) (set (set g j 0) (j - 1) y) k (get_or g j 0 - 1) (omega arith) ∙
             drop-set-lt (k + 1) (set g j 0) (j - 1) y (omega arith) ∙ drop-set-lt (k + 1) g j 0 (omega arith);
-        stays = λ (q : true ≡ false). absurd (true_not_false q);
       }
 
--- the comparison of two vectors from component i on
+-- the comparison of two vectors of one length, from component i on
 
-abbrev pub least_from_lem : List ℕ → List ℕ → ℕ → ℕ → Bool
-least_from_lem g b k i = at_least (drop i (take (k + 1) g)) (drop i (take (k + 1) b))
-
-module _ (g b : List ℕ) (k i : ℕ) (lg : k < length g) (lb : k < length b) where
-  least_cons : i ≤ k → least_from_lem g b k i ≡ leb (get_or b i 0) (get_or g i 0) && least_from_lem g b k (i + 1)
+module _ (g b : List ℕ) (i : ℕ) (same : length g ≡ length b) where
+  least_cons : i < length b → at_least (drop i g) (drop i b) ≡ leb (get_or b i 0) (get_or g i 0) && at_least (drop (i + 1) g)
+      (drop (i + 1) b)
   unfolding at_least
   least_cons h =
-      let ng : i < length (take (k + 1) g) = omega (arith, taken_length g k lg) in
-      let nb : i < length (take (k + 1) b) = omega (arith, taken_length b k lb) in
-      rw (
-        drop-cons (take (k + 1) g) i 0 ng,
-        drop-cons (take (k + 1) b) i 0 nb,
-        add-one i,
-        get_or-take (k + 1) g i 0 (omega arith),
-        get_or-take (k + 1) b i 0 (omega arith),
-      ) refl
+      let l : i < length g = omega arith in
+      rw (drop-cons g i 0 l, drop-cons b i 0 h, add-one i) refl
 
-  pub least_fails : i ≤ k → get_or g i 0 < get_or b i 0 → least_from_lem g b k i ≡ false
+  pub least_fails : i < length b → get_or g i 0 < get_or b i 0 → at_least (drop i g) (drop i b) ≡ false
   least_fails h e = least_cons h ∙ rw (lt-leb (get_or b i 0) (get_or g i 0) e) refl
 
-  pub least_passes : i ≤ k → get_or b i 0 ≤ get_or g i 0 → least_from_lem g b k i ≡ least_from_lem g b k (i + 1)
+  pub least_passes : i < length b → get_or b i 0 ≤ get_or g i 0 →
+      at_least (drop i g) (drop i b) ≡ at_least (drop (i + 1) g) (drop (i + 1) b)
   least_passes h e = least_cons h ∙ rw (le-leb (get_or b i 0) (get_or g i 0) e) refl
 
-  pub least_end : k < i → least_from_lem g b k i ≡ true
+  pub least_end : length b ≤ i → at_least (drop i g) (drop i b) ≡ true
   unfolding at_least
   least_end h =
-      let ng : length (take (k + 1) g) ≤ i = omega (arith, taken_length g k lg) in
-      let nb : length (take (k + 1) b) ≤ i = omega (arith, taken_length b k lb) in
-      rw (drop_of_length-le (take (k + 1) g) ng, drop_of_length-le (take (k + 1) b) nb) refl
-
--- the comparison with one of the vectors that stand in one array, place by place
-pub part_at : (parts : List ℕ) (j i : ℕ) → get_or (drop (COMPONENTS * j) parts) i 0 ≡ get_or parts (COMPONENTS * j + i) 0
-part_at parts j i = get_or-drop (COMPONENTS * j) parts i 0
-
-pub part_room : (parts : List ℕ) (j : ℕ) → HasVectors parts (j + 1) → COMPONENTS ≤ length (drop (COMPONENTS * j) parts)
-part_room parts j h = omega (arith, length-drop (COMPONENTS * j) parts)
+      let l : length g ≤ i = omega arith in
+      rw (drop_of_length-le g l, drop_of_length-le b h) refl
 
 -- the test against the gap vectors from j on
 

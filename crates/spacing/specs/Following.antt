@@ -1,6 +1,7 @@
 -- The first spacing of a total, those that come after a spacing, and the next. Definitions only.
 -- The order is the lexicographic one (LexLaws).
-use Rattle.std.specs.Prelude.{ℕ, zero, suc, ◌+◌, ◌≡◌, Bool, false, cond, List, [], ◌∷◌, ◌++◌, map, length, take, drop}
+use Rattle.std.specs.Prelude.{ℕ, zero, suc, ◌+◌, ◌≡◌, Bool, true, false, cond, Option, Some, None, List, [], ◌∷◌, ◌++◌, map}
+use Rattle.std.specs.Prelude.{length, take, drop}
 use Rattle.cell.specs.Cell.{total, vectors}
 
 -- the lexicographically first vector with k + 1 components and total t: k zeros, and then t
@@ -28,9 +29,19 @@ pub record Follows (v : List ℕ) (found : Bool) (n : List ℕ) : Type 0 where
   pub rest : later v ≡ cond found (n ∷ later n) []
   pub same_total : total n ≡ total v
 
+-- whether a spacing was found
+abbrev pub was_found : Option (List ℕ) → Bool
+was_found None = false
+was_found (Some n) = true
+
+-- the array that was found, or g
+abbrev pub found_or : List ℕ → Option (List ℕ) → List ℕ
+found_or g None = g
+found_or g (Some n) = n
+
 -- The arrays g and n hold spacings of k + 1 components: n the one that comes next after that of g,
--- and where there is none, n is g. Behind the spacing n has what g has.
-pub record Steps (g : List ℕ) (k : ℕ) (found : Bool) (n : List ℕ) : Type 0 where
-  pub follows : Follows (take (k + 1) g) found (take (k + 1) n)
-  pub behind : drop (k + 1) n ≡ drop (k + 1) g
-  pub stays : found ≡ false → n ≡ g
+-- where one comes next; and where there is none, nothing is found, and n is g. Behind the spacing n
+-- has what g has.
+pub record Steps (g : List ℕ) (k : ℕ) (next : Option (List ℕ)) : Type 0 where
+  pub follows : Follows (take (k + 1) g) (was_found next) (take (k + 1) (found_or g next))
+  pub behind : drop (k + 1) (found_or g next) ≡ drop (k + 1) g

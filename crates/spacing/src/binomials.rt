@@ -5,7 +5,7 @@ ghost use Rattle.word.specs.Ceilings.{LENGTH, COLUMNS};
 ghost use Rattle.cell.specs.Binomial.{binomial};
 ghost use Rattle.spacing.specs.Pascal.{PascalTo, Pascal};
 
-use word::limits::{COLUMNS, COUNTS, LENGTH};
+use word::limits::{COLUMNS, COUNTS};
 
 // The binomials of all rows.
 pub const BINOMIALS: usize = COUNTS * COLUMNS;
@@ -15,10 +15,8 @@ pub fn binomials() -> [usize; BINOMIALS]
     ensures { Pascal result }
 {
     let mut b = [0usize; BINOMIALS];
-    let mut n: usize = 0;
-    while n <= LENGTH {
+    for n in 0..COUNTS {
         fill_row(&mut b, n);
-        n += 1;
     }
     b
 }
@@ -28,11 +26,9 @@ fn fill_row(b: &mut [usize], n: usize)
     requires { (n ≤ LENGTH) × PascalTo n 0 b.old }
     ensures { PascalTo (n + 1) 0 b.new }
 {
-    let mut k: usize = 0;
-    while k < COLUMNS {
+    for k in 0..COLUMNS {
         let x = pascal_sum(b, n, k);
         b[COLUMNS * n + k] = x;
-        k += 1;
     }
 }
 

@@ -9,7 +9,7 @@ ghost use Rattle.std.specs.Prelude.{◌≡◌, suc, ◌+◌, ◌<◌, ◌≤◌,
 ghost use Rattle.word.specs.Ceilings.{DIGITS, COMPONENTS};
 ghost use Rattle.word.specs.Lists.{keep};
 ghost use Rattle.cell.specs.Cell.{total, at_least, free, vectors, compared_to};
-ghost use Rattle.forms.specs.GapRows.{vector_at, gaps_of, HasVectors};
+ghost use Rattle.forms.specs.GapRows.{gaps_of, HasVectors};
 ghost use Rattle.spacing.specs.Following.{first_vector, Steps};
 
 use word::limits::COMPONENTS;
@@ -24,32 +24,36 @@ pub fn first_spacing(k: usize, t: u8) -> [u8; COMPONENTS]
     g
 }
 
-// Whether a spacing comes after another, and the next one; the same one where there is none.
-#[derive(Clone, Copy)]
-pub struct Next {
-    pub found: bool,
-    pub g: [u8; COMPONENTS],
-}
-
-// The spacing that comes next: the last component that is not 0 gives one to the component before
-// it, and the rest of it goes to the end.
-pub fn next_spacing(g: [u8; COMPONENTS], k: usize) -> Next
+// The spacing that comes next, if any: the last component that is not 0 gives one to the component
+// before it, and the rest of it goes to the end.
+pub fn next_spacing(g: [u8; COMPONENTS], k: usize) -> Option<[u8; COMPONENTS]>
     requires { (k < COMPONENTS) × (total (take (k + 1) g) < 256) }
-    ensures { Steps g k result.found result.g }
+    ensures { Steps g k result }
 {
-    let mut j = k;
-    while 0 < j {
+    for j in (1..k + 1).rev() {
         let r = g[j];
         if r != 0 {
             let mut n = g;
             n[j] = 0;
             n[j - 1] = g[j - 1] + 1;
             n[k] = r - 1;
-            return Next { found: true, g: n };
+            return Some(n);
         }
-        j -= 1;
     }
-    Next { found: false, g: g }
+    None
+}
+
+// Whether g is at least b in each component; they have equally many.
+fn reaches(g: &[u8], b: &[u8]) -> bool
+    requires { length g.now ≡ length b.now }
+    ensures { result ≡ at_least g.now b.now }
+{
+    for p in 0..b.len() {
+        if g[p] < b[p] {
+            return false;
+        }
+    }
+    true
 }
 
 // Whether g is at least b in each of its k + 1 components.
@@ -57,30 +61,7 @@ pub fn at_least(g: [u8; COMPONENTS], b: [u8; COMPONENTS], k: usize) -> bool
     requires { k < COMPONENTS }
     ensures { result ≡ at_least (take (k + 1) g) (take (k + 1) b) }
 {
-    let mut i: usize = 0;
-    while i <= k {
-        if g[i] < b[i] {
-            return false;
-        }
-        i += 1;
-    }
-    true
-}
-
-// Whether g is at least the gap vector with index j in each of its k + 1 components.
-fn at_least_gap(g: [u8; COMPONENTS], gaps: &[u8], j: usize, k: usize) -> bool
-    requires { (k < COMPONENTS) × HasVectors gaps.now (j + 1) }
-    ensures { result ≡ at_least (take (k + 1) g) (vector_at gaps.now (k + 1) j) }
-{
-    let at = COMPONENTS * j;
-    let mut p: usize = 0;
-    while p <= k {
-        if g[p] < gaps[at + p] {
-            return false;
-        }
-        p += 1;
-    }
-    true
+    reaches(&g[..k + 1], &b[..k + 1])
 }
 
 // Whether g is at least none of the first n gap vectors.
@@ -88,12 +69,11 @@ pub fn is_free(gaps: &[u8], n: usize, k: usize, g: [u8; COMPONENTS]) -> bool
     requires { (k < COMPONENTS) × HasVectors gaps.now n }
     ensures { result ≡ free (gaps_of gaps.now (k + 1) n) (take (k + 1) g) }
 {
-    let mut j: usize = 0;
-    while j < n {
-        if at_least_gap(g, gaps, j, k) {
+    for j in 0..n {
+        let at = COMPONENTS * j;
+        if reaches(&g[..k + 1], &gaps[at..at + k + 1]) {
             return false;
         }
-        j += 1;
     }
     true
 }
@@ -109,11 +89,10 @@ fn free_count(gaps: &[u8], n: usize, k: usize, t: u8) -> usize
         if is_free(gaps, n, k, g) {
             count += 1;
         }
-        let next = next_spacing(g, k);
-        if !next.found {
+        let Some(next) = next_spacing(g, k) else {
             return count;
-        }
-        g = next.g;
+        };
+        g = next;
     }
 }
 
@@ -124,10 +103,8 @@ pub fn compared_count(m: usize, k: usize, gaps: &[u8], n: usize) -> usize
     ensures { result ≡ length (compared_to m k (gaps_of gaps.now (k + 1) n)) }
 {
     let mut count: usize = 0;
-    let mut t: usize = 0;
-    while t + 1 <= m {
+    for t in 0..m {
         count += free_count(gaps, n, k, t as u8);
-        t += 1;
     }
     count
 }

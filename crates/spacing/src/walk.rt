@@ -1,5 +1,5 @@
 // The rank of a spacing, and the spacing that comes next by rank.
-ghost use Rattle.std.specs.Prelude.{◌≡◌, ◌+◌, ◌≤◌, ◌<◌, length, take};
+ghost use Rattle.std.specs.Prelude.{◌≡◌, ◌+◌, ◌≤◌, length, take};
 ghost use Rattle.word.specs.Ceilings.{PREFIX, COMPONENTS, LENGTH};
 ghost use Rattle.cell.specs.Cell.{total, merge_values};
 ghost use Rattle.spacing.specs.Sizes.{RANKS};
@@ -8,7 +8,6 @@ ghost use Rattle.spacing.specs.Rank.{rank_after, rank_of, next_of};
 ghost use Rattle.spacing.specs.Pascal.{Pascal};
 
 use crate::binomials::choose;
-use word::bytes::wide;
 use word::limits::COMPONENTS;
 
 // The rank of the spacing, where `start` values more come before its values: each is then counted
@@ -17,16 +16,14 @@ pub fn rank_after(g: [u8; COMPONENTS], k: usize, start: usize, b: &[usize]) -> u
     requires { (k ≤ PREFIX) × (start ≤ 1) × (k + total (take (k + 1) g) ≤ LENGTH) × Pascal b.now }
     ensures { (result ≡ rank_after start 0 (take (k + 1) g)) × (result ≤ RANKS) }
 {
-    let mut z = wide(g[0]);
+    let mut z = usize::from(g[0]);
     let mut count = start;
     let mut rank: usize = 0;
-    let mut t: usize = 1;
-    while t <= k {
-        let y = wide(g[t]);
+    for t in 1..k + 1 {
+        let y = usize::from(g[t]);
         count += 1;
         rank += choose(b, z, count);
         z = z + 1 + y;
-        t += 1;
     }
     rank
 }
@@ -37,20 +34,18 @@ pub fn rank_without(g: [u8; COMPONENTS], k: usize, gone: [u8; COMPONENTS], b: &[
     requires { (k ≤ PREFIX) × (k + total (take (k + 1) g) ≤ LENGTH) × Pascal b.now }
     ensures { (result ≡ rank_of (merge_values (flagged gone k) (take (k + 1) g))) × (result ≤ RANKS) }
 {
-    let mut z = wide(g[0]);
+    let mut z = usize::from(g[0]);
     let mut count: usize = 0;
     let mut rank: usize = 0;
-    let mut v: usize = 1;
-    while v <= k {
-        let y = wide(g[v]);
-        if gone[v] != 0 {
+    for v in 1..k + 1 {
+        let y = usize::from(g[v]);
+        let flag = gone[v];
+        if flag != 0 {
             z += y;
-            v += 1;
         } else {
             count += 1;
             rank += choose(b, z, count);
             z = z + 1 + y;
-            v += 1;
         }
     }
     rank
@@ -64,15 +59,13 @@ pub fn next_cell(g: &mut [u8], k: usize)
 {
     let first = g[0];
     g[0] = 0;
-    let mut i: usize = 1;
-    while i <= k {
+    for i in 1..k + 1 {
         let y = g[i];
         if y != 0 {
             g[i] = y - 1;
             g[i - 1] = first + 1;
             return;
         }
-        i += 1;
     }
     g[k] = first;
 }

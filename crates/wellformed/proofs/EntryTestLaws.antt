@@ -9,7 +9,7 @@ use native.Mathlib.Numerals.{add-one}
 use native.Mathlib.Omega.{arith}
 use lib.Dec.{leb, ltb, eqb}
 use lib.ListN.{length, get_or, take, drop, drop_of_length-le}
-use lib.Seq.{length-take-le, drop-cons, get_or-take}
+use lib.Seq.{drop-cons, get_or-take}
 use borrow.Author.Tests.{ltb-false, lt-ltb, le-ltb, le-leb, lt-leb, eq-eqb, ne_eqb}
 use Rattle.word.specs.Ceilings.{ENTRIES, PREFIX, COMPONENTS, GAPS, TOTAL}
 use Rattle.word.specs.Lists.{any, row}
@@ -30,7 +30,7 @@ use Rattle.forms.specs.declared.memory.Rule.{Rule}
 use Rattle.forms.specs.declared.memory.Rule.TheVariants.{Delete}
 use Rattle.forms.specs.declared.memory.Entry.{Entry}
 use Rattle.forms.specs.declared.memory.Scheme.{Scheme}
-use Rattle.forms.specs.declared.memory.Fault.TheVariants.{Clean}
+use Rattle.std.specs.Prelude.{Ok}
 use Rattle.scheme.specs.TestLaws.{from, first_clean, any_clean, or_left, or_right, length_items, first_start, any_start, single, clean_of}
 use Rattle.forms.specs.MemoryLaws.{padded_within, length_padded, padded_zero}
 
@@ -118,35 +118,33 @@ module _ (k : ℕ) (rule : Rule) (d : Positions) (told : rule ≡ Delete d) wher
       go true e = refl
       go false e =
           let inside = positions_inside k (positions_in d) (sym (ap (λ (x : Rule). outside k (does_of x)) told) ∙ e) in
-          absurd (true_not_false (sym inside ∙ padded_zero (within k) d.count (six_of d) refl h))
+          absurd (true_not_false (sym inside ∙ padded_zero (within k) d.count (six_of d) refl
+          (omega (arith, length_padded PREFIX d.positions))))
 
   pub outside_rises : (d.count ≡ 0 → ⊥) → d.count ≤ PREFIX → outside k (does_of rule) ≡ astray k 0 (take d.count (six_of d))
   outside_rises n h =
-      rw (told, size, ne_eqb d.count 0 n) (ap (astray k 0) (padded_within d.count (six_of d) h))
+      rw (told, size, ne_eqb d.count 0 n) (ap (astray k 0)
+      (padded_within d.count (six_of d) (omega (arith, length_padded PREFIX d.positions))))
 
 -- the positions from i on, behind the position a
-module _ (k : ℕ) (l : List ℕ) (n : ℕ) (h : n ≤ length l) where
+module _ (k : ℕ) (l : List ℕ) where
   abbrev pub astray_from : ℕ → ℕ → Bool
-  astray_from a i = astray k a (drop i (take n l))
+  astray_from a i = astray k a (drop i l)
 
-  step : (a i : ℕ) → i < n → astray_from a i ≡ (leb (get_or l i 0) a || ltb k (get_or l i 0)) || astray_from (get_or l i 0) (i + 1)
-  step a i b =
-      let long : i < length (take n l) = omega (arith, length-take-le n l h) in
-      rw (drop-cons (take n l) i 0 long, get_or-take n l i 0 b, add-one i) refl
+  step : (a i : ℕ) → i < length l → astray_from a i ≡ (leb (get_or l i 0) a || ltb k (get_or l i 0)) || astray_from (get_or l i 0) (i + 1)
+  step a i b = rw (drop-cons l i 0 b, add-one i) refl
 
-  pub falls_here : (a i : ℕ) → i < n → get_or l i 0 ≤ a → astray_from a i ≡ true
+  pub falls_here : (a i : ℕ) → i < length l → get_or l i 0 ≤ a → astray_from a i ≡ true
   falls_here a i b e = step a i b ∙ rw (le-leb (get_or l i 0) a e) refl
 
-  pub beyond_here : (a i : ℕ) → i < n → a < get_or l i 0 → k < get_or l i 0 → astray_from a i ≡ true
+  pub beyond_here : (a i : ℕ) → i < length l → a < get_or l i 0 → k < get_or l i 0 → astray_from a i ≡ true
   beyond_here a i b e f = step a i b ∙ rw (lt-leb (get_or l i 0) a e, lt-ltb k (get_or l i 0) f) refl
 
-  pub rises_here : (a i : ℕ) → i < n → a < get_or l i 0 → get_or l i 0 ≤ k → astray_from a i ≡ astray_from (get_or l i 0) (i + 1)
+  pub rises_here : (a i : ℕ) → i < length l → a < get_or l i 0 → get_or l i 0 ≤ k → astray_from a i ≡ astray_from (get_or l i 0) (i + 1)
   rises_here a i b e f = step a i b ∙ rw (lt-leb (get_or l i 0) a e, le-ltb k (get_or l i 0) f) refl
 
-  pub rises_to_end : (a i : ℕ) → n ≤ i → astray_from a i ≡ false
-  rises_to_end a i b =
-      let short : length (take n l) ≤ i = omega (arith, length-take-le n l h) in
-      rw (drop_of_length-le (take n l) short) refl
+  pub rises_to_end : (a i : ℕ) → length l ≤ i → astray_from a i ≡ false
+  rises_to_end a i b = rw (drop_of_length-le l b) refl
 
 pub outside_length : (n : ℕ) (l : List ℕ) (d : Does) → outside (length (padded n l)) d ≡ outside n d
 outside_length n l d = rw (length_padded n l) refl
@@ -190,7 +188,7 @@ sized_entry e h =
     }
 
 -- a scheme in which test 2 finds nothing lies within the ceilings
-pub sized_of_clean : (s : Scheme) → Clean ≡ fault_of (large_finding (scheme_in s)) → Sized s
+pub sized_of_clean : (s : Scheme) → Ok tt ≡ fault_of (large_finding (scheme_in s)) → Sized s
 sized_of_clean s h =
     let parts = clean_test (ltb ENTRIES (length (scheme_in s))) (first_at Oversize large_entry 0 (scheme_in s))
     (clean_of (large_finding (scheme_in s)) (sym h)) in

@@ -11,28 +11,27 @@ use Rattle.word.specs.Finding.{Finding, clean, fault, test, first_fault}
 use Rattle.word.specs.declared.refusal.Refusal.TheVariants.{Oversize}
 use Rattle.forms.specs.SchemeList.{EntryList}
 use Rattle.scheme.specs.WellFormed.{first_at, large_entry, scheme_tests}
-use Rattle.forms.specs.SchemeMemory.{scheme_in, fault_of, or_else, faulty}
+use Rattle.forms.specs.SchemeMemory.{Fault, scheme_in, fault_of, or_else, faulty}
 use Rattle.scheme.specs.TestOrder.{size_tests, entry_tests, link_tests}
 use Rattle.scheme.specs.WellFormed.{permutation_test, twin_test, root_test, width_test, position_test}
 use Rattle.scheme.specs.Sized.{Sized}
 use Rattle.scheme.specs.TestLaws.{single, clean_cons, clean_of}
 use Rattle.scheme.specs.Links.{Linked}
-use Rattle.forms.specs.declared.memory.Fault.{Fault}
-use Rattle.forms.specs.declared.memory.Fault.TheVariants.{Clean, At}
+use Rattle.std.specs.Prelude.{Ok, Err}
 use Rattle.forms.specs.declared.memory.Scheme.{Scheme}
 use Rattle.scheme.proofs.LookupLaws.{linked_clean}
 
 pub or_else_fault : (a b : Fault) → faulty a ≡ true → or_else a b ≡ a
-or_else_fault Clean b e = absurd (true≢false (sym e))
-or_else_fault (At r i) b e = refl
+or_else_fault (Ok u) b e = absurd (true≢false (sym e))
+or_else_fault (Err d) b e = refl
 
 pub or_else_clean : (a b : Fault) → faulty a ≡ false → or_else a b ≡ b
-or_else_clean Clean b e = refl
-or_else_clean (At r i) b e = absurd (true≢false e)
+or_else_clean (Ok u) b e = refl
+or_else_clean (Err d) b e = absurd (true≢false e)
 
-pub not_faulty : (a : Fault) → faulty a ≡ false → a ≡ Clean
-not_faulty Clean e = refl
-not_faulty (At r i) e = absurd (true≢false e)
+pub not_faulty : (a : Fault) → faulty a ≡ false → a ≡ Ok tt
+not_faulty (Ok u) e = refl
+not_faulty (Err d) e = absurd (true≢false e)
 
 -- the first fault of a list of findings, in memory
 pub faults_cons : (x : Finding) (l : List Finding) → fault_of (first_fault (x ∷ l)) ≡ or_else (fault_of x) (fault_of (first_fault l))
@@ -93,8 +92,8 @@ clean_ends a b c d x e =
     (p, clean_second d x h)
 
 -- what the tests 2 to 7 leave to the tests 8 and 9
-pub linked_of_clean : (s : Scheme) → Sized s → fault_of (first_fault (size_tests (scheme_in s))) ≡ Clean →
-    fault_of (first_fault (entry_tests (scheme_in s))) ≡ Clean → Linked s
+pub linked_of_clean : (s : Scheme) → Sized s → fault_of (first_fault (size_tests (scheme_in s))) ≡ Ok tt →
+    fault_of (first_fault (entry_tests (scheme_in s))) ≡ Ok tt → Linked s
 linked_of_clean s h a b =
     let E = scheme_in s in
     let large = clean_second (test Oversize (ltb ENTRIES (length E))) (first_at Oversize large_entry 0 E)

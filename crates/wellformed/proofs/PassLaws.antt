@@ -15,12 +15,11 @@ use Rattle.word.specs.declared.refusal.Refusal.TheVariants.{Oversize, NoPermutat
 use Rattle.word.specs.Lists.{any}
 use Rattle.cell.specs.Basis.{same}
 use Rattle.forms.specs.SchemeList.{EntryList}
-use Rattle.forms.specs.SchemeMemory.{entry_at, scheme_in, fault_of, or_else, fault_if}
+use Rattle.forms.specs.SchemeMemory.{Fault, entry_at, scheme_in, fault_of, or_else, fault_if}
 use Rattle.forms.specs.Codes.{IsCode, Codes}
 use Rattle.forms.specs.CodeLaws.{code_same, codes_made}
 use Rattle.forms.specs.MemoryLaws.{rows_more}
 use Rattle.forms.specs.declared.memory.Scheme.{Scheme}
-use Rattle.forms.specs.declared.memory.Fault.{Fault}
 use Rattle.scheme.specs.WellFormed.{first_at, listed, repeats, large_entry, twin_entry, wrong_width}
 use Rattle.scheme.specs.TestOrder.{seen}
 use Rattle.scheme.specs.WellFormed.{permutation_test, twin_test, width_test, position_test}

@@ -1,15 +1,13 @@
 -- What the pass over all entries has in hand: the tests of one entry, and the findings so far.
 -- Definitions only.
-use Rattle.std.specs.Prelude.{ℕ, ◌≡◌, Bool, not, ◌||◌, List, [], length, get_or, eqb}
+use Rattle.std.specs.Prelude.{Ok, ℕ, ◌≡◌, Bool, not, ◌||◌, List, [], length, get_or, eqb}
 use Rattle.word.specs.Lists.{any}
 use Rattle.word.specs.Word.{is_perm}
 use Rattle.word.specs.Finding.{test}
 use Rattle.word.specs.declared.refusal.Refusal.TheVariants.{NoPermutation, Repeated, Rootless, Width, NoPosition}
 use Rattle.forms.specs.SchemeList.{EntryList}
-use Rattle.forms.specs.SchemeMemory.{fault_of, or_else, fault_if}
+use Rattle.forms.specs.SchemeMemory.{Fault, fault_of, or_else, fault_if}
 use Rattle.forms.specs.Codes.{Codes}
-use Rattle.forms.specs.declared.memory.Fault.{Fault}
-use Rattle.forms.specs.declared.memory.Fault.TheVariants.{Clean}
 use Rattle.scheme.specs.WellFormed.{listed, repeats, wrong_width, outside}
 use Rattle.scheme.specs.TestOrder.{seen}
 use Rattle.scheme.specs.WellFormed.{permutation_test, twin_test, width_test, position_test}
@@ -31,7 +29,7 @@ misplaced e = outside (length e.prefix) e.rule
 
 -- no findings
 abbrev pub no_faults : EntryFaults
-no_faults = record { none = Clean; twin = Clean; width = Clean; position = Clean }
+no_faults = record { none = Ok tt; twin = Ok tt; width = Ok tt; position = Ok tt }
 
 -- the findings with those of one entry more
 pub record WithEntry (f : EntryFaults) (codes : List ℕ) (e : EntryList) (i : ℕ) (r : EntryFaults) : Type 0 where

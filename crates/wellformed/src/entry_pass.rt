@@ -5,19 +5,18 @@ ghost use Rattle.scheme.specs.Sized.{SizedEntry};
 ghost use Rattle.wellformed.specs.EntryPass.{no_faults, earlier_code, twin_by, WithEntry, RootFault};
 
 use crate::entry_tests::{has_twin_gaps, is_outside, is_permuted, wrong_width};
-use forms::memory::{Entry, Fault};
+use forms::memory::Entry;
 use forms::order::noted;
 use scheme::links::has_entry;
-use word::limits::PREFIX;
-use word::refusal::Refusal;
+use word::refusal::{Refusal, Refused};
 
 // What the tests 3, 4, 6 and 7 find: the first entry at fault of each.
 #[derive(Clone, Copy)]
 pub struct EntryFaults {
-    pub none: Fault,
-    pub twin: Fault,
-    pub width: Fault,
-    pub position: Fault,
+    pub none: Result<(), Refused>,
+    pub twin: Result<(), Refused>,
+    pub width: Result<(), Refused>,
+    pub position: Result<(), Refused>,
 }
 
 // No findings.
@@ -25,10 +24,10 @@ pub fn no_faults() -> EntryFaults
     ensures { result ≡ no_faults }
 {
     EntryFaults {
-        none: Fault::Clean,
-        twin: Fault::Clean,
-        width: Fault::Clean,
-        position: Fault::Clean,
+        none: Ok(()),
+        twin: Ok(()),
+        width: Ok(()),
+        position: Ok(()),
     }
 }
 
@@ -37,16 +36,15 @@ pub fn with_entry(found: EntryFaults, codes: &[u64], e: Entry, i: usize) -> Entr
     requires { SizedEntry e × (i < length codes.now) }
     ensures { WithEntry found codes.now (entry_in e) i result }
 {
-    let k = e.length;
-    let rule = e.rule;
-    let a = found.none;
-    let b = found.twin;
-    let c = found.width;
-    let d = found.position;
-    let none = noted(a, !is_permuted(e), Refusal::NoPermutation, i);
-    let twin = noted(b, is_twin(codes, i, e), Refusal::Repeated, i);
-    let width = noted(c, wrong_width(e), Refusal::Width, i);
-    let position = noted(d, is_outside(k, rule), Refusal::NoPosition, i);
+    let none = noted(found.none, !is_permuted(e), Refusal::NoPermutation, i);
+    let twin = noted(found.twin, is_twin(codes, i, e), Refusal::Repeated, i);
+    let width = noted(found.width, wrong_width(e), Refusal::Width, i);
+    let position = noted(
+        found.position,
+        is_outside(e.length, e.rule),
+        Refusal::NoPosition,
+        i,
+    );
     EntryFaults {
         none,
         twin,
@@ -61,10 +59,7 @@ fn is_twin(codes: &[u64], i: usize, e: Entry) -> bool
     requires { SizedEntry e × (i < length codes.now) }
     ensures { result ≡ twin_by codes.now i (entry_in e) }
 {
-    if stands_before(codes, i) {
-        return true;
-    }
-    has_twin_gaps(e)
+    stands_before(codes, i) || has_twin_gaps(e)
 }
 
 // Whether the code with index i stands before that index.
@@ -73,9 +68,7 @@ fn stands_before(codes: &[u64], i: usize) -> bool
     ensures { result ≡ earlier_code codes.now i }
 {
     let code = codes[i];
-    let mut j = i;
-    while 0 < j {
-        j -= 1;
+    for j in (0..i).rev() {
         if code == codes[j] {
             return true;
         }
@@ -84,11 +77,11 @@ fn stands_before(codes: &[u64], i: usize) -> bool
 }
 
 // Test 5: whether no entry has the empty prefix.
-pub fn root_fault(codes: &[u64]) -> Fault
+pub fn root_fault(codes: &[u64]) -> Result<(), Refused>
     ensures { RootFault codes.now result }
 {
-    if has_entry(codes, [0u8; PREFIX], 0) {
-        return Fault::Clean;
+    if has_entry(codes, &[]) {
+        return Ok(());
     }
-    Fault::At(Refusal::Rootless, 0)
+    Err(Refusal::Rootless.at(0))
 }

@@ -1,5 +1,5 @@
 // The tests 2, 3, 4, 6 and 7 of one entry in memory.
-ghost use Rattle.std.specs.Prelude.{◌-◌, ◌≤◌, ◌≡◌, map, take};
+ghost use Rattle.std.specs.Prelude.{◌-◌, ◌≤◌, ◌≡◌, map};
 ghost use Rattle.word.specs.Ceilings.{PREFIX, COMPONENTS};
 ghost use Rattle.word.specs.Lists.{row};
 ghost use Rattle.word.specs.Word.{is_perm};
@@ -9,10 +9,7 @@ ghost use Rattle.forms.specs.SchemeMemory.{padded, gap_in, gap_at, does_of, entr
 ghost use Rattle.scheme.specs.Sized.{SizedEntry};
 
 use forms::gaps::entry_gap;
-use forms::lists::same_bytes;
 use forms::memory::{Entry, Gap, Rule};
-use forms::positions::six_of;
-use word::bytes::wide;
 use word::limits::{COMPONENTS, GAPS, PREFIX, TOTAL};
 use word::permutation::is_permutation;
 
@@ -28,13 +25,11 @@ pub fn large_entry(e: Entry) -> bool
     if GAPS < n {
         return true;
     }
-    let mut j: usize = 0;
-    while j < n {
+    for j in 0..n {
         let b = entry_gap(e, j);
         if large_gap(b) {
             return true;
         }
-        j += 1;
     }
     false
 }
@@ -48,13 +43,11 @@ fn large_gap(b: Gap) -> bool
         return true;
     }
     let mut sum: usize = 0;
-    let mut i: usize = 0;
-    while i < n {
-        sum += wide(b.parts[i]);
+    for i in 0..n {
+        sum += usize::from(b.parts[i]);
         if TOTAL < sum {
             return true;
         }
-        i += 1;
     }
     false
 }
@@ -64,9 +57,7 @@ pub fn is_permuted(e: Entry) -> bool
     requires { SizedEntry e }
     ensures { result ≡ is_perm (padded e.length e.prefix) }
 {
-    let k = e.length;
-    let p = e.prefix;
-    is_permutation(&p[..k])
+    is_permutation(&e.prefix[..e.length])
 }
 
 // Whether a vector stands twice in the entry.
@@ -75,13 +66,11 @@ pub fn has_twin_gaps(e: Entry) -> bool
     ensures { result ≡ repeats (map (gap_at e) (row 0 e.gap_count)) }
 {
     let n = e.gap_count;
-    let mut j: usize = 0;
-    while j < n {
+    for j in 0..n {
         let b = entry_gap(e, j);
         if stands_from(e, j + 1, b) {
             return true;
         }
-        j += 1;
     }
     false
 }
@@ -92,13 +81,11 @@ fn stands_from(e: Entry, start: usize, b: Gap) -> bool
     ensures { result ≡ listed (map (gap_at e) (row start (e.gap_count - start))) (gap_in b) }
 {
     let n = e.gap_count;
-    let mut j = start;
-    while j < n {
+    for j in start..n {
         let d = entry_gap(e, j);
         if same_gap(b, d) {
             return true;
         }
-        j += 1;
     }
     false
 }
@@ -108,11 +95,7 @@ fn same_gap(b: Gap, d: Gap) -> bool
     requires { (b.width ≤ COMPONENTS) × (d.width ≤ COMPONENTS) }
     ensures { result ≡ same (gap_in b) (gap_in d) }
 {
-    let k = b.width;
-    let p = b.parts;
-    let n = d.width;
-    let q = d.parts;
-    same_bytes(&p[..k], &q[..n])
+    b.parts[..b.width] == d.parts[..d.width]
 }
 
 // Whether a vector of the entry has another number of components than one more than the prefix has.
@@ -122,13 +105,11 @@ pub fn wrong_width(e: Entry) -> bool
 {
     let k = e.length;
     let n = e.gap_count;
-    let mut j: usize = 0;
-    while j < n {
-        let w = wide(e.widths[j]);
+    for j in 0..n {
+        let w = usize::from(e.widths[j]);
         if w != k + 1 {
             return true;
         }
-        j += 1;
     }
     false
 }
@@ -140,27 +121,25 @@ pub fn is_outside(k: usize, rule: Rule) -> bool
     match rule {
         Rule::Expand => false,
         Rule::Delete(d) => {
-            let n = wide(d.count);
+            let n = usize::from(d.count);
             if n == 0 {
                 return true;
             }
             if PREFIX < n {
                 return true;
             }
-            is_astray(k, six_of(d), n)
+            is_astray(k, d.as_slice())
         }
     }
 }
 
-// Whether one of the first n positions is not above the one before it, or is above k.
-fn is_astray(k: usize, positions: [u8; PREFIX], n: usize) -> bool
-    requires { n ≤ PREFIX }
-    ensures { result ≡ astray k 0 (take n positions) }
+// Whether one of the positions is not above the one before it, or is above k.
+fn is_astray(k: usize, positions: &[u8]) -> bool
+    ensures { result ≡ astray k 0 positions.now }
 {
     let mut last: usize = 0;
-    let mut t: usize = 0;
-    while t < n {
-        let r = wide(positions[t]);
+    for t in 0..positions.len() {
+        let r = usize::from(positions[t]);
         if r <= last {
             return true;
         }
@@ -168,7 +147,6 @@ fn is_astray(k: usize, positions: [u8; PREFIX], n: usize) -> bool
             return true;
         }
         last = r;
-        t += 1;
     }
     false
 }

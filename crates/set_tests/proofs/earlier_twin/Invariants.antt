@@ -1,5 +1,5 @@
--- The invariant and the measure of the loop of `set_tests::earlier_twin`.
-use Prim.Native.Nat.{ℕ, ◌≤◌}
+-- The invariant of the loop of `set_tests::earlier_twin`.
+use Prim.Native.Nat.{ℕ}
 use mathlib.Core.Path.{◌≡◌}
 use mathlib.Core.Bool.{Bool}
 use Rattle.cell.specs.Basis.{same}
@@ -13,7 +13,4 @@ abbrev pub twin : Patterns → ℕ → ℕ → Bool
 twin s i j = same (place_in s i) (place_in s j)
 
 abbrev pub invariant-loop-j : goal.invariant-loop-j
-invariant-loop-j l = (nearest_twin (twin l.s l.i) l.i ≡ nearest_below (twin l.s l.i) l.i l.j) × (l.j ≤ l.i)
-
-abbrev pub decreases-loop-j : goal.decreases-loop-j
-decreases-loop-j l = l.j
+invariant-loop-j l = nearest_twin (twin l.s l.i) l.i ≡ nearest_below (twin l.s l.i) l.i l.j

@@ -1,5 +1,4 @@
--- The invariant and the measure of the loop of `set_tests::first_twin`.
-use Prim.Native.Nat.{◌-◌}
+-- The invariant of the loop of `set_tests::first_twin`.
 use mathlib.Core.Path.{◌≡◌}
 use mathlib.Core.List.{[]}
 use Rattle.scheme.specs.WellFormed.{first_twin, listed}
@@ -10,6 +9,3 @@ use Rattle.set_tests.proofs.first_twin.Given as goal
 
 abbrev pub invariant-loop-i : goal.invariant-loop-i
 invariant-loop-i l = first_twin listed 0 [] (patterns_in l.s) ≡ twin_from listed (place_in l.s) l.s.count l.i
-
-abbrev pub decreases-loop-i : goal.decreases-loop-i
-decreases-loop-i l = l.n - l.i

@@ -11,7 +11,7 @@ use Rattle.spacing.proofs.compared_count.Goals as goal
 pub loop-t-init : goal.loop-t-init
 loop-t-init c =
     let a = c.args in
-    (omega arith, omega (arith, totals_start (free (gaps_of a.gaps.now (a.k + 1) a.n)) a.k a.m))
+    omega (arith, totals_start (free (gaps_of a.gaps.now (a.k + 1) a.n)) a.k a.m)
 
 pub overflow_add-count : goal.overflow_add-count
 overflow_add-count c =
@@ -19,14 +19,14 @@ overflow_add-count c =
     let l = c.loop-t in
     let f = free (gaps_of a.gaps.now (a.k + 1) a.n) in
     let most = totals_bound f a.k a.m (omega arith) (omega arith) in
-    omega (arith, most, l.invariant.1, totals_step f a.k a.m l.t (omega arith), c.free_count-count.ensures)
+    omega (arith, most, l.invariant, totals_step f a.k a.m l.t (omega arith), c.free_count-count.ensures)
 
 pub loop-t-preserved : goal.loop-t-preserved
 loop-t-preserved c =
     let a = c.args in
     let l = c.loop-t in
     let f = free (gaps_of a.gaps.now (a.k + 1) a.n) in
-    (omega arith, omega (arith, l.invariant.1, totals_step f a.k a.m l.t (omega arith), c.free_count-count.ensures))
+    omega (arith, l.invariant, totals_step f a.k a.m l.t (omega arith), c.free_count-count.ensures)
 
 pub returns : goal.returns
 unfolding compared_to
@@ -34,4 +34,4 @@ returns c =
     let a = c.args in
     let l = c.loop-t in
     let f = free (gaps_of a.gaps.now (a.k + 1) a.n) in
-    omega (arith, l.invariant.1, totals_end f a.k a.m l.t (omega arith))
+    omega (arith, l.invariant, totals_end f a.k a.m l.t (omega arith))

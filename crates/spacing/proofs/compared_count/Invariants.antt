@@ -1,5 +1,5 @@
--- The invariant and the measure of the loop of `spacing::compared_count`.
-use Prim.Native.Nat.{suc, ◌+◌, ◌-◌, ◌≤◌}
+-- The invariant of the loop of `spacing::compared_count`.
+use Prim.Native.Nat.{suc, ◌+◌}
 use mathlib.Core.Path.{◌≡◌}
 use Rattle.word.specs.Lists.{each, row}
 use Rattle.cell.specs.Cell.{free, vectors}
@@ -9,8 +9,5 @@ use Rattle.spacing.proofs.compared_count.Given as goal
 
 abbrev pub invariant-loop-t : goal.invariant-loop-t
 invariant-loop-t l =
-    (l.t ≤ l.m) × (l.count + from_total (free (gaps_of l.gaps (l.k + 1) l.n)) l.k l.m l.t ≡
-    passing (free (gaps_of l.gaps (l.k + 1) l.n)) (each (vectors (suc l.k)) (row 0 l.m)))
-
-abbrev pub decreases-loop-t : goal.decreases-loop-t
-decreases-loop-t l = l.m - l.t
+    l.count + from_total (free (gaps_of l.gaps (l.k + 1) l.n)) l.k l.m l.t ≡
+    passing (free (gaps_of l.gaps (l.k + 1) l.n)) (each (vectors (suc l.k)) (row 0 l.m))

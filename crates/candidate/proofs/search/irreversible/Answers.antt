@@ -1,109 +1,81 @@
 -- `candidate::search::irreversible` meets its contract: the totals before the one at hand have no
 -- violation, and the candidates decide the claim.
 -- Assumes nothing.
-use Prim.Native.Nat.{ℕ, ◌+◌}
-use mathlib.Core.Path.{◌≡◌, sym, ap, ◌∙◌}
-use borrow.Author.Rules.{rules}
-use native.Mathlib.Omega.{arith}
-use lib.ListN.{length, take}
+use Rattle.std.proofs.Common.{◌≡◌, ◌+◌, sym, ◌∙◌, rules, arith, length, take, refl}
 use lib.Seq.{length-take-le}
-use Rattle.word.specs.Lists.{all}
-use Rattle.word.specs.Word.{within}
-use Rattle.word.specs.Patterns.{patterns_of}
+use Rattle.std.proofs.lemmas.List.{length-map}
 use Rattle.forms.specs.GapRows.{gaps_of}
+use Rattle.forms.specs.SetMemory.{held, held_in}
 use Rattle.candidate.specs.Ready.{FlaggedFor}
-use Rattle.candidate.proofs.CandidateWalk.{lost, totals_start, totals_end, totals_here}
-use Rattle.candidate.proofs.CandidateWalk.{totals_later, entry_first, entry_answer}
+use Rattle.candidate.proofs.CandidateWalk.{lost, totals_start, totals_end, totals_here, totals_later, entry_first, entry_answer}
 use Rattle.candidate.proofs.search.irreversible.Goals as goal
+use Rattle.candidate.proofs.search.irreversible.Goals.{Start, After-deleted_values-gone}
+
+-- the length of the prefix
+wide : (start : Start) → length (take start.args.deletion.length start.args.deletion.prefix) ≡ start.args.deletion.length
+wide start =
+    let six : length start.args.deletion.prefix ≡ 6 = search rules in
+    length-take-le start.args.deletion.length start.args.deletion.prefix (omega (arith, start.requires.1))
+
+-- the deleted values are flagged
+flags : (c : After-deleted_values-gone) → let d = c.args.deletion in
+    FlaggedFor (held_in c.args.patterns.now) (take d.length d.prefix) (take d.position_count d.positions) c.deleted_values-gone.result
+flags c = (c.requires.5, c.deleted_values-gone.ensures)
 
 pub deleted_values-gone-requires : goal.deleted_values-gone-requires
-deleted_values-gone-requires c =
-    let a = c.args in
-    let six : length a.deletion.prefix ≡ 6 = search rules in
-    let wide : length (take a.deletion.length a.deletion.prefix) ≡ a.deletion.length =
-    length-take-le a.deletion.length a.deletion.prefix (omega (arith, c.requires.1)) in (
-      c.requires.1,
-      c.requires.2,
-      c.requires.5.perm,
-      ap (λ (n : ℕ). all (within n) (take a.deletion.position_count a.deletion.positions)) (sym wide) ∙
-          c.requires.5.inside,
-    )
+deleted_values-gone-requires c = (c.requires.5.short, c.requires.5.perm, c.requires.5.inside)
 
 pub loop-t-init : goal.loop-t-init
 loop-t-init c =
-    let a = c.args in (
-      c.requires.3,
-      omega arith,
-      λ R F. totals_start (lost
-          (gaps_of a.gaps.now (a.deletion.length + 1) a.deletion.gap_count)
-          (patterns_of a.set a.lengths a.count) (take a.deletion.length a.deletion.prefix) R)
-          a.deletion.length a.deletion.m,
-    )
+    let d = c.args.deletion in
+    λ R F. totals_start (lost (gaps_of c.args.gaps.now (d.length + 1) d.gap_count) (held_in c.args.patterns.now)
+    (take d.length d.prefix) R) d.length d.m
 
-pub total_violated-lost-requires : goal.total_violated-lost-requires
-total_violated-lost-requires c =
-    (c.requires.5.few, c.requires.1, omega (arith, c.loop-t.invariant.0), c.requires.0, c.requires.4)
+pub total_violated-requires : goal.total_violated-requires
+total_violated-requires c = (
+  omega (arith, length-map c.args.patterns.now held, c.requires.5.few),
+  c.requires.1,
+  omega (arith, c.requires.3),
+  c.requires.0,
+  c.requires.4,
+)
 
-pub returns-then-lost : goal.returns-then-lost
-returns-then-lost c =
-    let six-digits : length c.args.deletion.prefix ≡ 6 =
-    (let o = c.well_formed in search rules) in
-    let a = c.args in
-    let R = take a.deletion.position_count a.deletion.positions in
-    let P = patterns_of a.set a.lengths a.count in
-    let A = gaps_of a.gaps.now (a.deletion.length + 1) a.deletion.gap_count in
-    let G = c.requires.5 in
-    let six = six-digits in
-    let wide : length (take a.deletion.length a.deletion.prefix) ≡ a.deletion.length =
-    length-take-le a.deletion.length a.deletion.prefix (omega (arith, c.requires.1)) in
-    let F : FlaggedFor a.set a.lengths a.count (take a.deletion.length a.deletion.prefix) R
-    c.deleted_values-gone.result = (G, c.deleted_values-gone.ensures) in
+pub returns-in-Some : goal.returns-in-Some
+returns-in-Some c =
+    let d = c.args.deletion in
+    let p = take d.length d.prefix in
+    let R = take d.position_count d.positions in
+    let P = held_in c.args.patterns.now in
+    let A = gaps_of c.args.gaps.now (d.length + 1) d.gap_count in
+    let at = goal.at.returns-in-Some c in
+    let w = wide at.Start in
+    let F = flags at.After-deleted_values-gone in
     let l = c.loop-t in
-    let v = c.total_violated-lost in
-    let here = totals_here (lost A P (take a.deletion.length a.deletion.prefix) R) a.deletion.length
-    a.deletion.m l.t (omega arith) v.result (v.ensures R F (sym wide)) c.if-lost.true in
-    entry_answer a.deletion.m a.set a.lengths a.count (take a.deletion.length a.deletion.prefix) A R
-    a.deletion.length v.result G (sym wide)
-    (rw (entry_first P (take a.deletion.length a.deletion.prefix) A R a.deletion.length
-    a.deletion.m (sym wide) ∙ l.invariant.2 R F) here)
+    let here = totals_here (lost A P p R) d.length d.m l.t (omega arith) _ (c.in-Some.ensures R F (sym w)) refl in
+    entry_answer d.m P p A R d.length _ c.requires.5 (sym w)
+    (rw (entry_first P p A R d.length d.m (sym w) ∙ l.invariant R F) here)
 
 pub loop-t-preserved : goal.loop-t-preserved
 loop-t-preserved c =
-    let six-digits : length c.args.deletion.prefix ≡ 6 =
-    (let o = c.well_formed in search rules) in
-    let a = c.args in
-    let P = patterns_of a.set a.lengths a.count in
-    let A = gaps_of a.gaps.now (a.deletion.length + 1) a.deletion.gap_count in
+    let d = c.args.deletion in
+    let p = take d.length d.prefix in
+    let P = held_in c.args.patterns.now in
+    let A = gaps_of c.args.gaps.now (d.length + 1) d.gap_count in
     let l = c.loop-t in
-    let six = six-digits in
-    let wide : length (take a.deletion.length a.deletion.prefix) ≡ a.deletion.length =
-    length-take-le a.deletion.length a.deletion.prefix (omega (arith, c.requires.1)) in (
-      l.invariant.0,
-      omega arith,
-      λ R F. l.invariant.2 R F ∙
-          totals_later (lost A P (take a.deletion.length a.deletion.prefix) R) a.deletion.length
-          a.deletion.m l.t (omega arith) c.total_violated-lost.result
-          (c.total_violated-lost.ensures R F (sym wide)) c.if-lost.false,
-    )
+    let w = wide (goal.at.loop-t-preserved c).Start in
+    λ R F. l.invariant R F ∙ totals_later (lost A P p R) d.length d.m l.t (omega arith) _ (c.in_default.ensures R F (sym w)) refl
 
 pub returns : goal.returns
 returns c =
-    let six-digits : length c.args.deletion.prefix ≡ 6 =
-    (let o = c.well_formed in search rules) in
-    let a = c.args in
-    let R = take a.deletion.position_count a.deletion.positions in
-    let P = patterns_of a.set a.lengths a.count in
-    let A = gaps_of a.gaps.now (a.deletion.length + 1) a.deletion.gap_count in
-    let G = c.requires.5 in
-    let six = six-digits in
-    let wide : length (take a.deletion.length a.deletion.prefix) ≡ a.deletion.length =
-    length-take-le a.deletion.length a.deletion.prefix (omega (arith, c.requires.1)) in
-    let F : FlaggedFor a.set a.lengths a.count (take a.deletion.length a.deletion.prefix) R
-    c.deleted_values-gone.result = (G, c.deleted_values-gone.ensures) in
+    let d = c.args.deletion in
+    let p = take d.length d.prefix in
+    let R = take d.position_count d.positions in
+    let P = held_in c.args.patterns.now in
+    let A = gaps_of c.args.gaps.now (d.length + 1) d.gap_count in
+    let at = goal.at.returns c in
+    let w = wide at.Start in
+    let F = flags at.After-deleted_values-gone in
     let l = c.loop-t in
-    entry_answer a.deletion.m a.set a.lengths a.count (take a.deletion.length a.deletion.prefix) A R
-    a.deletion.length c.nothing_lost.result G (sym wide)
-    (rw (entry_first P (take a.deletion.length a.deletion.prefix) A R a.deletion.length
-    a.deletion.m (sym wide) ∙ l.invariant.2 R F ∙
-    totals_end (lost A P (take a.deletion.length a.deletion.prefix) R) a.deletion.length
-    a.deletion.m l.t (omega arith)) c.nothing_lost.ensures)
+    entry_answer d.m P p A R d.length _ c.requires.5 (sym w)
+    (rw (entry_first P p A R d.length d.m (sym w) ∙ l.invariant R F ∙
+    totals_end (lost A P p R) d.length d.m l.t (omega arith)) tt)

@@ -8,17 +8,20 @@ use mathlib.Core.List.{List}
 use native.Mathlib.Omega.{arith}
 use lib.ListN.{length}
 use Rattle.word.specs.Ceilings.{PREFIX}
-use Rattle.word.specs.Patterns.{patterns_of}
 use Rattle.forms.specs.SchemeMemory.{gap_at, entry_in}
 use Rattle.scheme.specs.TestLaws.{any_here, any_later, any_end}
 use Rattle.scheme.specs.EntryMemoryLaws.{entry_short, entry_few, gap_width, gap_total, prefix_is, prefix_perm}
 use Rattle.claims.proofs.GapClaimLaws.{live_at, live_start}
+use Rattle.forms.specs.SetMemory.{held_in}
 use Rattle.claims.proofs.entries.has_live_gap.Goals as goal
 
 pub loop-j-init : goal.loop-j-init
 loop-j-init c =
     let a = c.args in
-    (entry_few a.e c.requires, omega arith, live_start (patterns_of a.set a.lengths a.count) a.e)
+    live_start (held_in a.patterns.now) a.e
+
+pub entry_gap-b-requires : goal.entry_gap-b-requires
+entry_gap-b-requires c = omega (arith, entry_few c.args.e c.requires)
 
 pub is_live-requires : goal.is_live-requires
 is_live-requires c =
@@ -42,12 +45,12 @@ returns-then-is_live c =
     let a = c.args in
     let q = c.requires in
     let l = c.loop-j in
-    let P = patterns_of a.set a.lengths a.count in
+    let P = held_in a.patterns.now in
     let p = (entry_in a.e).prefix in
     let six = six-digits in
     let live = ap (λ (u : List ℕ). live_at P u (gap_at a.e l.j)) (prefix_is a.e q six) ∙
     sym (rw c.entry_gap-b.ensures at c.is_live.ensures) ∙ c.if-is_live.true in
-    sym (l.invariant.2 ∙ any_here (live_at P p) (gap_at a.e) a.e.gap_count l.j (omega arith) live)
+    sym (l.invariant ∙ any_here (live_at P p) (gap_at a.e) a.e.gap_count l.j (omega arith) live)
 
 pub loop-j-preserved : goal.loop-j-preserved
 loop-j-preserved c =
@@ -56,17 +59,17 @@ loop-j-preserved c =
     let a = c.args in
     let q = c.requires in
     let l = c.loop-j in
-    let P = patterns_of a.set a.lengths a.count in
+    let P = held_in a.patterns.now in
     let p = (entry_in a.e).prefix in
     let six = six-digits in
     let dead = ap (λ (u : List ℕ). live_at P u (gap_at a.e l.j)) (prefix_is a.e q six) ∙
     sym (rw c.entry_gap-b.ensures at c.is_live.ensures) ∙ c.if-is_live.false in
-    (l.invariant.0, omega arith, l.invariant.2 ∙ any_later (live_at P p) (gap_at a.e) a.e.gap_count l.j (omega arith) dead)
+    l.invariant ∙ any_later (live_at P p) (gap_at a.e) a.e.gap_count l.j (omega arith) dead
 
 pub returns : goal.returns
 returns c =
     let a = c.args in
     let l = c.loop-j in
-    let P = patterns_of a.set a.lengths a.count in
+    let P = held_in a.patterns.now in
     let p = (entry_in a.e).prefix in
-    sym (l.invariant.2 ∙ any_end (live_at P p) (gap_at a.e) a.e.gap_count l.j (omega arith))
+    sym (l.invariant ∙ any_end (live_at P p) (gap_at a.e) a.e.gap_count l.j (omega arith))

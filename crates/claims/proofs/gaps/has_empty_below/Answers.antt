@@ -10,16 +10,15 @@ use Rattle.word.specs.CopyLaws.{found, first_found}
 use Rattle.cell.specs.Cell.{total, vectors}
 use Rattle.candidate.proofs.CandidateWalk.{totals_start, totals_end, seen_here, seen_later}
 use Rattle.claims.proofs.GapClaimLaws.{shows}
+use Rattle.forms.specs.SetMemory.{held_in}
 use Rattle.claims.proofs.gaps.has_empty_below.Goals as goal
 
 pub loop-t-init : goal.loop-t-init
 loop-t-init c =
     let a = c.args in
-    let f = shows a.set a.lengths a.count a.prefix a.k a.parts in
-    let m = total (take (a.k + 1) a.parts) in (
-      omega arith,
-      sym (first_found f (each (vectors (suc a.k)) (row 0 m))) ∙ ap found (totals_start f a.k m),
-    )
+    let f = shows (held_in a.patterns.now) a.prefix a.k a.parts in
+    let m = total (take (a.k + 1) a.parts) in
+    sym (first_found f (each (vectors (suc a.k)) (row 0 m))) ∙ ap found (totals_start f a.k m)
 
 pub is_at_most-requires : goal.is_at_most-requires
 is_at_most-requires c = c.requires.0
@@ -29,20 +28,20 @@ returns-then-is_at_most c =
     let a = c.args in
     let l = c.loop-t in
     let m = total (take (a.k + 1) a.parts) in
-    sym (l.invariant.1 ∙
-    ap found (totals_end (shows a.set a.lengths a.count a.prefix a.k a.parts) a.k m l.t
+    sym (l.invariant ∙
+    ap found (totals_end (shows (held_in a.patterns.now) a.prefix a.k a.parts) a.k m l.t
     (leb-true m l.t (sym c.is_at_most.ensures ∙ c.if-is_at_most.true))))
 
 pub has_empty-requires : goal.has_empty-requires
-has_empty-requires c = (c.requires.0, c.requires.1, omega (arith, c.loop-t.invariant.0))
+has_empty-requires c = (c.requires.0, c.requires.1, omega (arith, c.loop-t-test.true))
 
 pub returns-then-has_empty : goal.returns-then-has_empty
 returns-then-has_empty c =
     let a = c.args in
     let l = c.loop-t in
     let m = total (take (a.k + 1) a.parts) in
-    sym (l.invariant.1 ∙
-    seen_here (shows a.set a.lengths a.count a.prefix a.k a.parts) a.k m l.t
+    sym (l.invariant ∙
+    seen_here (shows (held_in a.patterns.now) a.prefix a.k a.parts) a.k m l.t
     (leb-false m l.t (sym c.is_at_most.ensures ∙ c.if-is_at_most.false))
     (sym c.has_empty.ensures ∙ c.if-has_empty.true))
 
@@ -50,19 +49,17 @@ pub loop-t-preserved : goal.loop-t-preserved
 loop-t-preserved c =
     let a = c.args in
     let l = c.loop-t in
-    let m = total (take (a.k + 1) a.parts) in (
-      omega arith,
-      l.invariant.1 ∙
-          seen_later (shows a.set a.lengths a.count a.prefix a.k a.parts) a.k m l.t
-          (leb-false m l.t (sym c.is_at_most.ensures ∙ c.if-is_at_most.false))
-          (sym c.has_empty.ensures ∙ c.if-has_empty.false),
-    )
+    let m = total (take (a.k + 1) a.parts) in
+    l.invariant ∙
+    seen_later (shows (held_in a.patterns.now) a.prefix a.k a.parts) a.k m l.t
+    (leb-false m l.t (sym c.is_at_most.ensures ∙ c.if-is_at_most.false))
+    (sym c.has_empty.ensures ∙ c.if-has_empty.false)
 
 pub returns : goal.returns
 returns c =
     let a = c.args in
     let l = c.loop-t in
     let m = total (take (a.k + 1) a.parts) in
-    sym (l.invariant.1 ∙
-    ap found (totals_end (shows a.set a.lengths a.count a.prefix a.k a.parts) a.k m l.t
+    sym (l.invariant ∙
+    ap found (totals_end (shows (held_in a.patterns.now) a.prefix a.k a.parts) a.k m l.t
     (omega (arith, c.requires.2))))

@@ -17,7 +17,7 @@ use Rattle.claims.proofs.gaps.is_at_most.Goals as goal
 pub loop-i-init : goal.loop-i-init
 loop-i-init c =
     let a = c.args in
-    (omega arith, omega arith, sym (level_zero (take (a.k + 1) a.parts)))
+    (omega arith, sym (level_zero (take (a.k + 1) a.parts)))
 
 pub loop-i-preserved : goal.loop-i-preserved
 loop-i-preserved c =
@@ -25,7 +25,7 @@ loop-i-preserved c =
     let l = c.loop-i in
     let seven : length a.parts ≡ COMPONENTS = (let g = c.well_formed in search rules) in
     let more = level_more a.parts (a.k + 1) l.i (omega arith) (omega (arith, seven, c.requires)) in
-    (omega arith, omega (arith, l.invariant.1, c.wide-sum.ensures.1), omega (arith, l.invariant.2, c.wide-sum.ensures.0, more))
+    (omega (arith, l.invariant.0), omega (arith, l.invariant.1, c.from-sum.ensures, more))
 
 pub returns : goal.returns
 returns c =
@@ -35,4 +35,4 @@ returns c =
     let g = take (a.k + 1) a.parts in
     let size : length g ≡ a.k + 1 = length-take-le (a.k + 1) a.parts (omega (arith, seven, c.requires)) in
     let end : l.i ≡ length g = omega (arith, size) in
-    ap (λ (n : ℕ). leb n a.t) (l.invariant.2 ∙ ap (level g) end ∙ level_whole g)
+    ap (λ (n : ℕ). leb n a.t) (l.invariant.1 ∙ ap (level g) end ∙ level_whole g)

@@ -12,22 +12,20 @@ returns-then-below-found_below c =
     let a = c.args in
     let l = c.loop-j in
     let eight : length a.chosen ≡ 8 = search rules in
-    sym (l.invariant.1 ∙ pair_failed a.head.now a.chosen a.x a.a a.s l.j (omega arith) (omega arith)
+    sym (l.invariant ∙ pair_failed a.head.now a.chosen a.x a.a a.s l.j (omega arith) (omega arith)
     (omega arith) c.if-below-found_below.true)
 
 pub loop-j-preserved : goal.loop-j-preserved
 loop-j-preserved c =
     let a = c.args in
     let l = c.loop-j in
-    let eight : length a.chosen ≡ 8 = search rules in (
-      omega arith,
-      l.invariant.1 ∙ pair_passed a.head.now a.chosen a.x a.a a.s l.j (omega arith)
-          (omega arith) (omega arith) c.if-below-found_below.false,
-    )
+    let eight : length a.chosen ≡ 8 = search rules in
+    l.invariant ∙ pair_passed a.head.now a.chosen a.x a.a a.s l.j (omega arith)
+    (omega arith) (omega arith) c.if-below-found_below.false
 
 pub returns : goal.returns
 returns c =
     let a = c.args in
     let l = c.loop-j in
     let eight : length a.chosen ≡ 8 = search rules in
-    sym (l.invariant.1 ∙ pairs_none a.head.now a.chosen a.x a.a a.s l.j (omega arith) (omega arith) (omega arith))
+    sym (l.invariant ∙ pairs_none a.head.now a.chosen a.x a.a a.s l.j (omega arith) (omega arith) (omega arith))

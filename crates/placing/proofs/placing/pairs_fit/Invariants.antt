@@ -1,5 +1,4 @@
--- The invariant and the measure of the loop of `placing::placing::pairs_fit`.
-use Prim.Native.Nat.{◌-◌, ◌≤◌}
+-- The invariant of the loop of `placing::placing::pairs_fit`.
 use mathlib.Core.Path.{◌≡◌}
 use lib.ListN.{take, drop}
 use Rattle.word.specs.Vocabulary.{fits}
@@ -7,8 +6,4 @@ use Rattle.placing.proofs.placing.pairs_fit.Given as goal
 
 abbrev pub invariant-loop-j : goal.invariant-loop-j
 invariant-loop-j l =
-    (l.j ≤ l.s) ×
-    (fits (take l.s l.head) l.x (take l.s l.chosen) l.a ≡ fits (drop l.j (take l.s l.head)) l.x (drop l.j (take l.s l.chosen)) l.a)
-
-abbrev pub decreases-loop-j : goal.decreases-loop-j
-decreases-loop-j l = l.s - l.j
+    fits (take l.s l.head) l.x (take l.s l.chosen) l.a ≡ fits (drop l.j (take l.s l.head)) l.x (drop l.j (take l.s l.chosen)) l.a

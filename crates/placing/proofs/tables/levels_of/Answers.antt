@@ -1,43 +1,40 @@
--- `placing::tables::levels_of` meets its contract: the table says the levels up to v, and the sum
--- is the level of v.
+-- `placing::tables::levels_of` meets its contract: the table says the levels below v, and the sum
+-- is the last of them.
 -- Assumes nothing.
-use Prim.Native.Nat.{◌+◌}
-use mathlib.Core.Path.{◌≡◌, sym}
-use native.Mathlib.Omega.{arith}
-use borrow.Author.Rules.{rules}
-use lib.ListN.{length, get_or, take, replicate}
+use Rattle.std.proofs.Common.{◌≡◌, ◌+◌, ◌-◌, sym, ap, ◌∙◌, rules, arith, replicate, suc}
+use lib.ListN.{get_or}
 use Rattle.cell.specs.Built.{level}
 use Rattle.cell.proofs.BuiltWords.{level_at_most}
-use Rattle.placing.proofs.LookupLaws.{says_more, says_first, level_more, level_zero}
+use Rattle.placing.proofs.LookupLaws.{says_more, says_first, level_next, level_zero}
 use Rattle.placing.proofs.tables.levels_of.Goals as goal
+use Rattle.placing.proofs.tables.levels_of.Goals.{In-loop-v}
+
+-- the level of v
+next : (c : In-loop-v) → c.loop-v.sum + get_or c.args.g.now (c.loop-v.v - 1) 0 ≡ level c.args.g.now c.loop-v.v
+next c =
+    let v = c.loop-v.v in
+    let e : suc (v - 1) ≡ v = omega arith in
+    let m = rw e at (level_next c.args.g.now (v - 1) (omega arith)) in
+    omega (arith, m, c.loop-v.invariant.0)
 
 pub loop-v-init : goal.loop-v-init
 loop-v-init c =
-    let g = take (c.args.k + 1) c.args.g in
-    (search rules, sym (level_zero g), search rules, says_first (replicate 9 0) (level g) (sym (level_zero g)))
+    let g = c.args.g.now in
+    (sym (level_zero g), search rules, says_first (replicate 9 0) (level g) (sym (level_zero g)))
 
 pub overflow_add-sum : goal.overflow_add-sum
 overflow_add-sum c =
-    let a = c.args in
-    let l = c.loop-v in
-    let seven : length a.g ≡ 7 = search rules in
-    omega (arith, level_more a.g (a.k + 1) l.v (omega arith) (omega arith), level_at_most (take (a.k + 1) a.g) (l.v + 1))
+    omega (arith, next (goal.at.overflow_add-sum c).In-loop-v, level_at_most c.args.g.now c.loop-v.v)
 
 pub loop-v-preserved : goal.loop-v-preserved
 loop-v-preserved c =
-    let a = c.args in
     let l = c.loop-v in
-    let seven : length a.g ≡ 7 = search rules in
-    let more = level_more a.g (a.k + 1) l.v (omega arith) (omega arith) in
-    let sum = l.sum + get_or a.g l.v 0 in (
-      omega arith,
-      omega arith,
+    let n = next (goal.at.loop-v-preserved c).In-loop-v in
+    let e : l.v + 1 - 1 ≡ l.v = omega arith in (
+      n ∙ ap (level c.args.g.now) (sym e),
       search rules,
-      says_more l.levels (l.v + 1) sum (level (take (a.k + 1) a.g)) (omega arith) (omega arith)
-          l.invariant.3,
+      says_more l.levels l.v _ (level c.args.g.now) (omega arith) n l.invariant.2,
     )
 
 pub returns : goal.returns
-returns c =
-    let l = c.loop-v in
-    λ v h. l.invariant.3 v (omega arith)
+returns c = λ v h. c.loop-v.invariant.2 v (omega arith)

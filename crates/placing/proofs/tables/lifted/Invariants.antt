@@ -1,4 +1,4 @@
--- The invariant and the measure of the loop of `placing::tables::lifted`.
+-- The invariant of the loop of `placing::tables::lifted`.
 use Prim.Native.Nat.{suc, ◌+◌, ◌-◌, ◌≤◌}
 use mathlib.Core.Path.{◌≡◌}
 use Rattle.placing.specs.Lookup.{entry_of}
@@ -7,8 +7,5 @@ use Rattle.placing.proofs.tables.lifted.Given as goal
 
 abbrev pub invariant-loop-v : goal.invariant-loop-v
 invariant-loop-v l =
-    (1 ≤ l.v) × (l.v ≤ l.k + 1) × (l.r ≤ l.s + l.v) ×
+    (l.r ≤ l.s + l.v) ×
     (l.r + lower (entry_of l.levels) l.s l.v (suc l.k - l.v) ≡ l.s + lower (entry_of l.levels) l.s 1 (suc l.k - 1))
-
-abbrev pub decreases-loop-v : goal.decreases-loop-v
-decreases-loop-v l = suc l.k - l.v

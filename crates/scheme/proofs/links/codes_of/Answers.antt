@@ -13,7 +13,7 @@ use Rattle.scheme.proofs.LookupLaws.{prefix_at, prefixes_at}
 use Rattle.scheme.proofs.links.codes_of.Goals as goal
 
 pub loop-i-init : goal.loop-i-init
-loop-i-init c = (refl, omega arith, λ j h. absurd (omega arith))
+loop-i-init c = (refl, λ j h. absurd (omega arith))
 
 pub entry_code-requires : goal.entry_code-requires
 entry_code-requires c = c.requires.each c.loop-i.i (omega arith)
@@ -25,9 +25,8 @@ loop-i-preserved c =
     let few : s.count ≤ ENTRIES = c.requires.few in
     let x = c.entry_code.result in (
       length-set l.codes l.i x ∙ l.invariant.0,
-      omega arith,
       rows_more (λ (j y : ℕ). IsCode (prefix_at s j) y) l.codes 0 l.i x (omega (arith, l.invariant.0))
-          c.entry_code.ensures l.invariant.2,
+          c.entry_code.ensures l.invariant.1,
     )
 
 pub returns : goal.returns
@@ -36,5 +35,5 @@ returns c =
     let l = c.loop-i in
     let few : s.count ≤ ENTRIES = c.requires.few in
     let made = codes_made (prefix_at s) s.count l.codes (omega (arith, l.invariant.0))
-    (λ (j : ℕ) (h : j < s.count). l.invariant.2 j (omega arith)) in
+    (λ (j : ℕ) (h : j < s.count). l.invariant.1 j (omega arith)) in
     (l.invariant.0, rw (prefixes_at s) made)

@@ -10,15 +10,15 @@ use Rattle.scheme.proofs.links.find.Goals as goal
 pub loop-i-init : goal.loop-i-init
 loop-i-init c = code_start c.args.codes.now c.args.code
 
-pub returns-then-code-codes : goal.returns-then-code-codes
-returns-then-code-codes c =
+pub returns-then-code-x : goal.returns-then-code-x
+returns-then-code-x c =
     let a = c.args in
-    sym (ap found_of (c.loop-i.invariant ∙ code_here a.codes.now a.code c.loop-i.i (omega arith) c.if-code-codes.true))
+    sym (ap found_of (c.loop-i.invariant ∙ code_here a.codes.now a.code c.loop-i.i (omega arith) c.if-code-x.true))
 
 pub loop-i-preserved : goal.loop-i-preserved
 loop-i-preserved c =
     let a = c.args in
-    c.loop-i.invariant ∙ code_later a.codes.now a.code c.loop-i.i (omega arith) c.if-code-codes.false
+    c.loop-i.invariant ∙ code_later a.codes.now a.code c.loop-i.i (omega arith) c.if-code-x.false
 
 pub returns : goal.returns
 returns c =

@@ -1,18 +1,10 @@
--- `scheme::links::has_entry` meets its contract.
+-- `scheme::links::has_entry` meets its contract: a listed prefix is found.
 -- Assumes nothing.
-use mathlib.Core.Path.{sym}
-use lib.ListN.{take}
-use Rattle.scheme.proofs.LookupLaws.{at_listed, nothing_listed}
+use mathlib.Core.Path.{ap, ◌∙◌}
+use Rattle.std.specs.Prelude.{is_some}
+use Rattle.scheme.proofs.LookupLaws.{found_listed}
 use Rattle.scheme.proofs.links.has_entry.Goals as goal
 
-pub returns-in-At : goal.returns-in-At
-returns-in-At c =
-    let f = c.find_prefix-found in
-    let a = c.args in
-    λ ps w. sym (at_listed ps (take a.length a.prefix) f.result (f.ensures ps w) _ c.in-At.is)
-
-pub returns-in-Nothing : goal.returns-in-Nothing
-returns-in-Nothing c =
-    let f = c.find_prefix-found in
-    let a = c.args in
-    λ ps w. sym (nothing_listed ps (take a.length a.prefix) f.result (f.ensures ps w) c.in-Nothing.is)
+pub returns : goal.returns
+returns c =
+    λ ps w. c.is_some.ensures ∙ ap is_some (c.find_prefix.ensures ps w) ∙ found_listed ps c.args.prefix.now

@@ -30,12 +30,12 @@ loop-i-preserved c =
     let w = c.requires.1 in
     let h : l.i < s.count = omega arith in (
       noted_more Childless (λ i. noChild s (entry_at s i)) s.count (first_from Childless (noChild s) (entry_at s) s.count)
-          (first_step (entry_at s) s.count Childless (noChild s)) (fault_of (child_test (scheme_in s))) l.i l.child c.noted-c.result
-          c.lacks_child.result h l.invariant.0 (c.lacks_child.ensures (prefixes_in s) w) c.noted-c.ensures,
+          (first_step (entry_at s) s.count Childless (noChild s)) (fault_of (child_test (scheme_in s))) l.i l.child c.noted-child.result
+          c.lacks_child.result h l.invariant.0 (c.lacks_child.ensures (prefixes_in s) w) c.noted-child.ensures,
       noted_more NoTarget (λ i. noTarget s (entry_at s i)) s.count (first_from NoTarget (noTarget s) (entry_at s) s.count)
           (first_step (entry_at s) s.count NoTarget (noTarget s)) (fault_of (target_test (scheme_in s))) l.i
-          l.target c.noted-t.result
-          c.lacks_target.result h l.invariant.1 (c.lacks_target.ensures (prefixes_in s) w) c.noted-t.ensures,
+          l.target c.noted-target.result
+          c.lacks_target.result h l.invariant.1 (c.lacks_target.ensures (prefixes_in s) w) c.noted-target.ensures,
     )
 
 pub returns : goal.returns

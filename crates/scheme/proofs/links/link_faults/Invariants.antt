@@ -1,11 +1,10 @@
 -- The invariant and the measure of the loop of `scheme::links::link_faults`.
-use Prim.Native.Nat.{ℕ, ◌-◌}
+use Prim.Native.Nat.{ℕ}
 use mathlib.Core.Path.{◌≡◌}
 use mathlib.Core.Bool.{Bool}
 use Rattle.word.specs.declared.refusal.Refusal.TheVariants.{Childless, NoTarget}
 use Rattle.forms.specs.SchemeList.{EntryList}
-use Rattle.forms.specs.SchemeMemory.{scheme_in, fault_of, or_else}
-use Rattle.forms.specs.declared.memory.Fault.{Fault}
+use Rattle.forms.specs.SchemeMemory.{Fault, scheme_in, fault_of, or_else}
 use Rattle.forms.specs.declared.memory.Scheme.{Scheme}
 use Rattle.scheme.specs.WellFormed.{lacks_child, lacks_target}
 use Rattle.scheme.specs.WellFormed.{child_test, target_test}
@@ -29,8 +28,5 @@ targetRest s n i = fault_of (first_from NoTarget (noTarget s) (entry_at s) n i)
 
 abbrev pub invariant-loop-i : goal.invariant-loop-i
 invariant-loop-i l =
-    (fault_of (child_test (scheme_in l.s)) ≡ or_else l.child (childRest l.s l.n l.i)) ×
-    (fault_of (target_test (scheme_in l.s)) ≡ or_else l.target (targetRest l.s l.n l.i))
-
-abbrev pub decreases-loop-i : goal.decreases-loop-i
-decreases-loop-i l = l.n - l.i
+    (fault_of (child_test (scheme_in l.s)) ≡ or_else l.child (childRest l.s l.s.count l.i)) ×
+    (fault_of (target_test (scheme_in l.s)) ≡ or_else l.target (targetRest l.s l.s.count l.i))

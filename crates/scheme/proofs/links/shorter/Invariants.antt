@@ -1,5 +1,5 @@
 -- The invariant and the measure of the loop of `scheme::links::shorter`.
-use Prim.Native.Nat.{◌+◌, ◌≤◌}
+use Prim.Native.Nat.{◌+◌}
 use mathlib.Core.Path.{◌≡◌}
 use lib.ListN.{length, take, drop}
 use Rattle.word.specs.Ceilings.{PREFIX}
@@ -8,8 +8,5 @@ use Rattle.scheme.proofs.links.shorter.Given as goal
 
 abbrev pub invariant-loop-t : goal.invariant-loop-t
 invariant-loop-t l =
-    (l.t ≤ l.count) × (l.n + l.count ≡ l.k + l.t) × (length l.digits ≡ PREFIX) ×
-    (take l.n l.digits ≡ deleted (drop l.t (take l.count l.positions)) (take l.k l.initial.digits))
-
-abbrev pub decreases-loop-t : goal.decreases-loop-t
-decreases-loop-t l = l.t
+    (l.n + length l.positions ≡ length l.prefix + l.t) × (length l.digits ≡ PREFIX) ×
+    (take l.n l.digits ≡ deleted (drop l.t l.positions) l.prefix)

@@ -9,9 +9,9 @@ loop-k-preserved c =
     let sum = c.pascal_sum-x in
     let l = c.loop-k in
     let a = c.args in
-    (omega arith, pascal_more a.n l.k sum.result l.b (omega arith) (omega arith) sum.ensures l.invariant.1)
+    pascal_more a.n l.k sum.result l.b (omega arith) (omega arith) sum.ensures l.invariant
 
 pub returns : goal.returns
 returns c =
     let l = c.loop-k in
-    pascal_next c.args.n l.k l.b (omega arith) l.invariant.1
+    pascal_next c.args.n l.k l.b (omega arith) l.invariant

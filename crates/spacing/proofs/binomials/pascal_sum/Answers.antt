@@ -17,12 +17,6 @@ returns-then-k-eq0 c =
     let k : a.k ≡ 0 = c.if-k-eq0.true in
     sym (ap (binomial a.n) k ∙ binomial_zero a.n)
 
-pub returns-then-n-eq0 : goal.returns-then-n-eq0
-returns-then-n-eq0 c =
-    let a = c.args in
-    let n : a.n ≡ 0 = c.if-n-eq0.true in
-    sym (binomial_above a.n a.k (omega arith))
-
 pub overflow_add-result : goal.overflow_add-result
 overflow_add-result c =
     let a = c.args in
@@ -41,3 +35,9 @@ returns c =
     let l = ap (λ i. get_or a.b.now i 0) o ∙ p.rows (a.n - 1) (a.k - 1) (omega arith) (omega arith) in
     let r = p.rows (a.n - 1) a.k (omega arith) (omega arith) in
     ap₂ ◌+◌ l r ∙ sym (pascal_sum a.n a.k (omega arith) (omega arith))
+
+pub returns-then-n-eq0 : goal.returns-then-n-eq0
+returns-then-n-eq0 c =
+    let a = c.args in
+    let n : a.n ≡ 0 = c.if-n-eq0.true in
+    sym (binomial_above a.n a.k (omega arith))

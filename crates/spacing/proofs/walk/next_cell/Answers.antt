@@ -4,7 +4,7 @@ use borrow.Author.Rules.{rules}
 use native.Mathlib.Omega.{arith}
 use Prim.Native.Nat.{◌≤◌, ◌-◌, ◌+◌, ℕ}
 use mathlib.Core.Path.{◌≡◌, refl, sym, ap, ◌∙◌}
-use lib.ListN.{get_or, take, set, length-set}
+use lib.ListN.{get_or, take, set}
 use lib.Seq.{get_or-set_other}
 use mathlib.Core.List.{List}
 use Rattle.spacing.proofs.RankWalkLaws.{Zeros, zeros_more, first_small, found_memory, none_memory}
@@ -18,83 +18,31 @@ same-part g₀ g i h e = ap (λ (u : List ℕ). get_or u i 0) e ∙ get_or-set_o
 same-zeros : (g₀ : List ℕ) (i : ℕ) → Zeros (set g₀ 0 0) i → Zeros g₀ i
 same-zeros g₀ i z a low high = sym (same-part g₀ (set g₀ 0 0) a low refl) ∙ z a low high
 
-pub bounds-g-0 : goal.bounds-g-0
-bounds-g-0 c = omega (arith, c.requires.1)
-
-pub bounds-g-0-2 : goal.bounds-g-0-2
-bounds-g-0-2 c = omega (arith, c.requires.1)
-
-pub loop-i-init : goal.loop-i-init
-loop-i-init c = (omega arith, omega arith, refl, λ j low high. absurd (omega arith), refl)
-
-pub bounds-g-i : goal.bounds-g-i
-bounds-g-i c =
-    omega (arith, c.requires.1, c.requires.0, c.loop-i.invariant.4, length-set c.args.g.now 0 0)
-
-pub bounds-g-i-then-y-ne0 : goal.bounds-g-i-then-y-ne0
-bounds-g-i-then-y-ne0 c =
-    omega (arith, c.requires.1, c.requires.0, c.loop-i.invariant.4, length-set c.args.g.now 0 0)
-
 pub overflow_add-g : goal.overflow_add-g
 overflow_add-g c =
     omega (arith, first_small c.args.g.now c.args.k (omega (arith, c.requires.0, c.requires.1)), c.requires.2)
-
-pub bounds-g-i-then-y-ne0-2 : goal.bounds-g-i-then-y-ne0-2
-bounds-g-i-then-y-ne0-2 c =
-    let l = c.loop-i in
-    omega (
-      arith,
-      c.requires.1,
-      c.requires.0,
-      l.invariant.4,
-      length-set l.g l.i (get_or l.g l.i 0 - 1),
-      length-set c.args.g.now 0 0,
-    )
-
-pub shape_of-g-then-y-ne0 : goal.shape_of-g-then-y-ne0
-shape_of-g-then-y-ne0 c =
-    let l = c.loop-i in
-    length-set (set l.g l.i (get_or l.g l.i 0 - 1)) (l.i - 1) (get_or c.args.g.now 0 0 + 1) ∙
-    length-set l.g l.i (get_or l.g l.i 0 - 1) ∙ l.invariant.4 ∙
-    length-set c.args.g.now 0 0
 
 pub returns-then-y-ne0 : goal.returns-then-y-ne0
 returns-then-y-ne0 c =
     let a = c.args in
     let l = c.loop-i in
-    let y = same-part a.g.now l.g l.i l.invariant.0 l.invariant.2 in
-    ap (λ (u : List ℕ). take (a.k + 1) (set (set u l.i (get_or l.g l.i 0 - 1)) (l.i - 1) (get_or a.g.now 0 0 + 1)))
-    l.invariant.2 ∙
-    found_memory a.g.now a.k (omega (arith, c.requires.0, c.requires.1)) l.i (get_or l.g l.i 0) l.invariant.0 (omega arith)
-    (same-zeros a.g.now l.i l.invariant.3) y c.if-y-ne0.true
+    let y = same-part a.g.now l.g l.i (omega arith) l.invariant.0 in
+    ap (λ (u : List ℕ). take (a.k + 1) (set (set u l.i (get_or l.g l.i 0 - 1)) (l.i - 1) (get_or a.g.now 0 0 + 1))) l.invariant.0 ∙
+    found_memory a.g.now a.k (omega (arith, c.requires.0, c.requires.1)) l.i (get_or l.g l.i 0) (omega arith) (omega arith)
+    (same-zeros a.g.now l.i l.invariant.1) y c.if-y-ne0.true
 
 pub loop-i-preserved : goal.loop-i-preserved
 loop-i-preserved c =
     let a = c.args in
     let l = c.loop-i in
-    let z : get_or l.g l.i 0 ≡ 0 = search rules in (
-      omega arith,
-      omega arith,
-      l.invariant.2,
-      zeros_more (set a.g.now 0 0) l.i l.invariant.3 (ap (λ (u : List ℕ). get_or u l.i 0) (sym l.invariant.2) ∙ z),
-      l.invariant.4,
-    )
-
-pub bounds-g-k : goal.bounds-g-k
-bounds-g-k c =
-    omega (arith, c.requires.1, c.requires.0, c.loop-i.invariant.4, length-set c.args.g.now 0 0)
-
-pub shape_of-g : goal.shape_of-g
-shape_of-g c =
-    let a = c.args in
-    let l = c.loop-i in
-    length-set l.g a.k (get_or a.g.now 0 0) ∙ l.invariant.4 ∙ length-set a.g.now 0 0
+    let z : get_or l.g l.i 0 ≡ 0 = search rules in
+    (l.invariant.0, zeros_more (set a.g.now 0 0) l.i l.invariant.1 (ap (λ (u : List ℕ). get_or u l.i 0) (sym l.invariant.0) ∙ z))
 
 pub returns : goal.returns
 returns c =
     let a = c.args in
     let l = c.loop-i in
     let e : l.i ≡ a.k + 1 = omega arith in
-    let z : Zeros a.g.now (a.k + 1) = rw (← e) (same-zeros a.g.now l.i l.invariant.3) in
-    ap (λ (u : List ℕ). take (a.k + 1) (set u a.k (get_or a.g.now 0 0))) l.invariant.2 ∙
+    let z : Zeros a.g.now (a.k + 1) = rw (← e) (same-zeros a.g.now l.i l.invariant.1) in
+    ap (λ (u : List ℕ). take (a.k + 1) (set u a.k (get_or a.g.now 0 0))) l.invariant.0 ∙
     none_memory a.g.now a.k (omega (arith, c.requires.0, c.requires.1)) z

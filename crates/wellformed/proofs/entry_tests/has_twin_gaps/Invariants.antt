@@ -1,5 +1,4 @@
--- The invariant and the measure of the loop of `wellformed::entry_tests::has_twin_gaps`.
-use Prim.Native.Nat.{◌-◌, ◌≤◌}
+-- The invariant of the loop of `wellformed::entry_tests::has_twin_gaps`.
 use mathlib.Core.Path.{◌≡◌}
 use Rattle.scheme.specs.WellFormed.{repeats}
 use Rattle.forms.specs.SchemeMemory.{entry_in}
@@ -8,7 +7,4 @@ use Rattle.forms.specs.SchemeMemory.{gap_at}
 use Rattle.wellformed.proofs.entry_tests.has_twin_gaps.Given as goal
 
 abbrev pub invariant-loop-j : goal.invariant-loop-j
-invariant-loop-j l = (l.j ≤ l.n) × (repeats (entry_in l.e).gaps ≡ repeats (from (gap_at l.e) l.n l.j))
-
-abbrev pub decreases-loop-j : goal.decreases-loop-j
-decreases-loop-j l = l.n - l.j
+invariant-loop-j l = repeats (entry_in l.e).gaps ≡ repeats (from (gap_at l.e) l.n l.j)

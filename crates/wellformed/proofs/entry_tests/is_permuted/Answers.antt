@@ -10,11 +10,6 @@ use Rattle.forms.specs.MemoryLaws.{padded_within}
 use borrow.Author.Rules.{rules}
 use Rattle.wellformed.proofs.entry_tests.is_permuted.Goals as goal
 
-pub slice_bounds-p-end : goal.slice_bounds-p-end
-slice_bounds-p-end c =
-    let six : length c.args.e.prefix ≡ PREFIX = search rules in
-    omega (arith, c.requires.short)
-
 pub slice_bounds-is_permutation-end : goal.slice_bounds-is_permutation-end
 slice_bounds-is_permutation-end c =
     let e = c.args.e in

@@ -1,5 +1,5 @@
--- The invariant and the measure of the loop of `wellformed::entry_tests::large_entry`.
-use Prim.Native.Nat.{◌-◌, ◌≤◌}
+-- The invariant of the loop of `wellformed::entry_tests::large_entry`.
+use Prim.Native.Nat.{◌≤◌}
 use mathlib.Core.Path.{◌≡◌}
 use Rattle.word.specs.Ceilings.{GAPS}
 use Rattle.scheme.specs.WellFormed.{large_gap, large_entry}
@@ -10,7 +10,4 @@ use Rattle.forms.specs.SchemeMemory.{gap_at}
 use Rattle.wellformed.proofs.entry_tests.large_entry.Given as goal
 
 abbrev pub invariant-loop-j : goal.invariant-loop-j
-invariant-loop-j l = (l.j ≤ l.n) × (l.n ≤ GAPS) × (large_entry (entry_in l.e) ≡ any large_gap (from (gap_at l.e) l.n l.j))
-
-abbrev pub decreases-loop-j : goal.decreases-loop-j
-decreases-loop-j l = l.n - l.j
+invariant-loop-j l = (l.n ≤ GAPS) × (large_entry (entry_in l.e) ≡ any large_gap (from (gap_at l.e) l.n l.j))

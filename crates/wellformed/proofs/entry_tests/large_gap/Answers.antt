@@ -21,7 +21,7 @@ pub loop-i-init : goal.loop-i-init
 loop-i-init c =
     let b = c.args.b in
     let start : total (gap_in b) ≡ 0 + total (gap_in b) = omega arith in
-    (omega arith, omega arith, c.if-n-gt-COMPONENTS.false, refl, gap_by_total b c.if-n-gt-COMPONENTS.false ∙ ap (ltb TOTAL) start)
+    (omega arith, c.if-n-gt-COMPONENTS.false, refl, gap_by_total b c.if-n-gt-COMPONENTS.false ∙ ap (ltb TOTAL) start)
 
 pub returns-then-sum-gt-TOTAL : goal.returns-then-sum-gt-TOTAL
 returns-then-sum-gt-TOTAL c =
@@ -29,7 +29,7 @@ returns-then-sum-gt-TOTAL c =
     let l = c.loop-i in
     let seven : length b.parts ≡ COMPONENTS = search rules in
     let more = total_more b.parts b.width (omega arith) l.i (omega arith) in
-    sym (l.invariant.4 ∙ lt-ltb TOTAL (l.sum + total (drop l.i (gap_in b))) (omega (arith, more, c.wide-sum.ensures.0)))
+    sym (l.invariant.3 ∙ lt-ltb TOTAL (l.sum + total (drop l.i (gap_in b))) (omega (arith, more, c.from-sum.ensures)))
 
 pub loop-i-preserved : goal.loop-i-preserved
 loop-i-preserved c =
@@ -38,9 +38,9 @@ loop-i-preserved c =
     let seven : length b.parts ≡ COMPONENTS = search rules in
     let more = total_more b.parts b.width (omega arith) l.i (omega arith) in
     let added : l.sum + total (drop l.i (gap_in b)) ≡
-    l.sum + c.wide-sum.result + total (drop (l.i + 1) (gap_in b)) =
-    omega (arith, more, c.wide-sum.ensures.0) in
-    (omega arith, omega arith, l.invariant.2, refl, l.invariant.4 ∙ ap (ltb TOTAL) added)
+    l.sum + c.from-sum.result + total (drop (l.i + 1) (gap_in b)) =
+    omega (arith, more, c.from-sum.ensures) in
+    (omega arith, l.invariant.1, refl, l.invariant.3 ∙ ap (ltb TOTAL) added)
 
 pub returns : goal.returns
 returns c =
@@ -48,4 +48,4 @@ returns c =
     let l = c.loop-i in
     let seven : length b.parts ≡ COMPONENTS = search rules in
     let none = total_none b.parts b.width (omega arith) l.i (omega arith) in
-    sym (l.invariant.4 ∙ le-ltb TOTAL (l.sum + total (drop l.i (gap_in b))) (omega (arith, none)))
+    sym (l.invariant.3 ∙ le-ltb TOTAL (l.sum + total (drop l.i (gap_in b))) (omega (arith, none)))

@@ -1,5 +1,5 @@
--- The invariant and the measure of the loop of `wellformed::entry_tests::large_gap`.
-use Prim.Native.Nat.{◌+◌, ◌-◌, ◌≤◌}
+-- The invariant of the loop of `wellformed::entry_tests::large_gap`.
+use Prim.Native.Nat.{◌+◌, ◌≤◌}
 use mathlib.Core.Path.{◌≡◌}
 use lib.ListN.{drop}
 use lib.Dec.{ltb}
@@ -11,8 +11,5 @@ use Rattle.wellformed.proofs.entry_tests.large_gap.Given as goal
 
 abbrev pub invariant-loop-i : goal.invariant-loop-i
 invariant-loop-i l =
-    (l.sum ≤ TOTAL) × (l.i ≤ l.n) × (l.n ≤ COMPONENTS) × (l.n ≡ l.b.width) ×
+    (l.sum ≤ TOTAL) × (l.n ≤ COMPONENTS) × (l.n ≡ l.b.width) ×
     (large_gap (gap_in l.b) ≡ ltb TOTAL (l.sum + total (drop l.i (padded l.n l.b.parts))))
-
-abbrev pub decreases-loop-i : goal.decreases-loop-i
-decreases-loop-i l = l.n - l.i

@@ -1,5 +1,4 @@
--- The invariant and the measure of the loop of `wellformed::entry_tests::stands_from`.
-use Prim.Native.Nat.{◌-◌, ◌≤◌}
+-- The invariant of the loop of `wellformed::entry_tests::stands_from`.
 use mathlib.Core.Path.{◌≡◌}
 use Rattle.forms.specs.SchemeMemory.{gap_in}
 use Rattle.word.specs.Lists.{any}
@@ -9,8 +8,5 @@ use Rattle.forms.specs.SchemeMemory.{gap_at}
 use Rattle.wellformed.proofs.entry_tests.stands_from.Given as goal
 
 abbrev pub invariant-loop-j : goal.invariant-loop-j
-invariant-loop-j l = (l.j ≤ l.n) ×
-    (any (same (gap_in l.b)) (from (gap_at l.e) l.n l.start) ≡ any (same (gap_in l.b)) (from (gap_at l.e) l.n l.j))
-
-abbrev pub decreases-loop-j : goal.decreases-loop-j
-decreases-loop-j l = l.n - l.j
+invariant-loop-j l =
+    any (same (gap_in l.b)) (from (gap_at l.e) l.n l.start) ≡ any (same (gap_in l.b)) (from (gap_at l.e) l.n l.j)
