@@ -14,18 +14,16 @@ use Rattle.cell.specs.Cell.{deleted, merged, compared_to}
 use Rattle.cell.proofs.BasisLaws.{basis_cell}
 use Rattle.forms.specs.SchemeList.{Does, expands, deletes, EntryList}
 use Rattle.scheme.specs.WellFormed.{first_at, pattern_tests, scheme_tests}
-use Rattle.forms.specs.SchemeMemory.{scheme_in, fault_of, or_else, faulty, told_or}
+use Rattle.forms.specs.SchemeMemory.{Fault, scheme_in, fault_of, or_else, faulty, told_or}
 use Rattle.forms.specs.ToldLaws.{told_found}
 use Rattle.forms.specs.declared.memory.Scheme.{Scheme}
-use Rattle.forms.specs.declared.memory.Fault.{Fault}
-use Rattle.forms.specs.declared.memory.Fault.TheVariants.{Clean, At}
+use Rattle.std.specs.Prelude.{Ok, Err}
 use Rattle.wellformed.proofs.OrderLaws.{faults_append}
 use Rattle.verdict.specs.Verdict.{is_empty, live_gap, sizes_differ, differs_under, claim_tests, compared_cells, judge_tests, answered}
 use Rattle.verdict.specs.Verdict.{verdict_of, told_verdict, accepted}
 use Rattle.scheme.specs.FindingLaws.{first_same}
 use Rattle.verdict.specs.VerdictLaws.{accepted_exactly}
-use Rattle.verdict.specs.declared.answer.Verdict.{Verdict}
-use Rattle.verdict.specs.declared.answer.Verdict.TheVariants.{Accepted, Refused}
+use Rattle.verdict.specs.Verdict.{Verdict}
 use Rattle.judge.specs.Judgement.{JudgesWithoutPage}
 
 module _ (P : List (List ℕ)) (perms : (β : List ℕ) → Memᴰ β P → is_perm β ≡ true) where
@@ -64,8 +62,8 @@ module _ (P : List (List ℕ)) (perms : (β : List ℕ) → Memᴰ β P → is_p
 
 -- the first of three findings
 pub or_else_assoc : (a b c : Fault) → or_else a (or_else b c) ≡ or_else (or_else a b) c
-or_else_assoc Clean b c = refl
-or_else_assoc (At r i) b c = refl
+or_else_assoc (Ok u) b c = refl
+or_else_assoc (Err e) b c = refl
 
 -- the tests of the patterns, of the scheme, of the claims
 pub verdict_parts : (P : List (List ℕ)) (E : List EntryList) → fault_of (first_fault (judge_tests P E)) ≡
@@ -79,25 +77,25 @@ verdict_parts P E =
 
 -- an answer by its fault: a refusal does not ask for the cells
 pub refused_answer : (f : Fault) (m n : ℕ) → faulty f ≡ true → answered f m ≡ answered f n
-refused_answer Clean m n e = let z : ◌≡◌ {A = ℕ} 0 1 = cc in absurd (omega arith)
-refused_answer (At r i) m n e = refl
+refused_answer (Ok u) m n e = let z : ◌≡◌ {A = ℕ} 0 1 = cc in absurd (omega arith)
+refused_answer (Err d) m n e = refl
 
 -- an answer by its fault, in the numbers of document 01
 pub told_answered : (f : Fault) (n : ℕ) → told_verdict (answered f n) ≡ told_or f (n ∷ [])
-told_answered Clean n = refl
-told_answered (At r i) n = refl
+told_answered (Ok u) n = refl
+told_answered (Err e) n = refl
 
 -- an acceptance has the cells of the answer
-pub accepted_cells : (f : Fault) (m n : ℕ) → answered f m ≡ Accepted n → n ≡ m
+pub accepted_cells : (f : Fault) (m n : ℕ) → answered f m ≡ Ok n → n ≡ m
 accepted_cells f m n q = read f m n q
   where
     cells_in : Verdict → ℕ
-    cells_in (Accepted n) = n
-    cells_in (Refused r i) = 0
+    cells_in (Ok n) = n
+    cells_in (Err e) = 0
 
-    read : (f : Fault) (m n : ℕ) → answered f m ≡ Accepted n → n ≡ m
-    read Clean m n q = sym (ap cells_in q)
-    read (At r i) m n q = let z : ◌≡◌ {A = Bool} false true = ap accepted q in absurd (Rattle.word.specs.ListLaws.true_not_false (sym z))
+    read : (f : Fault) (m n : ℕ) → answered f m ≡ Ok n → n ≡ m
+    read (Ok u) m n q = sym (ap cells_in q)
+    read (Err e) m n q = let z : ◌≡◌ {A = Bool} false true = ap accepted q in absurd (Rattle.word.specs.ListLaws.true_not_false (sym z))
 
 -- what an equation with the verdict promises
 pub judges_without : (P : List (List ℕ)) (E : List EntryList) (r : Verdict) → r ≡ verdict_of P E → JudgesWithoutPage P E r

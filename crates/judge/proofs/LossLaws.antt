@@ -1,17 +1,15 @@
 -- Laws of what is shown with a finding: the candidate search on the basis shows the word of the
 -- definition, for the entry at fault.
 -- Assumes nothing.
-use Prim.Native.Nat.{ℕ, zero, suc, ◌+◌, ◌≤◌, ◌<◌}
+use Prim.Native.Nat.{ℕ, zero, suc, ◌+◌, ◌<◌}
 use native.Mathlib.Nat.{add-zero}
 use native.Mathlib.Omega.{arith}
 use mathlib.Core.Path.{◌≡◌, refl, sym, ap, ◌∙◌}
 use mathlib.Core.Bool.{Bool, true, false, cond}
 use mathlib.Core.List.{List, [], ◌∷◌, map, Memᴰ}
-use mathlib.Core.Option.{Option, none, some}
+use mathlib.Core.Option.{Option as Maybe, none, some}
 use lib.ListN.{length, take}
 use Rattle.word.specs.Lists.{row}
-use Rattle.word.specs.Ceilings.{DIGITS, PREFIX}
-use Rattle.word.specs.ListLaws.{true_not_false}
 use Rattle.word.specs.Word.{is_perm}
 use Rattle.word.specs.Finding.{fault}
 use Rattle.word.specs.declared.refusal.Refusal.TheVariants.{LiveGap, Irreversible}
@@ -22,8 +20,9 @@ use Rattle.forms.specs.declared.memory.Scheme.{Scheme}
 use Rattle.scheme.specs.WellFormed.{first_at, outside}
 use Rattle.scheme.specs.Proper.{ProperEntry}
 use Rattle.scheme.specs.PositionLaws.{positions_inside}
-use Rattle.lost_word.specs.Shown.{ShowsWord}
-use Rattle.lost_word.specs.declared.least.LostWord.{LostWord}
+use Rattle.lost_word.specs.Shown.{ShowsWord, IsShort}
+use Rattle.std.specs.Prelude.{Option, Some, None}
+use Rattle.placing.specs.declared.tables.Word.{Word}
 use Rattle.claims.specs.EntryMemory.{rule_candidate}
 use Rattle.verdict.specs.Witness.{rule_word_under, indexed_entry, entry_word_under, word_shown_under}
 use Rattle.verdict.proofs.WitnessLaws.{shown_candidate, indexed_member}
@@ -38,24 +37,25 @@ indexed_row f a (suc n) (suc i) h = indexed_row f (suc a) n i (omega arith) ∙ 
 pub indexed_scheme : (s : Scheme) (i : ℕ) → i < s.count → indexed_entry (scheme_in s) i ≡ some (entry_at s i)
 indexed_scheme s i h = indexed_row (entry_at s) 0 s.count i h ∙ ap (λ (k : ℕ). some (entry_at s k)) (omega arith)
 
--- a word that is shown is there, and is short
-pub shows_short : (o : Option (List ℕ)) (word : LostWord) → ShowsWord o word → word.found ≡ true → word.length ≤ PREFIX + DIGITS
-shows_short none word h t = absurd (true_not_false (sym t ∙ h))
-shows_short (some w) word h t = h.2
+-- a word that is shown is short
+pub shows_short : (o : Maybe (List ℕ)) (word : Option Word) → ShowsWord o word → IsShort word
+shows_short none None h = h
+shows_short none (Some w) h = absurd h
+shows_short (some v) None h = absurd h
+shows_short (some v) (Some w) h = h.1
 
--- a word that is not there shows nothing
-pub shows_nothing_lem : (o : Option (List ℕ)) (word : LostWord) → ShowsWord o word → word.found ≡ false → o ≡ none
-shows_nothing_lem none word h f = refl
-shows_nothing_lem (some w) word h f = absurd (true_not_false (sym h.0 ∙ f))
+-- where there is no word nothing is shown
+pub shows_nothing_lem : (o : Maybe (List ℕ)) → ShowsWord o None → o ≡ none
+shows_nothing_lem none h = refl
+shows_nothing_lem (some w) h = absurd h
 
 -- a word that is there is the one that is shown
-pub shows_some : (o : Option (List ℕ)) (word : LostWord) → ShowsWord o word → word.found ≡ true →
-    o ≡ some (take word.length word.entries)
-shows_some none word h t = absurd (true_not_false (sym t ∙ h))
-shows_some (some w) word h t = ap some (sym h.1)
+pub shows_some : (o : Maybe (List ℕ)) (word : Word) → ShowsWord o (Some word) → o ≡ some (take word.length word.entries)
+shows_some none word h = absurd h
+shows_some (some w) word h = ap some (sym h.0)
 
-pub shows_none : (o : Option (List ℕ)) (word : LostWord) → o ≡ none → word.found ≡ false → ShowsWord o word
-shows_none o word e f = rw e f
+pub shows_none : (o : Maybe (List ℕ)) → o ≡ none → ShowsWord o None
+shows_none o e = rw e tt
 
 module _ (m : ℕ) (P : List (List ℕ)) (perms : (β : List ℕ) → Memᴰ β P → is_perm β ≡ true) where
   -- the word of the definition is what the candidate search shows on the basis
@@ -69,7 +69,7 @@ module _ (m : ℕ) (P : List (List ℕ)) (perms : (β : List ℕ) → Memᴰ β 
     entry_word_lem : (i : ℕ) → entry_word_under m P (indexed_entry E i) ≡ entry_loss m (basis P) (indexed_entry E i)
     entry_word_lem i = go (indexed_entry E i) refl
       where
-        go : (o : Option EntryList) → indexed_entry E i ≡ o → entry_word_under m P o ≡ entry_loss m (basis P) o
+        go : (o : Maybe EntryList) → indexed_entry E i ≡ o → entry_word_under m P o ≡ entry_loss m (basis P) o
         go none q = refl
         go (some e) q = let p = each e (indexed_member E i e q) in rule_word_lem e.prefix e.gaps e.rule p.perm p.inside
 

@@ -22,10 +22,10 @@ use Rattle.word.specs.declared.refusal.Refusal.TheVariants.{LiveGap, Irreversibl
 use Rattle.cell.specs.Cell.{m_of, compared}
 use Rattle.cell.proofs.BasisLaws.{longest_at_most, m_at_most}
 use Rattle.forms.specs.SchemeList.{Does, expands, deletes, EntryList}
-use Rattle.forms.specs.SchemeMemory.{fault_of, or_else}
+use Rattle.forms.specs.SchemeMemory.{Fault, fault_of, or_else}
 use Rattle.forms.specs.ToldLaws.{told_found}
-use Rattle.forms.specs.declared.memory.Fault.{Fault}
-use Rattle.forms.specs.declared.memory.Fault.TheVariants.{Clean, At}
+use Rattle.std.specs.Prelude.{Ok, Err}
+use Rattle.word.specs.Refusal.{refused_at}
 use Rattle.scheme.specs.WellFormed.{first_at, outside, pattern_tests, scheme_tests}
 use Rattle.scheme.specs.Proper.{ProperEntry}
 use Rattle.scheme.specs.PositionLaws.{positions_inside}
@@ -41,24 +41,23 @@ use Rattle.verdict.specs.VerdictLaws.{accepted_exactly}
 use Rattle.verdict.proofs.SameVerdictLaws.{formed_behind}
 use Rattle.verdict.specs.Witness.{half, witness_bytes, shown_word, rule_word, indexed_entry, entry_word, bytes_shown, Witnesses}
 use Rattle.verdict.proofs.WitnessLaws.{half_length, shown_there, shown_length, witnesses}
-use Rattle.verdict.specs.declared.answer.Verdict.{Verdict}
-use Rattle.verdict.specs.declared.answer.Verdict.TheVariants.{Accepted, Refused}
+use Rattle.verdict.specs.Verdict.{Verdict}
 use Rattle.judge.specs.Judgement.{page_test, page_tests, verdict_on, page_after, EntryWitness, Judges}
 use Rattle.judge.proofs.JudgementLaws.{told_answered, accepted_cells}
 
 -- No finding but that of test 11 writes.
 abbrev pub number_in : Fault → ℕ
-number_in Clean = 0
-number_in (At r i) = number_of r
+number_in (Ok u) = 0
+number_in (Err e) = number_of e.refusal
 
 pub number_found_lem : (x : Finding) → number_in (fault_of x) ≡ number_found x
 number_found_lem clean = refl
 number_found_lem (fault r i) = refl
 
 pub nothing_shown : (P : List (List ℕ)) (E : List EntryList) (f : Fault) → (number_in f ≡ 11 → ⊥) → bytes_shown P E f ≡ []
-nothing_shown P E Clean h = refl
-nothing_shown P E (At r i) h = ap (λ (b : Bool). witness_bytes P (cond b (entry_word P (indexed_entry E i)) none))
-    (ne_eqb (number_of r) 11 h)
+nothing_shown P E (Ok u) h = refl
+nothing_shown P E (Err e) h = ap (λ (b : Bool). witness_bytes P (cond b (entry_word P (indexed_entry E e.index)) none))
+    (ne_eqb (number_of e.refusal) 11 h)
 
 -- such a page stays as it is
 pub page_kept : (P : List (List ℕ)) (E : List EntryList) (f : Fault) (page : List ℕ) → (number_in f ≡ 11 → ⊥) →
@@ -200,19 +199,20 @@ module _ (P : List (List ℕ)) (E : List EntryList) (before after : List ℕ) (r
       go (inr long) = long_page long
 
   -- the finding of a refusal
-  refused_found : (x : Finding) (n i : ℕ) → answered (fault_of x) n ≡ Refused Irreversible i → x ≡ fault Irreversible i
+  refused_found : (x : Finding) (n i : ℕ) → answered (fault_of x) n ≡ Err (refused_at Irreversible i) → x ≡ fault Irreversible i
   refused_found clean n i e = let z : ◌≡◌ {A = Bool} true false = ap accepted e in absurd (true_not_false z)
   refused_found (fault q j) n i e = let (a, b) = same_refusal q j i e in ap₂ fault a b
     where
       refusal_of : Verdict → Refusal
-      refusal_of (Accepted m) = ShortPage
-      refusal_of (Refused x m) = x
+      refusal_of (Ok m) = ShortPage
+      refusal_of (Err e) = e.refusal
 
       index_of : Verdict → ℕ
-      index_of (Accepted m) = 0
-      index_of (Refused x m) = m
+      index_of (Ok m) = 0
+      index_of (Err e) = e.index
 
-      same_refusal : (q : Refusal) (j i : ℕ) → Refused q j ≡ Refused Irreversible i → (q ≡ Irreversible) × (j ≡ i)
+      same_refusal : (q : Refusal) (j i : ℕ) → ◌≡◌ {A = Verdict} (Err (refused_at q j)) (Err (refused_at Irreversible i)) →
+          (q ≡ Irreversible) × (j ≡ i)
       same_refusal q j i e = (ap refusal_of e, ap index_of e)
 
   pub judges : Judges P E before after r
@@ -231,12 +231,12 @@ module _ (P : List (List ℕ)) (E : List EntryList) (before after : List ℕ) (r
 
 -- a short page is refused, and stays as it is
 pub judges_short : (P : List (List ℕ)) (E : List EntryList) (page : List ℕ) → length page < PAGE →
-    Judges P E page page (Refused ShortPage 0)
+    Judges P E page page (Err (refused_at ShortPage 0))
 judges_short P E page h =
     let e = page_short (length page) (judge_tests P E) h in
-    judges P E page page (Refused ShortPage 0)
+    judges P E page page (Err (refused_at ShortPage 0))
     (sym (ap (λ (x : Finding). answered (fault_of x) (compared_cells P E)) e))
-    (page_kept P E (At ShortPage 0) page (λ n. omega arith) ∙
+    (page_kept P E (Err (refused_at ShortPage 0)) page (λ n. omega arith) ∙
     sym (ap (λ (x : Finding). overlay 0 (bytes_shown P E (fault_of x)) page) e))
 
 -- a page that is long enough does not change the verdict
@@ -250,5 +250,5 @@ judges_long P E before after r h e p =
 
 -- the earlier of two findings has a number as small as theirs
 pub earlier_nine : (f g : Fault) → number_in f ≤ 9 → number_in g ≤ 9 → number_in (or_else f g) ≤ 9
-earlier_nine Clean g h k = k
-earlier_nine (At r i) g h k = h
+earlier_nine (Ok u) g h k = k
+earlier_nine (Err e) g h k = h

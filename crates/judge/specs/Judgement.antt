@@ -1,6 +1,6 @@
 -- What judging promises: the whole of the first sentence of demand 3, and the witness of order 1.
 -- Definitions only.
-use Rattle.std.specs.Prelude.{ℕ, ◌≤◌, ◌≡◌, true, List, [], ◌∷◌, ◌↔◌, length, ltb}
+use Rattle.std.specs.Prelude.{Ok, Err, ℕ, ◌≤◌, ◌≡◌, true, List, [], ◌∷◌, ◌↔◌, length, ltb}
 use Rattle.std.proofs.Math.Option.{some}
 use Rattle.word.specs.Ceilings.{PAGE}
 use Rattle.word.specs.Finding.{Finding, test, first_fault}
@@ -9,11 +9,10 @@ use Rattle.word.specs.declared.refusal.Refusal.TheVariants.{Irreversible, ShortP
 use Rattle.forms.specs.SchemeList.{deletes, EntryList}
 use Rattle.forms.specs.SchemeMemory.{fault_of}
 use Rattle.text_page.specs.Page.{overlay}
-use Rattle.verdict.specs.Verdict.{compared_cells, judge_tests, answered, verdict_of, told_verdict, accepted}
+use Rattle.word.specs.Refusal.{refused_at}
+use Rattle.verdict.specs.Verdict.{Verdict, compared_cells, judge_tests, answered, verdict_of, told_verdict, accepted}
 use Rattle.verdict.specs.Truth.{WellFormed, AllTrue}
 use Rattle.verdict.specs.Witness.{indexed_entry, bytes_shown, Witnesses}
-use Rattle.verdict.specs.declared.answer.Verdict.{Verdict}
-use Rattle.verdict.specs.declared.answer.Verdict.TheVariants.{Accepted, Refused}
 
 -- where no page is lent: the answer r to the patterns P and the scheme E
 pub record JudgesWithoutPage (P : List (List ℕ)) (E : List EntryList) (r : Verdict) : Type 0 where
@@ -24,7 +23,7 @@ pub record JudgesWithoutPage (P : List (List ℕ)) (E : List EntryList) (r : Ver
   -- "accepted exactly when well-formed within the limits and all claims true at every length"
   pub exactly : (accepted r ≡ true) ↔ (WellFormed P E × AllTrue P E)
   -- "An acceptance reports the number of compared cells" (01)
-  pub cells : (n : ℕ) → r ≡ Accepted n → n ≡ compared_cells P E
+  pub cells : (n : ℕ) → r ≡ Ok n → n ≡ compared_cells P E
 
 -- "A page under 32 bytes is refused 13, tested before all else" (02, order 1)
 abbrev pub page_test : ℕ → Finding
@@ -60,8 +59,8 @@ pub record Judges (P : List (List ℕ)) (E : List EntryList) (before after : Lis
   -- "where demand 3 says that a scheme is accepted, it means judging with a page that is long
   -- enough" (02, order 1)
   pub exactly : PAGE ≤ length before → (accepted r ≡ true) ↔ (WellFormed P E × AllTrue P E)
-  pub cells : (n : ℕ) → r ≡ Accepted n → n ≡ compared_cells P E
+  pub cells : (n : ℕ) → r ≡ Ok n → n ≡ compared_cells P E
   -- the same verdict as without a page
   pub same : PAGE ≤ length before → r ≡ verdict_of P E
   -- the witness, in words of mathematics
-  pub witness : (i : ℕ) → r ≡ Refused Irreversible i → EntryWitness P E i after
+  pub witness : (i : ℕ) → r ≡ Err (refused_at Irreversible i) → EntryWitness P E i after

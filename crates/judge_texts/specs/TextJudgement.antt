@@ -1,32 +1,36 @@
 -- What judging two texts promises. Definitions only.
-use Rattle.std.specs.Prelude.{ℕ, ◌≤◌, ◌≡◌, true, List, [], ◌∷◌, ◌↔◌, length}
+use Rattle.std.specs.Prelude.{Ok, Err, ℕ, ◌≤◌, ◌≡◌, true, List, [], ◌∷◌, ◌↔◌, length}
 use Rattle.word.specs.Ceilings.{PATTERN_TEXT, SCHEME_TEXT, PAGE}
 use Rattle.word.specs.declared.refusal.Refusal.TheVariants.{Irreversible}
 use Rattle.word.specs.Finding.{first_fault}
 use Rattle.forms.specs.SchemeList.{EntryList}
-use Rattle.forms.specs.SchemeMemory.{patterns_in, scheme_in, fault_of, or_else, told_or}
-use Rattle.forms.specs.declared.memory.Fault.{Fault}
+use Rattle.forms.specs.SchemeMemory.{Fault, patterns_in, scheme_in, fault_of, or_else, told_or}
 use Rattle.text_page.specs.Page.{overlay}
 use Rattle.text_grammar.specs.Spelling.{SpellsPatterns, SpellsScheme}
-use Rattle.notation.specs.PatternAnswers.{patterns_answer}
-use Rattle.notation.specs.SchemeAnswers.{scheme_answer}
-use Rattle.notation.specs.declared.patterns.PatternsRead.{PatternsRead}
-use Rattle.notation.specs.declared.schemes.SchemeRead.{SchemeRead}
-use Rattle.verdict.specs.Verdict.{claim_tests, compared_cells, answered, verdict_of, told_verdict, accepted}
+use Rattle.notation.specs.Answers.{read_fault, read_list}
+use Rattle.notation.specs.PatternAnswers.{PatternsRead, patterns_answer}
+use Rattle.notation.specs.SchemeAnswers.{SchemeRead, scheme_answer}
+use Rattle.verdict.specs.Verdict.{Verdict, claim_tests, compared_cells, answered, verdict_of, told_verdict, accepted}
 use Rattle.verdict.specs.Truth.{WellFormed, AllTrue}
 use Rattle.verdict.specs.Witness.{bytes_shown}
-use Rattle.verdict.specs.declared.answer.Verdict.{Verdict}
-use Rattle.verdict.specs.declared.answer.Verdict.TheVariants.{Refused}
+use Rattle.word.specs.Refusal.{refused_at}
 use Rattle.judge.specs.Judgement.{page_test, EntryWitness, Judges}
 use Rattle.judge_texts.specs.declared.TextsJudged.{TextsJudged}
 
 -- what is found in what was read: the faults of reading, of the set before the scheme, and then
 -- those of the claims
 abbrev pub fault_read : PatternsRead → SchemeRead → Fault
-fault_read p q = or_else p.fault (or_else q.fault (fault_of (first_fault (claim_tests (patterns_in p.patterns) (scheme_in q.scheme)))))
+fault_read p q = or_else (read_fault p) (or_else (read_fault q)
+    (fault_of (first_fault (claim_tests (read_list patterns_in p) (read_list scheme_in q)))))
 
 abbrev pub cells_read : PatternsRead → SchemeRead → ℕ
-cells_read p q = compared_cells (patterns_in p.patterns) (scheme_in q.scheme)
+cells_read p q = compared_cells (read_list patterns_in p) (read_list scheme_in q)
+
+-- what was read of both is well-formed
+abbrev pub IsReadWell : PatternsRead → SchemeRead → Type 0
+IsReadWell (Ok p) (Ok q) = WellFormed (patterns_in p) (scheme_in q)
+IsReadWell (Ok p) (Err e) = Unit {0}
+IsReadWell (Err e) q = Unit {0}
 
 -- the verdict on what was read
 abbrev pub verdict_read : PatternsRead → SchemeRead → Verdict
@@ -64,12 +68,12 @@ pub record JudgesTextsWithoutPage (s t : List ℕ) (r : Verdict) : Type 0 where
 -- spell them, they are well-formed, and the claims are true
 pub record JudgesAndReads (s t : List ℕ) (r : TextsJudged) : Type 0 where
   pub judges : JudgesTextsWithoutPage s t r.verdict
-  pub patterns : r.patterns ≡ (patterns_answer s).patterns
-  pub scheme : r.scheme ≡ (scheme_answer t).scheme
-  pub spells : accepted r.verdict ≡ true → SpellsPatterns s (patterns_in r.patterns)
-  pub spells_scheme : accepted r.verdict ≡ true → SpellsScheme t (scheme_in r.scheme)
-  pub formed : accepted r.verdict ≡ true → WellFormed (patterns_in r.patterns) (scheme_in r.scheme)
-  pub claims : accepted r.verdict ≡ true → AllTrue (patterns_in r.patterns) (scheme_in r.scheme)
+  pub patterns : r.patterns ≡ patterns_answer s
+  pub scheme : r.scheme ≡ scheme_answer t
+  pub spells : accepted r.verdict ≡ true → SpellsPatterns s (read_list patterns_in r.patterns)
+  pub spells_scheme : accepted r.verdict ≡ true → SpellsScheme t (read_list scheme_in r.scheme)
+  pub formed : accepted r.verdict ≡ true → WellFormed (read_list patterns_in r.patterns) (read_list scheme_in r.scheme)
+  pub claims : accepted r.verdict ≡ true → AllTrue (read_list patterns_in r.patterns) (read_list scheme_in r.scheme)
 
 -- what is found where a page of n bytes is lent: "A page under 32 bytes is refused 13, tested
 -- before all else" (02, order 1)
@@ -82,7 +86,7 @@ verdict_read_on n p q = answered (fault_read_on n p q) (cells_read p q)
 -- the page afterwards: with refusal 11 it begins with the witness
 abbrev pub page_read : PatternsRead → SchemeRead → List ℕ → List ℕ
 page_read p q page =
-    overlay 0 (bytes_shown (patterns_in p.patterns) (scheme_in q.scheme) (fault_read_on (length page) p q)) page
+    overlay 0 (bytes_shown (read_list patterns_in p) (read_list scheme_in q) (fault_read_on (length page) p q)) page
 
 -- the answer r to the texts s and t, with a page that holds `before`, and then `after`
 pub record JudgesTexts (s t before after : List ℕ) (r : Verdict) : Type 0 where
@@ -97,5 +101,5 @@ pub record JudgesTexts (s t before after : List ℕ) (r : Verdict) : Type 0 wher
   -- the same verdict as without a page
   pub same : PAGE ≤ length before → r ≡ verdict_of_texts s t
   -- with refusal 11 the texts spell lists, and the page begins with a witness for the refused entry
-  pub witness : (i : ℕ) → r ≡ Refused Irreversible i → (P : List (List ℕ)) × (E : List EntryList) ×
+  pub witness : (i : ℕ) → r ≡ Err (refused_at Irreversible i) → (P : List (List ℕ)) × (E : List EntryList) ×
       SpellsPatterns s P × SpellsScheme t E × EntryWitness P E i after

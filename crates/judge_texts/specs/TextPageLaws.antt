@@ -1,5 +1,5 @@
 -- Laws of judging texts with a page: what the equations for the verdict and for the page promise.
-use Rattle.std.specs.Prelude.{ℕ, ◌≤◌, ◌<◌, ◌≡◌, refl, Bool, true, false, cond, List, ◌⊎◌, length, ltb}
+use Rattle.std.specs.Prelude.{Ok, Err, ℕ, ◌≤◌, ◌<◌, ◌≡◌, refl, Bool, true, false, cond, List, ◌⊎◌, length, ltb}
 use Rattle.std.proofs.Common.{arith, sym, ap, ap₂, ◌∙◌, inl, inr, lt-ltb, le-ltb}
 use Rattle.std.proofs.Math.Option.{Option, none, some}
 use Rattle.word.specs.Ceilings.{PATTERN_TEXT, SCHEME_TEXT, PAGE}
@@ -7,22 +7,19 @@ use Rattle.word.specs.ListLaws.{below_or_not}
 use Rattle.word.specs.Finding.{first_fault, test}
 use Rattle.word.specs.declared.refusal.Refusal.TheVariants.{Oversize, Irreversible, ShortPage}
 use Rattle.forms.specs.SchemeList.{EntryList}
-use Rattle.forms.specs.SchemeMemory.{patterns_in, scheme_in, fault_of, or_else, faulty}
-use Rattle.forms.specs.declared.memory.Fault.{Fault}
-use Rattle.forms.specs.declared.memory.Fault.TheVariants.{Clean, At}
+use Rattle.forms.specs.SchemeMemory.{Fault, patterns_in, scheme_in, fault_of, or_else, faulty}
+use Rattle.word.specs.Refusal.{refused_at}
 use Rattle.scheme.specs.WellFormed.{pattern_tests, scheme_tests}
 use Rattle.wellformed.proofs.OrderLaws.{or_else_fault, or_else_clean}
 use Rattle.text_grammar.specs.Spelling.{SpellsPatterns, SpellsScheme}
 use Rattle.text_grammar.specs.Tokens.{tokens}
 use Rattle.text_grammar.specs.Grammar.{read_patterns, read_entries}
 use Rattle.text_page.specs.Page.{overlay}
-use Rattle.notation.specs.Answers.{answer_from}
+use Rattle.notation.specs.Answers.{answer_from, read_fault, read_list}
 use Rattle.notation.specs.PatternAnswers.{refused_patterns, tested_patterns, patterns_answer, ReadsPatterns}
 use Rattle.notation.specs.SchemeAnswers.{refused_scheme, tested_scheme, scheme_answer, ReadsScheme}
-use Rattle.verdict.specs.Verdict.{claim_tests, compared_cells, judge_tests, answered, told_verdict}
+use Rattle.verdict.specs.Verdict.{Verdict, claim_tests, compared_cells, judge_tests, answered, told_verdict}
 use Rattle.verdict.specs.Witness.{bytes_shown}
-use Rattle.verdict.specs.declared.answer.Verdict.{Verdict}
-use Rattle.verdict.specs.declared.answer.Verdict.TheVariants.{Accepted, Refused}
 use Rattle.judge.specs.Judgement.{page_test, Judges}
 use Rattle.judge.proofs.JudgementLaws.{refused_answer, told_answered, or_else_assoc, verdict_parts}
 use Rattle.judge_texts.specs.TextJudgement.{fault_read, cells_read, verdict_of_texts, JudgesTextsWithoutPage}
@@ -34,12 +31,12 @@ use Rattle.scheme.specs.NumberLaws.{patterns_nine, scheme_nine}
 use Rattle.judge.proofs.WitnessPageLaws.{judges_short, judges_long}
 
 -- reading finds numbers up to 9
-read_nine : (s : List ℕ) → number_in (patterns_answer s).fault ≤ 9
+read_nine : (s : List ℕ) → number_in (read_fault (patterns_answer s)) ≤ 9
 read_nine s = go (ltb PATTERN_TEXT (length s)) (read_patterns (tokens s))
   where
     go : (b : Bool) (o : Option (List (List ℕ))) →
-        number_in (cond b (refused_patterns Oversize 0)
-        (answer_from refused_patterns tested_patterns o)).fault ≤ 9
+        number_in (read_fault (cond b (refused_patterns Oversize 0)
+        (answer_from refused_patterns tested_patterns o))) ≤ 9
     go true o = omega arith
     go false none = omega arith
     go false (some P) =
@@ -48,18 +45,18 @@ read_nine s = go (ltb PATTERN_TEXT (length s)) (read_patterns (tokens s))
           number_found_lem (first_fault (pattern_tests P)),
         ) (patterns_nine P)
 
-scheme_read_nine : (t : List ℕ) → number_in (scheme_answer t).fault ≤ 9
+scheme_read_nine : (t : List ℕ) → number_in (read_fault (scheme_answer t)) ≤ 9
 scheme_read_nine t = go (ltb SCHEME_TEXT (length t)) (read_entries (tokens t))
   where
     go : (b : Bool) (o : Option (List EntryList)) →
-        number_in (cond b (refused_scheme Oversize 0) (answer_from refused_scheme tested_scheme o)).fault ≤ 9
+        number_in (read_fault (cond b (refused_scheme Oversize 0) (answer_from refused_scheme tested_scheme o))) ≤ 9
     go true o = omega arith
     go false none = omega arith
     go false (some E) =
         rw (read_scheme_fault (fault_of (first_fault (scheme_tests E))) _, number_found_lem (first_fault (scheme_tests E))) (scheme_nine E)
 
 -- the test of the page, in front of what is found in what was read
-on_short : (n : ℕ) (f : Fault) → n < PAGE → or_else (fault_of (page_test n)) f ≡ At ShortPage 0
+on_short : (n : ℕ) (f : Fault) → n < PAGE → or_else (fault_of (page_test n)) f ≡ Err (refused_at ShortPage 0)
 on_short n f h = ap (λ (b : Bool). or_else (fault_of (test ShortPage b)) f) (lt-ltb n PAGE h)
 
 on_long : (n : ℕ) (f : Fault) → PAGE ≤ n → or_else (fault_of (page_test n)) f ≡ f
@@ -67,66 +64,67 @@ on_long n f h = ap (λ (b : Bool). or_else (fault_of (test ShortPage b)) f) (le-
 
 -- the number of a verdict
 abbrev number_on : Verdict → ℕ
-number_on (Accepted n) = 0
-number_on (Refused x n) = number_in (At x n)
+number_on (Ok n) = 0
+number_on (Err e) = number_in (Err e)
 
 -- a short page is refused before the texts are read
-pub texts_short : (s t page : List ℕ) → length page < PAGE → JudgesTexts s t page page (Refused ShortPage 0)
+pub texts_short : (s t page : List ℕ) → length page < PAGE → JudgesTexts s t page page (Err (refused_at ShortPage 0))
 texts_short s t page h =
     let e = on_short (length page) (fault_read (patterns_answer s) (scheme_answer t)) h in
-    let P = patterns_in (patterns_answer s).patterns in
-    let E = scheme_in (scheme_answer t).scheme in
+    let P = read_list patterns_in (patterns_answer s) in
+    let E = read_list scheme_in (scheme_answer t) in
     let cells = cells_read (patterns_answer s) (scheme_answer t) in
-    let verdict : Refused ShortPage 0 ≡ verdict_read_on (length page) (patterns_answer s) (scheme_answer t) =
+    let verdict : Err (refused_at ShortPage 0) ≡ verdict_read_on (length page) (patterns_answer s) (scheme_answer t) =
     sym (ap (λ (f : Fault). answered f cells) e) in
     record {
       verdict = verdict;
       numbers = ap told_verdict verdict ∙ told_answered (fault_read_on (length page) (patterns_answer s) (scheme_answer t)) cells;
-      page = page_kept P E (At ShortPage 0) page (λ n. omega arith) ∙ sym (ap (λ (f : Fault). overlay 0 (bytes_shown P E f) page) e);
+      page = page_kept P E (Err (refused_at ShortPage 0)) page (λ n. omega arith) ∙
+          sym (ap (λ (f : Fault). overlay 0 (bytes_shown P E f) page) e);
       spelt = λ Q F a b u v. judges_short Q F page h;
       exactly = λ long. absurd (omega arith);
       same = λ long. absurd (omega arith);
-      witness = λ i q. let n : number_in (At ShortPage 0) ≡ 11 = ap number_on q in absurd (omega arith);
+      witness = λ i q. let n : number_in (Err (refused_at ShortPage 0)) ≡ 11 = ap number_on q in absurd (omega arith);
     }
 
 -- What was read from the texts s and t.
 module _ (s t : List ℕ) (reading : ReadsPatterns s (patterns_answer s)) (reading-scheme : ReadsScheme t (scheme_answer t)) where
   abbrev P : List (List ℕ)
-  P = patterns_in (patterns_answer s).patterns
+  P = read_list patterns_in (patterns_answer s)
 
   abbrev E : List EntryList
-  E = scheme_in (scheme_answer t).scheme
+  E = read_list scheme_in (scheme_answer t)
 
-  abbrev read_fault : Fault
-  read_fault = or_else (patterns_answer s).fault (scheme_answer t).fault
+  abbrev reading_fault : Fault
+  reading_fault = or_else (read_fault (patterns_answer s)) (read_fault (scheme_answer t))
 
   abbrev claimed : Fault
   claimed = fault_of (first_fault (claim_tests P E))
 
-  found_parts : fault_read (patterns_answer s) (scheme_answer t) ≡ or_else read_fault claimed
-  found_parts = or_else_assoc (patterns_answer s).fault (scheme_answer t).fault claimed
+  found_parts : fault_read (patterns_answer s) (scheme_answer t) ≡ or_else reading_fault claimed
+  found_parts = or_else_assoc (read_fault (patterns_answer s)) (read_fault (scheme_answer t)) claimed
 
-  read_small : number_in read_fault ≤ 9
-  read_small = earlier_nine (patterns_answer s).fault (scheme_answer t).fault (read_nine s) (scheme_read_nine t)
+  read_small : number_in reading_fault ≤ 9
+  read_small = earlier_nine (read_fault (patterns_answer s)) (read_fault (scheme_answer t)) (read_nine s) (scheme_read_nine t)
 
   -- a fault of reading is what is found, and writes nothing
-  pub found_reading : faulty read_fault ≡ true → fault_read (patterns_answer s) (scheme_answer t) ≡ read_fault
-  found_reading h = found_parts ∙ or_else_fault read_fault claimed h
+  pub found_reading : faulty reading_fault ≡ true → fault_read (patterns_answer s) (scheme_answer t) ≡ reading_fault
+  found_reading h = found_parts ∙ or_else_fault reading_fault claimed h
 
-  pub found_claimed : faulty read_fault ≡ false → fault_read (patterns_answer s) (scheme_answer t) ≡ claimed
-  found_claimed h = found_parts ∙ or_else_clean read_fault claimed h
+  pub found_claimed : faulty reading_fault ≡ false → fault_read (patterns_answer s) (scheme_answer t) ≡ claimed
+  found_claimed h = found_parts ∙ or_else_clean reading_fault claimed h
 
   -- the verdict on the texts without a page
   texts_without : JudgesTextsWithoutPage s t (verdict_of_texts s t)
-  texts_without = go (faulty read_fault) refl
+  texts_without = go (faulty reading_fault) refl
     where
-      go : (b : Bool) → faulty read_fault ≡ b → JudgesTextsWithoutPage s t (verdict_of_texts s t)
+      go : (b : Bool) → faulty reading_fault ≡ b → JudgesTextsWithoutPage s t (verdict_of_texts s t)
       go true h =
-          let j = (refused_texts s t (patterns_answer s) refl reading (scheme_answer t) refl reading-scheme read_fault refl h
-          (answered read_fault 0) refl).judges in
+          let j = (refused_texts s t (patterns_answer s) refl reading (scheme_answer t) refl reading-scheme reading_fault refl h
+          (answered reading_fault 0) refl).judges in
           rw j.verdict at j
       go false h =
-          let j = (judged_texts s t (patterns_answer s) refl reading (scheme_answer t) refl reading-scheme read_fault refl h
+          let j = (judged_texts s t (patterns_answer s) refl reading (scheme_answer t) refl reading-scheme reading_fault refl h
           (answered claimed (compared_cells P E)) refl).judges in
           rw j.verdict at j
 
@@ -144,12 +142,12 @@ module _ (s t : List ℕ) (reading : ReadsPatterns s (patterns_answer s)) (readi
     page_short_read short =
         page ∙ ap (λ (f : Fault). overlay 0 (bytes_shown P E f) before)
         (on_short (length before) (fault_read (patterns_answer s) (scheme_answer t)) short) ∙
-        sym (page_kept P E (At ShortPage 0) before (λ n. omega arith))
+        sym (page_kept P E (Err (refused_at ShortPage 0)) before (λ n. omega arith))
 
     -- on lists that the texts spell
     module _ (Q : List (List ℕ)) (F : List EntryList) (a : length s ≤ PATTERN_TEXT) (b : length t ≤ SCHEME_TEXT)
         (u : SpellsPatterns s Q) (v : SpellsScheme t F) where
-      list_parts : fault_of (first_fault (judge_tests Q F)) ≡ or_else read_fault (fault_of (first_fault (claim_tests Q F)))
+      list_parts : fault_of (first_fault (judge_tests Q F)) ≡ or_else reading_fault (fault_of (first_fault (claim_tests Q F)))
       list_parts =
           verdict_parts Q F ∙
           ap₂ (λ (x y : Fault). or_else (or_else x y) (fault_of (first_fault (claim_tests Q F))))
@@ -157,30 +155,30 @@ module _ (s t : List ℕ) (reading : ReadsPatterns s (patterns_answer s)) (readi
 
       same_bytes : bytes_shown P E (fault_read (patterns_answer s) (scheme_answer t)) ≡
           bytes_shown Q F (fault_of (first_fault (judge_tests Q F)))
-      same_bytes = go (faulty read_fault) refl
+      same_bytes = go (faulty reading_fault) refl
         where
-          other : number_in read_fault ≡ 11 → ⊥
+          other : number_in reading_fault ≡ 11 → ⊥
           other e = omega (arith, read_small)
 
-          go : (c : Bool) → faulty read_fault ≡ c →
+          go : (c : Bool) → faulty reading_fault ≡ c →
               bytes_shown P E (fault_read (patterns_answer s) (scheme_answer t)) ≡
               bytes_shown Q F (fault_of (first_fault (judge_tests Q F)))
           go true h =
-              ap (bytes_shown P E) (found_reading h) ∙ nothing_shown P E read_fault other ∙ sym (nothing_shown Q F read_fault other) ∙
-              ap (bytes_shown Q F) (sym (list_parts ∙ or_else_fault read_fault (fault_of (first_fault (claim_tests Q F))) h))
+              ap (bytes_shown P E) (found_reading h) ∙ nothing_shown P E reading_fault other ∙ sym (nothing_shown Q F reading_fault other) ∙
+              ap (bytes_shown Q F) (sym (list_parts ∙ or_else_fault reading_fault (fault_of (first_fault (claim_tests Q F))) h))
           go false h =
-              let (x, y) = or_else_clean_both (patterns_answer s).fault (scheme_answer t).fault h in
+              let (x, y) = or_else_clean_both (read_fault (patterns_answer s)) (read_fault (scheme_answer t)) h in
               ap (bytes_shown P E) (found_claimed h) ∙
               ap₂ (λ (X : List (List ℕ)) (Y : List EntryList). bytes_shown X Y (fault_of (first_fault (claim_tests X Y))))
               (spelt_list s (patterns_answer s) reading Q a u x) (spelt_scheme_list t (scheme_answer t) reading-scheme F b v y) ∙
-              ap (bytes_shown Q F) (sym (list_parts ∙ or_else_clean read_fault (fault_of (first_fault (claim_tests Q F))) h))
+              ap (bytes_shown Q F) (sym (list_parts ∙ or_else_clean reading_fault (fault_of (first_fault (claim_tests Q F))) h))
 
       pub judges_spelt : Judges Q F before after r
       judges_spelt = go (below_or_not (length before) PAGE)
         where
           go : (length before < PAGE) ⊎ (PAGE ≤ length before) → Judges Q F before after r
           go (inl short) =
-              let e : r ≡ Refused ShortPage 0 = verdict ∙
+              let e : r ≡ Err (refused_at ShortPage 0) = verdict ∙
               ap (λ (f : Fault). answered f (cells_read (patterns_answer s) (scheme_answer t)))
               (on_short (length before) (fault_read (patterns_answer s) (scheme_answer t)) short) in
               rw (e, page_short_read short) (judges_short Q F before short)
@@ -189,26 +187,26 @@ module _ (s t : List ℕ) (reading : ReadsPatterns s (patterns_answer s)) (readi
               (page_long_read long ∙ ap (λ (l : List ℕ). overlay 0 l before) same_bytes)
 
     -- with refusal 11 both texts were read
-    read_clean : (i : ℕ) → r ≡ Refused Irreversible i → faulty read_fault ≡ false
-    read_clean i e = go (faulty read_fault) refl (below_or_not (length before) PAGE)
+    read_clean : (i : ℕ) → r ≡ Err (refused_at Irreversible i) → faulty reading_fault ≡ false
+    read_clean i e = go (faulty reading_fault) refl (below_or_not (length before) PAGE)
       where
         number_answered : (f : Fault) (n : ℕ) → number_on (answered f n) ≡ number_in f
-        number_answered Clean n = refl
-        number_answered (At x j) n = refl
+        number_answered (Ok u) n = refl
+        number_answered (Err e) n = refl
 
         eleven : number_in (fault_read_on (length before) (patterns_answer s) (scheme_answer t)) ≡ 11
         eleven = sym (number_answered (fault_read_on (length before) (patterns_answer s) (scheme_answer t))
             (cells_read (patterns_answer s) (scheme_answer t))) ∙
             ap number_on (sym verdict ∙ e)
 
-        go : (c : Bool) → faulty read_fault ≡ c → (length before < PAGE) ⊎ (PAGE ≤ length before) → c ≡ false
+        go : (c : Bool) → faulty reading_fault ≡ c → (length before < PAGE) ⊎ (PAGE ≤ length before) → c ≡ false
         go false h l = refl
         go true h (inl short) =
-            let n : number_in (At ShortPage 0) ≡ 11 =
+            let n : number_in (Err (refused_at ShortPage 0)) ≡ 11 =
             sym (ap number_in (on_short (length before) (fault_read (patterns_answer s) (scheme_answer t)) short)) ∙ eleven in
             absurd (omega arith)
         go true h (inr long) =
-            let n : number_in read_fault ≡ 11 =
+            let n : number_in reading_fault ≡ 11 =
             sym (ap number_in (on_long (length before) (fault_read (patterns_answer s) (scheme_answer t)) long ∙ found_reading h))
             ∙ eleven in
             absurd (omega (arith, read_small))
@@ -225,7 +223,7 @@ module _ (s t : List ℕ) (reading : ReadsPatterns s (patterns_answer s)) (readi
           exactly = λ long. rw (same_texts long) texts_without.exactly;
           same = same_texts;
           witness = λ i e.
-              let (x, y) = or_else_clean_both (patterns_answer s).fault (scheme_answer t).fault (read_clean i e) in
+              let (x, y) = or_else_clean_both (read_fault (patterns_answer s)) (read_fault (scheme_answer t)) (read_clean i e) in
               let u = reading.reads x in
               let v = reading-scheme.reads y in
               (P, E, u, v, (judges_spelt P E (patterns_short s x) (scheme_short t y) u v).witness i e);
@@ -233,16 +231,16 @@ module _ (s t : List ℕ) (reading : ReadsPatterns s (patterns_answer s)) (readi
 
   -- The ways through the code: a fault of reading, and the claims of what was read.
 
-  pub texts_refused : (page : List ℕ) (r : Verdict) → PAGE ≤ length page → faulty read_fault ≡ true → r ≡ answered read_fault 0 →
+  pub texts_refused : (page : List ℕ) (r : Verdict) → PAGE ≤ length page → faulty reading_fault ≡ true → r ≡ answered reading_fault 0 →
       JudgesTexts s t page page r
   texts_refused page r long h e =
       let f = on_long (length page) (fault_read (patterns_answer s) (scheme_answer t)) long ∙ found_reading h in
       texts_on_page page page r
-      (e ∙ refused_answer read_fault 0 (cells_read (patterns_answer s) (scheme_answer t)) h ∙
+      (e ∙ refused_answer reading_fault 0 (cells_read (patterns_answer s) (scheme_answer t)) h ∙
       sym (ap (λ (x : Fault). answered x (cells_read (patterns_answer s) (scheme_answer t))) f))
-      (page_kept P E read_fault page (λ n. omega (arith, read_small)) ∙ sym (ap (λ (x : Fault). overlay 0 (bytes_shown P E x) page) f))
+      (page_kept P E reading_fault page (λ n. omega (arith, read_small)) ∙ sym (ap (λ (x : Fault). overlay 0 (bytes_shown P E x) page) f))
 
-  pub texts_judged : (before after : List ℕ) (r : Verdict) → PAGE ≤ length before → faulty read_fault ≡ false →
+  pub texts_judged : (before after : List ℕ) (r : Verdict) → PAGE ≤ length before → faulty reading_fault ≡ false →
       r ≡ answered claimed (compared_cells P E) → after ≡ overlay 0 (bytes_shown P E claimed) before → JudgesTexts s t before after r
   texts_judged before after r long h e q =
       let f = on_long (length before) (fault_read (patterns_answer s) (scheme_answer t)) long ∙ found_claimed h in

@@ -1,6 +1,6 @@
 -- Laws of judging texts: what reading found decides, and the verdict on spelt lists is that on the
 -- lists.
-use Rattle.std.specs.Prelude.{ℕ, ◌≤◌, ◌≡◌, refl, Bool, true, false, cond, List, [], ◌∷◌, length, ltb}
+use Rattle.std.specs.Prelude.{Ok, Err, ℕ, ◌≤◌, ◌≡◌, refl, Bool, true, false, cond, List, [], ◌∷◌, length, ltb}
 use Rattle.std.proofs.Common.{arith, sym, ap, ap₂, ◌∙◌, ltb-false}
 use Rattle.word.specs.Ceilings.{PATTERN_TEXT, SCHEME_TEXT}
 use Rattle.word.specs.ListLaws.{true_not_false}
@@ -8,33 +8,28 @@ use Rattle.word.specs.Finding.{first_fault}
 use Rattle.word.specs.declared.refusal.Refusal.TheVariants.{Oversize}
 use Rattle.forms.specs.SchemeList.{EntryList}
 use Rattle.scheme.specs.WellFormed.{pattern_tests, scheme_tests}
-use Rattle.forms.specs.SchemeMemory.{patterns_in, scheme_in, fault_of, or_else, faulty, told_or}
+use Rattle.forms.specs.SchemeMemory.{Fault, patterns_in, scheme_in, fault_of, or_else, faulty, told_or}
 use Rattle.forms.specs.declared.memory.Patterns.{Patterns}
 use Rattle.forms.specs.declared.memory.Scheme.{Scheme}
-use Rattle.forms.specs.declared.memory.Fault.{Fault}
-use Rattle.forms.specs.declared.memory.Fault.TheVariants.{Clean, At}
-use Rattle.wellformed.proofs.OrderLaws.{or_else_fault}
+use Rattle.wellformed.proofs.OrderLaws.{or_else_fault, or_else_clean}
 use Rattle.text_grammar.specs.Spelling.{SpellsPatterns, SpellsScheme}
 use Rattle.text_grammar.specs.Tokens.{tokens}
 use Rattle.text_grammar.specs.Grammar.{read_patterns, read_entries}
 use Rattle.text_grammar.specs.SpellingLaws.{patterns_unique, scheme_unique}
-use Rattle.notation.specs.Answers.{answer_from}
-use Rattle.notation.specs.PatternAnswers.{read_or, refused_patterns, tested_patterns, patterns_answer, ReadsPatterns}
-use Rattle.notation.specs.SchemeAnswers.{read_scheme_or, refused_scheme, tested_scheme, scheme_answer, ReadsScheme}
-use Rattle.notation.specs.declared.patterns.PatternsRead.{PatternsRead}
-use Rattle.notation.specs.declared.schemes.SchemeRead.{SchemeRead}
-use Rattle.verdict.specs.Verdict.{claim_tests, compared_cells, answered, verdict_of, told_verdict, accepted}
+use Rattle.notation.specs.Answers.{answer_from, read_fault, read_list}
+use Rattle.notation.specs.PatternAnswers.{PatternsRead, read_or, refused_patterns, tested_patterns, patterns_answer, ReadsPatterns}
+use Rattle.notation.specs.SchemeAnswers.{SchemeRead, read_scheme_or, refused_scheme, tested_scheme, scheme_answer, ReadsScheme}
+use Rattle.verdict.specs.Verdict.{Verdict, claim_tests, compared_cells, answered, verdict_of, told_verdict, accepted}
 use Rattle.verdict.specs.Truth.{WellFormed, AllTrue}
 use Rattle.verdict.specs.VerdictLaws.{accepted_exactly}
-use Rattle.verdict.specs.declared.answer.Verdict.{Verdict}
 use Rattle.judge.proofs.JudgementLaws.{refused_answer, told_answered, or_else_assoc, verdict_parts}
-use Rattle.judge_texts.specs.TextJudgement.{fault_read, cells_read, verdict_read, verdict_of_texts, TextsTrue, JudgesAndReads}
+use Rattle.judge_texts.specs.TextJudgement.{fault_read, cells_read, verdict_read, verdict_of_texts, TextsTrue, JudgesAndReads, IsReadWell}
 use Rattle.judge_texts.specs.declared.TextsJudged.{TextsJudged}
 
 -- a refusal accepts nothing
 refused_not : (f : Fault) (n : ℕ) → faulty f ≡ true → accepted (answered f n) ≡ true → ⊥
-refused_not Clean n h a = true_not_false (sym h)
-refused_not (At r i) n h a = true_not_false (sym a)
+refused_not (Ok u) n h a = true_not_false (sym h)
+refused_not (Err e) n h a = true_not_false (sym a)
 
 -- the verdict on two texts, in the numbers of document 01
 told_texts : (s t : List ℕ) (r : Verdict) → r ≡ verdict_of_texts s t →
@@ -43,74 +38,74 @@ told_texts s t r e = ap told_verdict e ∙ told_answered (fault_read (patterns_a
     (cells_read (patterns_answer s) (scheme_answer t))
 
 -- a clean answer comes from a text within its ceiling
-pub patterns_short : (s : List ℕ) → (patterns_answer s).fault ≡ Clean → length s ≤ PATTERN_TEXT
+pub patterns_short : (s : List ℕ) → (read_fault (patterns_answer s)) ≡ Ok tt → length s ≤ PATTERN_TEXT
 patterns_short s e = go (ltb PATTERN_TEXT (length s)) refl e
   where
     go : (b : Bool) → ltb PATTERN_TEXT (length s) ≡ b →
-        (cond b (refused_patterns Oversize 0) (answer_from refused_patterns tested_patterns
-        (read_patterns (tokens s)))).fault ≡ Clean → length s ≤ PATTERN_TEXT
+        read_fault (cond b (refused_patterns Oversize 0) (answer_from refused_patterns tested_patterns
+        (read_patterns (tokens s)))) ≡ Ok tt → length s ≤ PATTERN_TEXT
     go true p q = let z : ◌≡◌ {A = ℕ} 0 1 = cc in absurd (omega arith)
     go false p q = ltb-false PATTERN_TEXT (length s) p
 
-pub scheme_short : (t : List ℕ) → (scheme_answer t).fault ≡ Clean → length t ≤ SCHEME_TEXT
+pub scheme_short : (t : List ℕ) → (read_fault (scheme_answer t)) ≡ Ok tt → length t ≤ SCHEME_TEXT
 scheme_short t e = go (ltb SCHEME_TEXT (length t)) refl e
   where
     go : (b : Bool) → ltb SCHEME_TEXT (length t) ≡ b →
-        (cond b (refused_scheme Oversize 0) (answer_from refused_scheme tested_scheme
-        (read_entries (tokens t)))).fault ≡ Clean → length t ≤ SCHEME_TEXT
+        read_fault (cond b (refused_scheme Oversize 0) (answer_from refused_scheme tested_scheme
+        (read_entries (tokens t)))) ≡ Ok tt → length t ≤ SCHEME_TEXT
     go true p q = let z : ◌≡◌ {A = ℕ} 0 1 = cc in absurd (omega arith)
     go false p q = ltb-false SCHEME_TEXT (length t) p
 
 -- the fault of a list that was read is that of its tests
-pub read_fault_lem : (f : Fault) (m : Patterns) → (read_or f m).fault ≡ f
-read_fault_lem Clean m = refl
-read_fault_lem (At r i) m = refl
+pub read_fault_lem : (f : Fault) (m : Patterns) → read_fault (read_or f m) ≡ f
+read_fault_lem (Ok u) m = refl
+read_fault_lem (Err e) m = refl
 
-pub read_scheme_fault : (f : Fault) (m : Scheme) → (read_scheme_or f m).fault ≡ f
-read_scheme_fault Clean m = refl
-read_scheme_fault (At r i) m = refl
+pub read_scheme_fault : (f : Fault) (m : Scheme) → read_fault (read_scheme_or f m) ≡ f
+read_scheme_fault (Ok u) m = refl
+read_scheme_fault (Err e) m = refl
 
 module _ (s : List ℕ) (p : PatternsRead) (reading : ReadsPatterns s p) (P : List (List ℕ))
     (short : length s ≤ PATTERN_TEXT) (spells : SpellsPatterns s P) where
-  pub spelt_fault : p.fault ≡ fault_of (first_fault (pattern_tests P))
-  spelt_fault = ap (λ (x : PatternsRead). x.fault) (reading.spelt P short spells) ∙
+  pub spelt_fault : (read_fault p) ≡ fault_of (first_fault (pattern_tests P))
+  spelt_fault = ap (λ (x : PatternsRead). read_fault x) (reading.spelt P short spells) ∙
       read_fault_lem (fault_of (first_fault (pattern_tests P))) _
 
-  pub spelt_list : p.fault ≡ Clean → patterns_in p.patterns ≡ P
-  spelt_list e = patterns_unique s (patterns_in p.patterns) P (reading.reads e) spells
+  pub spelt_list : (read_fault p) ≡ Ok tt → read_list patterns_in p ≡ P
+  spelt_list e = patterns_unique s (read_list patterns_in p) P (reading.reads e) spells
 
 module _ (t : List ℕ) (q : SchemeRead) (reading : ReadsScheme t q) (E : List EntryList)
     (short : length t ≤ SCHEME_TEXT) (spells : SpellsScheme t E) where
-  pub spelt_scheme_fault : q.fault ≡ fault_of (first_fault (scheme_tests E))
-  spelt_scheme_fault = ap (λ (x : SchemeRead). x.fault) (reading.spelt E short spells) ∙
+  pub spelt_scheme_fault : (read_fault q) ≡ fault_of (first_fault (scheme_tests E))
+  spelt_scheme_fault = ap (λ (x : SchemeRead). read_fault x) (reading.spelt E short spells) ∙
       read_scheme_fault (fault_of (first_fault (scheme_tests E))) _
 
-  pub spelt_scheme_list : q.fault ≡ Clean → scheme_in q.scheme ≡ E
-  spelt_scheme_list e = scheme_unique t (scheme_in q.scheme) E (reading.reads e) spells
+  pub spelt_scheme_list : (read_fault q) ≡ Ok tt → read_list scheme_in q ≡ E
+  spelt_scheme_list e = scheme_unique t (read_list scheme_in q) E (reading.reads e) spells
 
 -- an answer by a fault: the refusal stands whatever comes behind it
 refusal : (f g : Fault) (n : ℕ) → faulty f ≡ true → answered f 0 ≡ answered (or_else f g) n
 refusal f g n h = refused_answer f 0 n h ∙ ap (λ (x : Fault). answered x n) (sym (or_else_fault f g h))
 
-pub or_else_clean_both : (a b : Fault) → faulty (or_else a b) ≡ false → (a ≡ Clean) × (b ≡ Clean)
-or_else_clean_both Clean Clean h = (refl, refl)
-or_else_clean_both Clean (At r i) h = absurd (true_not_false h)
-or_else_clean_both (At r i) b h = absurd (true_not_false h)
+pub or_else_clean_both : (a b : Fault) → faulty (or_else a b) ≡ false → (a ≡ Ok tt) × (b ≡ Ok tt)
+or_else_clean_both (Ok u) (Ok v) h = (refl, refl)
+or_else_clean_both (Ok u) (Err e) h = absurd (true_not_false h)
+or_else_clean_both (Err e) b h = absurd (true_not_false h)
 
 -- What is read from texts within their ceilings that spell a well-formed scheme with true claims
 module _ (s t : List ℕ) (w : TextsTrue s t) where
   module _ (p : PatternsRead) (reading : ReadsPatterns s p) where
-    pub set_clean : p.fault ≡ Clean
+    pub set_clean : (read_fault p) ≡ Ok tt
     set_clean = spelt_fault s p reading w.patterns w.short w.spells ∙ ap fault_of w.formed.patterns
 
-    pub set_list : patterns_in p.patterns ≡ w.patterns
+    pub set_list : read_list patterns_in p ≡ w.patterns
     set_list = spelt_list s p reading w.patterns w.short w.spells set_clean
 
   module _ (q : SchemeRead) (reading : ReadsScheme t q) where
-    pub scheme_clean : q.fault ≡ Clean
+    pub scheme_clean : (read_fault q) ≡ Ok tt
     scheme_clean = spelt_scheme_fault t q reading w.scheme w.short_scheme w.spells_scheme ∙ ap fault_of w.formed.scheme
 
-    pub scheme_list : scheme_in q.scheme ≡ w.scheme
+    pub scheme_list : read_list scheme_in q ≡ w.scheme
     scheme_list = spelt_scheme_list t q reading w.scheme w.short_scheme w.spells_scheme scheme_clean
 
 -- What was read from the texts s and t.
@@ -118,26 +113,27 @@ module _ (s t : List ℕ) (p : PatternsRead) (is : p ≡ patterns_answer s) (rea
     (q : SchemeRead) (is_scheme : q ≡ scheme_answer t)
     (reading-scheme : ReadsScheme t q) where
   abbrev P : List (List ℕ)
-  P = patterns_in p.patterns
+  P = read_list patterns_in p
 
   abbrev E : List EntryList
-  E = scheme_in q.scheme
+  E = read_list scheme_in q
 
   abbrev judged : Verdict → TextsJudged
-  judged v = record { verdict = v; patterns = p.patterns; scheme = q.scheme }
+  judged v = record { verdict = v; patterns = p; scheme = q }
 
   -- the verdict on what was read is that on the texts
-  verdict_read_lem : answered (or_else (or_else p.fault q.fault) (fault_of (first_fault (claim_tests P E))))
+  verdict_read_lem : answered (or_else (or_else (read_fault p) (read_fault q)) (fault_of (first_fault (claim_tests P E))))
       (compared_cells P E) ≡ verdict_of_texts s t
   verdict_read_lem =
       ap (λ (x : Fault). answered x (compared_cells P E))
-      (sym (or_else_assoc p.fault q.fault (fault_of (first_fault (claim_tests P E))))) ∙
+      (sym (or_else_assoc (read_fault p) (read_fault q) (fault_of (first_fault (claim_tests P E))))) ∙
       ap₂ verdict_read is is_scheme
 
   -- the verdict on lists that the texts spell
   verdict_lists : (Q : List (List ℕ)) (F : List EntryList) → length s ≤ PATTERN_TEXT → length t ≤ SCHEME_TEXT →
       SpellsPatterns s Q → SpellsScheme t F →
-      answered (or_else (or_else p.fault q.fault) (fault_of (first_fault (claim_tests Q F)))) (compared_cells Q F) ≡ verdict_of Q F
+      answered (or_else (or_else (read_fault p) (read_fault q)) (fault_of (first_fault (claim_tests Q F)))) (compared_cells Q F) ≡
+      verdict_of Q F
   verdict_lists Q F a b u v =
       ap (λ (x : Fault). answered x (compared_cells Q F))
       (ap₂ (λ (x y : Fault). or_else (or_else x y) (fault_of (first_fault (claim_tests Q F))))
@@ -145,17 +141,17 @@ module _ (s t : List ℕ) (p : PatternsRead) (is : p ≡ patterns_answer s) (rea
       sym (verdict_parts Q F))
 
   -- true texts have no fault
-  true_clean : TextsTrue s t → or_else p.fault q.fault ≡ Clean
+  true_clean : TextsTrue s t → or_else (read_fault p) (read_fault q) ≡ Ok tt
   true_clean w =
       ap₂ or_else (set_clean s t w p reading) (scheme_clean s t w q reading-scheme)
 
-  module _ (fault : Fault) (found : fault ≡ or_else p.fault q.fault) where
+  module _ (fault : Fault) (found : fault ≡ or_else (read_fault p) (read_fault q)) where
     -- a fault of reading refuses
     module _ (h : faulty fault ≡ true) (r : Verdict) (e : r ≡ answered fault 0) where
       not_accepted : accepted r ≡ true → ⊥
       not_accepted a = refused_not fault 0 h (ap accepted (sym e) ∙ a)
 
-      refused_so : (g : Fault) (n : ℕ) → r ≡ answered (or_else (or_else p.fault q.fault) g) n
+      refused_so : (g : Fault) (n : ℕ) → r ≡ answered (or_else (or_else (read_fault p) (read_fault q)) g) n
       refused_so g n = e ∙ refusal fault g n h ∙ ap (λ (x : Fault). answered (or_else x g) n) found
 
       refused_verdict : r ≡ verdict_of_texts s t
@@ -173,8 +169,8 @@ module _ (s t : List ℕ) (p : PatternsRead) (is : p ≡ patterns_answer s) (rea
                 λ w. absurd (true_not_false (sym h ∙ ap faulty (found ∙ true_clean w))),
               );
             };
-            patterns = ap (λ (x : PatternsRead). x.patterns) is;
-            scheme = ap (λ (x : SchemeRead). x.scheme) is_scheme;
+            patterns = is;
+            scheme = is_scheme;
             spells = λ a. absurd (not_accepted a);
             spells_scheme = λ a. absurd (not_accepted a);
             formed = λ a. absurd (not_accepted a);
@@ -183,14 +179,14 @@ module _ (s t : List ℕ) (p : PatternsRead) (is : p ≡ patterns_answer s) (rea
 
     -- without one the lists are well-formed, and their claims decide
     module _ (h : faulty fault ≡ false) where
-      both_clean : (p.fault ≡ Clean) × (q.fault ≡ Clean)
-      both_clean = or_else_clean_both p.fault q.fault (ap faulty (sym found) ∙ h)
+      both_clean : ((read_fault p) ≡ Ok tt) × ((read_fault q) ≡ Ok tt)
+      both_clean = or_else_clean_both (read_fault p) (read_fault q) (ap faulty (sym found) ∙ h)
 
       pub texts_formed : WellFormed P E
       texts_formed = record { patterns = reading.passes both_clean.0; scheme = reading-scheme.passes both_clean.1 }
 
       module _ (r : Verdict) (e : r ≡ answered (fault_of (first_fault (claim_tests P E))) (compared_cells P E)) where
-        nothing_before : (g : Fault) (n : ℕ) → answered g n ≡ answered (or_else (or_else p.fault q.fault) g) n
+        nothing_before : (g : Fault) (n : ℕ) → answered g n ≡ answered (or_else (or_else (read_fault p) (read_fault q)) g) n
         nothing_before g n = sym (ap₂ (λ (x y : Fault). answered (or_else (or_else x y) g) n) both_clean.0 both_clean.1)
 
         on_lists : (Q : List (List ℕ)) (F : List EntryList) → length s ≤ PATTERN_TEXT → length t ≤ SCHEME_TEXT →
@@ -202,10 +198,10 @@ module _ (s t : List ℕ) (p : PatternsRead) (is : p ≡ patterns_answer s) (rea
             nothing_before (fault_of (first_fault (claim_tests Q F))) (compared_cells Q F) ∙ verdict_lists Q F a b u v
 
         short : length s ≤ PATTERN_TEXT
-        short = patterns_short s (ap (λ (x : PatternsRead). x.fault) (sym is) ∙ both_clean.0)
+        short = patterns_short s (ap (λ (x : PatternsRead). read_fault x) (sym is) ∙ both_clean.0)
 
         short_scheme : length t ≤ SCHEME_TEXT
-        short_scheme = scheme_short t (ap (λ (x : SchemeRead). x.fault) (sym is_scheme) ∙ both_clean.1)
+        short_scheme = scheme_short t (ap (λ (x : SchemeRead). read_fault x) (sym is_scheme) ∙ both_clean.1)
 
         spells_set : SpellsPatterns s P
         spells_set = reading.reads both_clean.0
@@ -246,10 +242,36 @@ module _ (s t : List ℕ) (p : PatternsRead) (is : p ≡ patterns_answer s) (rea
                 spelt = on_lists;
                 exactly = (true_texts, accept);
               };
-              patterns = ap (λ (x : PatternsRead). x.patterns) is;
-              scheme = ap (λ (x : SchemeRead). x.scheme) is_scheme;
+              patterns = is;
+              scheme = is_scheme;
               spells = λ a. spells_set;
               spells_scheme = λ a. spells_list;
               formed = λ a. (accepted_lists a).0;
               claims = λ a. (accepted_lists a).1;
             }
+
+  -- what was read is well-formed
+  pub read_well : IsReadWell p q
+  read_well = go p q reading reading-scheme
+    where
+      go : (p : PatternsRead) (q : SchemeRead) → ReadsPatterns s p → ReadsScheme t q → IsReadWell p q
+      go (Ok m) (Ok n) u v = record { patterns = u.passes refl; scheme = v.passes refl }
+      go (Ok m) (Err e) u v = tt
+      go (Err e) q u v = tt
+
+  -- the verdict on what was read, whichever it is
+  pub texts_read : (r : Verdict) → r ≡ verdict_read p q → JudgesAndReads s t (judged r)
+  texts_read r e = go (faulty (or_else (read_fault p) (read_fault q))) refl
+    where
+      found : Fault
+      found = or_else (read_fault p) (read_fault q)
+
+      claimed : Fault
+      claimed = fault_of (first_fault (claim_tests P E))
+
+      parts : r ≡ answered (or_else found claimed) (compared_cells P E)
+      parts = e ∙ ap (λ (x : Fault). answered x (compared_cells P E)) (or_else_assoc (read_fault p) (read_fault q) claimed)
+
+      go : (b : Bool) → faulty found ≡ b → JudgesAndReads s t (judged r)
+      go true h = refused_texts found refl h r (parts ∙ sym (refusal found claimed (compared_cells P E) h))
+      go false h = judged_texts found refl h r (parts ∙ ap (λ (x : Fault). answered x (compared_cells P E)) (or_else_clean found claimed h))

@@ -7,9 +7,8 @@ use Rattle.word.specs.declared.refusal.Refusal.{Refusal}
 use Rattle.word.specs.declared.refusal.Refusal.TheVariants.{Misspelt, Oversize, NoPermutation, Repeated, Rootless}
 use Rattle.word.specs.declared.refusal.Refusal.TheVariants.{Width, NoPosition, Childless, NoTarget, LiveGap}
 use Rattle.word.specs.declared.refusal.Refusal.TheVariants.{Irreversible, ShortTable, ShortPage, NoAvoider}
-use Rattle.verdict.specs.Verdict.{told_verdict, accepted}
-use Rattle.verdict.specs.declared.answer.Verdict.{Verdict}
-use Rattle.verdict.specs.declared.answer.Verdict.TheVariants.{Accepted, Refused}
+use Rattle.verdict.specs.Verdict.{Verdict, told_verdict, accepted}
+use Rattle.std.specs.Prelude.{Ok, Err}
 use Rattle.judge_texts.specs.TextJudgement.{JudgesTextsWithoutPage}
 use Rattle.kernel.specs.Call.{Called}
 
@@ -31,10 +30,10 @@ not_zero ShortPage = refl
 not_zero NoAvoider = refl
 
 zero_accepted : (v : Verdict) → ((told_verdict v).number ≡ 0) ↔ (accepted v ≡ true)
-zero_accepted (Accepted n) = (λ e. refl, λ e. refl)
-zero_accepted (Refused r i) = (
-  λ e. absurd (true_not_false (sym (eq-eqb (number_of r) 0 e) ∙ not_zero r)),
-  λ e. absurd (true_not_false (sym e)),
+zero_accepted (Ok n) = (λ e. refl, λ e. refl)
+zero_accepted (Err e) = (
+  λ q. absurd (true_not_false (sym (eq-eqb (number_of e.refusal) 0 q) ∙ not_zero e.refusal)),
+  λ q. absurd (true_not_false (sym q)),
 )
 
 -- the number of a verdict keeps its promise

@@ -6,8 +6,7 @@ ghost use Rattle.verdict.specs.Verdict.{told_verdict};
 ghost use Rattle.kernel.specs.Call.{Called};
 
 use judge_texts::judge_texts_without_page;
-use verdict::answer::Verdict;
-use word::refusal::number;
+use word::refusal::Refused;
 
 // Judges the scheme that one text spells for the patterns that another spells: 0 where it is
 // accepted, else the number of the refusal.
@@ -20,11 +19,11 @@ pub extern "C" fn judge(patterns: &[u8], scheme: &[u8]) -> u32
 }
 
 // The number of a refusal, and 0 for an acceptance.
-fn refusal_number(verdict: Verdict) -> u32
+fn refusal_number(verdict: Result<usize, Refused>) -> u32
     ensures { result ≡ (told_verdict verdict).number }
 {
     match verdict {
-        Verdict::Accepted(_) => 0,
-        Verdict::Refused(refusal, _) => number(refusal) as u32,
+        Ok(_) => 0,
+        Err(refused) => u32::from(u8::from(refused.refusal)),
     }
 }

@@ -1,7 +1,7 @@
 -- "the verdict on every scheme must be shown to be the same as under the old m" (02, order 3): the
 -- finding and the witness under `longest P`, the m of document 01 before that order, are those
 -- under `m_of P`, and the number of compared cells is at most the old one.
-use Rattle.std.specs.Prelude.{ℕ, ◌≤◌, ◌<◌, ◌≡◌, ◌⊎◌, Bool, true, false, cond, length, eqb}
+use Rattle.std.specs.Prelude.{Ok, Err, ℕ, ◌≤◌, ◌<◌, ◌≡◌, ◌⊎◌, Bool, true, false, cond, length, eqb}
 use Rattle.std.proofs.Common.{arith, ◌∙◌, inl, inr, length-append, eqb-true}
 use Rattle.std.proofs.Math.Path.{refl, sym, ap}
 use mathlib.Core.List.{List, [], ◌∷◌, ◌++◌, Memᴰ}
@@ -19,8 +19,8 @@ use Rattle.cell.proofs.ListedLaws.{compared_more}
 use Rattle.cell.proofs.BasisLaws.{longest_basis, m_reaches, m_at_most, m_of_basis, m_of_whole, sizes_alike}
 use Rattle.forms.specs.SchemeList.{Does, expands, deletes, EntryList}
 use Rattle.forms.specs.SchemeMemory.{fault_of}
-use Rattle.forms.specs.declared.memory.Fault.{Fault}
-use Rattle.forms.specs.declared.memory.Fault.TheVariants.{Clean, At}
+use Rattle.word.specs.Refusal.{refused_at}
+use Rattle.forms.specs.SchemeMemory.{Fault}
 use Rattle.scheme.specs.WellFormed.{first_at, outside, pattern_tests, scheme_tests}
 use Rattle.scheme.specs.PositionLaws.{positions_inside}
 use Rattle.scheme.specs.ProperLaws.{proper, proper_pattern}
@@ -135,8 +135,8 @@ module _ (m n : ℕ) (P : List (List ℕ)) (reach : longest (basis P) ≤ m) (fu
 
 -- a verdict says what its tests find
 finding_answered : (f : Fault) (n : ℕ) → finding_of (answered f n) ≡ f
-finding_answered Clean n = refl
-finding_answered (At r i) n = refl
+finding_answered (Ok u) n = refl
+finding_answered (Err e) n = refl
 
 -- fewer cells are compared under a smaller m
 with_most : (m n : ℕ) → m ≤ n → (p : List ℕ) (B : List (List ℕ)) (rule : Does) →
@@ -173,7 +173,8 @@ module _ (P : List (List ℕ)) (E : List EntryList) where
       ap (bytes_shown_under (longest P) P E) same_verdict
 
   -- Of an entry that is refused 11 the same spacing is shown, and the same permutation.
-  pub same_shown : (i : ℕ) (R : List ℕ) (e : EntryList) → finding_of (verdict_of P E) ≡ At Irreversible i → indexed_entry E i ≡ some e →
+  pub same_shown : (i : ℕ) (R : List ℕ) (e : EntryList) → finding_of (verdict_of P E) ≡ Err (refused_at Irreversible i) →
+      indexed_entry E i ≡ some e →
       e.rule ≡ deletes R →
       (shown_spacing P e.prefix e.gaps R ≡ shown_spacing_under (longest P) P e.prefix e.gaps R) ×
       (shown_word P e.prefix e.gaps R ≡ shown_word_under (longest P) P e.prefix e.gaps R)
@@ -189,10 +190,10 @@ module _ (P : List (List ℕ)) (E : List EntryList) where
       )
     where
       number_in : Fault → ℕ
-      number_in Clean = 0
-      number_in (At x j) = number_of x
+      number_in (Ok u) = 0
+      number_in (Err e) = number_of e.refusal
 
-      eleven_found : (x : Finding) → fault_of x ≡ At Irreversible i → number_found x ≡ 11
+      eleven_found : (x : Finding) → fault_of x ≡ Err (refused_at Irreversible i) → number_found x ≡ 11
       eleven_found clean h = ap number_in h
       eleven_found (fault x j) h = ap number_in h
 

@@ -1,6 +1,7 @@
 -- Laws of the witness: sizes differ exactly if a word is lost, the candidate search shows the word
 -- of the definition, and what is shown is lost and the least.
-use Rattle.std.specs.Prelude.{ℕ, zero, suc, ◌+◌, ◌-◌, ◌≤◌, ◌<◌, ◌≡◌, ◌↔◌, ◌⊎◌, Bool, cond, ◌&&◌, length, take, drop, replicate, ltb, eqb}
+use Rattle.std.specs.Prelude.{Err, ℕ, zero, suc, ◌+◌, ◌-◌, ◌≤◌, ◌<◌, ◌≡◌, ◌↔◌, ◌⊎◌, Bool, cond, ◌&&◌, length, take, drop}
+use Rattle.std.specs.Prelude.{replicate, ltb, eqb}
 use Rattle.std.proofs.Common.{arith, ap₂, ◌∙◌, inl, inr, length-take, length-append}
 use Rattle.std.proofs.Math.Path.{refl, sym, ap}
 use Rattle.std.proofs.Math.Bool.{true, false, not}
@@ -35,7 +36,7 @@ use Rattle.cell.proofs.ListedLaws.{totalled, compared_ascend, spacing_total}
 use Rattle.cell.proofs.BasisLaws.{basis_in, basis_avoids, basis_agrees}
 use Rattle.word.specs.declared.refusal.Refusal.TheVariants.{LiveGap, Irreversible}
 use Rattle.forms.specs.SchemeList.{EntryList}
-use Rattle.forms.specs.declared.memory.Fault.TheVariants.{At}
+use Rattle.word.specs.Refusal.{refused_at}
 use Rattle.scheme.specs.FindingLaws.{same_failure}
 use Rattle.scheme.specs.WellFormed.{listed}
 use Rattle.verdict.specs.Verdict.{sizes_differ}
@@ -426,10 +427,10 @@ half_length u h =
 -- "With refusal 11 the judge's lent page .. receives a witness for the refused entry" (02): with
 -- test 11 the word of the entry at fault is shown, with test 10 none
 pub shown_with_eleven : (P : List (List ℕ)) (E : List EntryList) (i : ℕ) →
-    word_shown P E (At Irreversible i) ≡ entry_word P (indexed_entry E i)
+    word_shown P E (Err (refused_at Irreversible i)) ≡ entry_word P (indexed_entry E i)
 shown_with_eleven P E i = refl
 
-pub none_with_ten : (P : List (List ℕ)) (E : List EntryList) (i : ℕ) → word_shown P E (At LiveGap i) ≡ none
+pub none_with_ten : (P : List (List ℕ)) (E : List EntryList) (i : ℕ) → word_shown P E (Err (refused_at LiveGap i)) ≡ none
 none_with_ten P E i = refl
 
 -- the entry at an index is one of the list

@@ -1,7 +1,8 @@
 -- The verdict on a set of patterns and a scheme, as document 01 defines it: by the sizes of cells.
 -- What depends on m takes it as an argument, and then has a name for the m of the set. Definitions
 -- only.
-use Rattle.std.specs.Prelude.{ℕ, Bool, true, false, not, List, [], ◌∷◌, ◌++◌, map, length, eqb}
+use Rattle.std.specs.Prelude.{ℕ, Bool, true, false, not, List, [], ◌∷◌, ◌++◌, map, length, eqb, Ok, Err}
+use Rattle.std.specs.declared.result.Result.{Result}
 use Rattle.word.specs.Lists.{any}
 use Rattle.word.specs.Finding.{Finding, clean, fault, first_fault}
 use Rattle.word.specs.Told.{Told, told_by}
@@ -9,11 +10,8 @@ use Rattle.word.specs.declared.refusal.Refusal.TheVariants.{LiveGap, Irreversibl
 use Rattle.cell.specs.Cell.{total, cell, deleted, merged, m_of, compared_to}
 use Rattle.forms.specs.SchemeList.{Does, expands, deletes, EntryList}
 use Rattle.scheme.specs.WellFormed.{first_at, pattern_tests, scheme_tests}
-use Rattle.forms.specs.SchemeMemory.{fault_of}
-use Rattle.forms.specs.declared.memory.Fault.{Fault}
-use Rattle.forms.specs.declared.memory.Fault.TheVariants.{Clean, At}
-use Rattle.verdict.specs.declared.answer.Verdict.{Verdict}
-use Rattle.verdict.specs.declared.answer.Verdict.TheVariants.{Accepted, Refused}
+use Rattle.word.specs.declared.refusal.Refused.{Refused}
+use Rattle.forms.specs.SchemeMemory.{Fault, fault_of}
 
 abbrev pub is_empty : List (List ℕ) → Bool
 is_empty [] = true
@@ -57,9 +55,13 @@ compared_cells_under m E = total (map (λ e. compared_with_under m e.prefix e.ga
 abbrev pub judge_tests_under : ℕ → List (List ℕ) → List EntryList → List Finding
 judge_tests_under m P E = pattern_tests P ++ (scheme_tests E ++ claim_tests_under m P E)
 
+-- an acceptance with the number of compared cells, or a refusal with its index
+abbrev pub Verdict : Type 0
+Verdict = Result ℕ Refused
+
 abbrev pub answered : Fault → ℕ → Verdict
-answered Clean n = Accepted n
-answered (At r i) n = Refused r i
+answered (Ok u) n = Ok n
+answered (Err e) n = Err e
 
 abbrev pub verdict_under : ℕ → List (List ℕ) → List EntryList → Verdict
 verdict_under m P E = answered (fault_of (first_fault (judge_tests_under m P E))) (compared_cells_under m E)
@@ -87,15 +89,15 @@ verdict_of P E = verdict_under (m_of P) P E
 -- what a verdict says but for the number of compared cells: acceptance, or the refusal and its
 -- index
 abbrev pub finding_of : Verdict → Fault
-finding_of (Accepted n) = Clean
-finding_of (Refused r i) = At r i
+finding_of (Ok n) = Ok tt
+finding_of (Err e) = Err e
 
 -- the answer in the numbers of document 01
 abbrev pub told_verdict : Verdict → Told
-told_verdict (Accepted n) = told_by clean (n ∷ [])
-told_verdict (Refused r i) = told_by (fault r i) []
+told_verdict (Ok n) = told_by clean (n ∷ [])
+told_verdict (Err e) = told_by (fault e.refusal e.index) []
 
 -- "It is accepted for that set if judging the two refuses nothing" (01)
 abbrev pub accepted : Verdict → Bool
-accepted (Accepted n) = true
-accepted (Refused r i) = false
+accepted (Ok n) = true
+accepted (Err e) = false

@@ -1,5 +1,6 @@
 -- The witness of a refusal 11, in the words of order 1 of document 02. Definitions only.
-use Rattle.std.specs.Prelude.{ℕ, zero, suc, ◌+◌, ◌-◌, ◌<◌, ◌≡◌, Bool, true, false, not, ◌&&◌, cond, length, get_or, take, replicate, ltb}
+use Rattle.std.specs.Prelude.{Ok, Err, ℕ, zero, suc, ◌+◌, ◌-◌, ◌<◌, ◌≡◌, Bool, true, false, not, ◌&&◌, cond, length, get_or, take}
+use Rattle.std.specs.Prelude.{replicate, ltb}
 use Rattle.std.specs.Prelude.{eqb}
 use mathlib.Core.List.{List, [], ◌∷◌, ◌++◌, Memᴰ}
 use Rattle.std.proofs.Math.Option.{Option, none, some}
@@ -11,8 +12,7 @@ use Rattle.word.specs.Refusal.{number_of}
 use Rattle.cell.specs.Basis.{same}
 use Rattle.cell.specs.Cell.{total, spacing, cell, deleted, merged, m_of, compared_to}
 use Rattle.forms.specs.SchemeList.{Does, expands, deletes, EntryList}
-use Rattle.forms.specs.declared.memory.Fault.{Fault}
-use Rattle.forms.specs.declared.memory.Fault.TheVariants.{Clean, At}
+use Rattle.forms.specs.SchemeMemory.{Fault}
 use Rattle.scheme.specs.WellFormed.{listed}
 use Rattle.verdict.specs.Verdict.{sizes_differ}
 
@@ -69,8 +69,8 @@ entry_word_under m P (some e) = rule_word_under m P e.prefix e.gaps e.rule
 -- "With refusal 11 the judge's lent page .. receives a witness for the refused entry" (02): the
 -- permutation that is shown with a finding; none without refusal 11
 abbrev pub word_shown_under : ℕ → List (List ℕ) → List EntryList → Fault → Option (List ℕ)
-word_shown_under m P E Clean = none
-word_shown_under m P E (At r i) = cond (eqb (number_of r) 11) (entry_word_under m P (indexed_entry E i)) none
+word_shown_under m P E (Ok u) = none
+word_shown_under m P E (Err e) = cond (eqb (number_of e.refusal) 11) (entry_word_under m P (indexed_entry E e.index)) none
 
 -- the bytes that are written
 abbrev pub bytes_shown_under : ℕ → List (List ℕ) → List EntryList → Fault → List ℕ

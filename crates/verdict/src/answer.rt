@@ -3,21 +3,14 @@
 ghost use Rattle.std.specs.Prelude.{◌≡◌};
 ghost use Rattle.verdict.specs.Verdict.{answered};
 
-use forms::memory::Fault;
-use word::refusal::Refusal;
+use word::refusal::Refused;
 
-#[derive(Clone, Copy)]
-pub enum Verdict {
-    Accepted(usize),
-    Refused(Refusal, usize),
-}
-
-// The refusal that a fault is, or an acceptance with so many compared cells.
-pub fn answer(fault: Fault, cells: usize) -> Verdict
-    ensures { result ≡ answered fault cells }
+// The refusal that a finding is, or an acceptance with so many compared cells.
+pub fn answer(found: Result<(), Refused>, cells: usize) -> Result<usize, Refused>
+    ensures { result ≡ answered found cells }
 {
-    match fault {
-        Fault::Clean => Verdict::Accepted(cells),
-        Fault::At(refusal, index) => Verdict::Refused(refusal, index),
+    match found {
+        Ok(()) => Ok(cells),
+        Err(refused) => Err(refused),
     }
 }
