@@ -16,18 +16,16 @@ use Rattle.word.specs.Finding.{Finding, clean, fault, first_fault}
 use Rattle.word.specs.Told.{told_by}
 use Rattle.word.specs.declared.refusal.Refusal.{Refusal}
 use Rattle.word.specs.declared.refusal.Refusal.TheVariants.{Misspelt, Oversize, ShortPage}
-use Rattle.forms.specs.SchemeMemory.{fault_of, faulty, told_or}
+use Rattle.std.specs.Prelude.{Ok, Err}
+use Rattle.word.specs.Refusal.{refused_at}
+use Rattle.forms.specs.SchemeMemory.{Fault, fault_of, faulty, told_or}
 use Rattle.forms.specs.ToldLaws.{told_found}
-use Rattle.forms.specs.declared.memory.Fault.{Fault}
-use Rattle.forms.specs.declared.memory.Fault.TheVariants.{Clean, At}
 use Rattle.text_grammar.specs.Spelling.{Token, spaceless}
 use Rattle.text_grammar.specs.Tokens.{tokens}
 use Rattle.text_page.specs.Page.{overlay, Writes}
 use Rattle.text_page.specs.PageLaws.{length_after}
-use Rattle.notation.specs.Written.{written_or, Writing}
+use Rattle.notation.specs.Written.{Written, written_or, Writing}
 use Rattle.notation.specs.Answers.{answer_from, answer_to, found_in, ReadsList, WritesList}
-use Rattle.notation.specs.declared.written.Written.{Written}
-use Rattle.notation.specs.declared.written.Written.TheVariants.{Bytes, Refused}
 use Rattle.notation.proofs.ReadingFaultLaws.{not_one, not_clean, not_misspelt}
 use Rattle.notation.proofs.WritingLaws.{writes_refused, writes_short, writes_done}
 use Rattle.scheme.specs.TestLaws.{clean_of}
@@ -60,14 +58,14 @@ module _ {L R : Type 0} (most : ℕ) (Spells : List ℕ → L → Type 0) (tests
     (tested : L → R) (read : List Token → Option L) (refused : Refusal → ℕ → R) (s : List ℕ)
     (sound : (l : L) → read (tokens s) ≡ some l → Spells s l) (complete : (l : L) → Spells s l → read (tokens s) ≡ some l)
     (unique : (l k : L) → Spells s l → Spells s k → l ≡ k) (text : (l : L) → Spells s l → written l ≡ spaceless s)
-    (refuses : (r : Refusal) (i : ℕ) → fault_in (refused r i) ≡ At r i)
+    (refuses : (r : Refusal) (i : ℕ) → fault_in (refused r i) ≡ Err (refused_at r i))
     (finds : (l : L) → fault_in (tested l) ≡ fault_of (first_fault (tests l)))
     (gives : (l : L) → first_fault (tests l) ≡ clean → listIn (tested l) ≡ l)
     (not-one : (l : L) → not_one (first_fault (tests l)) ≡ true) where
   abbrev Answers : R → Type 0
   Answers r = ReadsList most read Spells tests written fault_in listIn tested s r
 
-  never : {A : Type 0} (r : Refusal) (i : ℕ) → fault_in (refused r i) ≡ Clean → A
+  never : {A : Type 0} (r : Refusal) (i : ℕ) → fault_in (refused r i) ≡ Ok tt → A
   never r i e = absurd (not_clean r i (sym (refuses r i) ∙ e))
 
   -- an answer whose fault is that of what reading finds
@@ -101,7 +99,7 @@ module _ {L R : Type 0} (most : ℕ) (Spells : List ℕ → L → Type 0) (tests
       }
 
   module _ (fits : ltb most (length s) ≡ false) (l : L) (h : read (tokens s) ≡ some l) where
-    whole : fault_in (tested l) ≡ Clean → listIn (tested l) ≡ l
+    whole : fault_in (tested l) ≡ Ok tt → listIn (tested l) ≡ l
     whole e = gives l (clean_of (first_fault (tests l)) (sym (finds l) ∙ e))
 
     some_reads : Answers (tested l)
@@ -139,9 +137,9 @@ module _ {L R : Type 0} (Spells : List ℕ → L → Type 0) (tests : L → List
   wrote after r w =
       record {
         writes = w;
-        spells = λ (n : ℕ) (e : r ≡ Bytes n). rw (w.text n e) (spelt (w.passed n e));
-        back = λ (n : ℕ) (e : r ≡ Bytes n). rw (w.text n e) (read_back (w.passed n e));
-        same = λ (n : ℕ) (e : r ≡ Bytes n). same-list (w.passed n e);
+        spells = λ (n : ℕ) (e : r ≡ Ok n). rw (w.text n e) (spelt (w.passed n e));
+        back = λ (n : ℕ) (e : r ≡ Ok n). rw (w.text n e) (read_back (w.passed n e));
+        same = λ (n : ℕ) (e : r ≡ Ok n). same-list (w.passed n e);
       }
 
   pub refused_page : (r : Written) (f : Fault) → f ≡ fault_of (first_fault (tests l)) → faulty f ≡ true → r ≡ written_or f 0 →
@@ -154,14 +152,14 @@ module _ {L R : Type 0} (Spells : List ℕ → L → Type 0) (tests : L → List
       same_page : u ++ before ≡ before
       same_page = ap (λ (x : List ℕ). x ++ before) run.page
 
-      pub short_page : length (u ++ before) < n → Wrote (u ++ before) (Refused ShortPage 0)
+      pub short_page : length (u ++ before) < n → Wrote (u ++ before) (Err (refused_at ShortPage 0))
       short_page k =
           let long : length before < length (written l) = omega (arith, ap length same_page, length_after run) in
-          rw same_page (wrote before (Refused ShortPage 0) (writes_short (tests l) (written l) before h long))
+          rw same_page (wrote before (Err (refused_at ShortPage 0)) (writes_short (tests l) (written l) before h long))
 
       pub written_page : n ≤ length (u ++ before) → (after : List ℕ) (m : ℕ) →
-          Writes (written l) 0 (u ++ before) after m → Wrote after (Bytes n)
+          Writes (written l) 0 (u ++ before) after m → Wrote after (Ok n)
       written_page k after m w =
           let fits : length (written l) ≤ length before = omega (arith, ap length same_page, length_after run) in
-          wrote after (Bytes n) (writes_done (tests l) (written l) before h fits after
+          wrote after (Ok n) (writes_done (tests l) (written l) before h fits after
           (w.page ∙ ap (overlay 0 (written l)) same_page) n (length_after run))

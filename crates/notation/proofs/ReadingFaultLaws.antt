@@ -13,18 +13,18 @@ use Rattle.word.specs.Finding.{Finding, clean, fault, test, first_fault}
 use Rattle.word.specs.declared.refusal.Refusal.{Refusal}
 use Rattle.word.specs.declared.refusal.Refusal.TheVariants.{Misspelt}
 use Rattle.scheme.specs.WellFormed.{first_at, first_twin}
-use Rattle.forms.specs.SchemeMemory.{fault_of}
-use Rattle.forms.specs.declared.memory.Fault.{Fault}
-use Rattle.forms.specs.declared.memory.Fault.TheVariants.{Clean, At}
+use Rattle.std.specs.Prelude.{Ok, Err}
+use Rattle.word.specs.Refusal.{refused_at}
+use Rattle.forms.specs.SchemeMemory.{Fault, fault_of}
 
 -- the number of a refusal, 0 where there is none
 abbrev pub number_in : Fault → ℕ
-number_in Clean = 0
-number_in (At r i) = number_of r
+number_in (Ok u) = 0
+number_in (Err e) = number_of e.refusal
 
 abbrev pub refused : Fault → ℕ
-refused Clean = 0
-refused (At r i) = 1
+refused (Ok u) = 0
+refused (Err e) = 1
 
 -- a finding that does not refuse with 1
 abbrev pub not_one : Finding → Bool
@@ -54,9 +54,9 @@ all_not_one (clean ∷ l) h = all_not_one l h
 all_not_one (fault r i ∷ l) h = and_left (not (eqb (number_of r) 1)) (all not_one l) h
 
 -- a fault that is none, and a refusal with 1
-pub not_clean : (r : Refusal) (i : ℕ) → At r i ≡ Clean → ⊥
+pub not_clean : (r : Refusal) (i : ℕ) → ◌≡◌ {A = Fault} (Err (refused_at r i)) (Ok tt) → ⊥
 not_clean r i e = let z : ◌≡◌ {A = ℕ} 1 0 = ap refused e in omega (arith, z)
 
-pub not_misspelt : (x : Finding) (i : ℕ) → not_one x ≡ true → fault_of x ≡ At Misspelt i → ⊥
+pub not_misspelt : (x : Finding) (i : ℕ) → not_one x ≡ true → fault_of x ≡ Err (refused_at Misspelt i) → ⊥
 not_misspelt clean i h e = not_clean Misspelt i (sym e)
 not_misspelt (fault r j) i h e = let z : number_of r ≡ 1 = ap number_in e in true≢false (sym h ∙ rw z refl)

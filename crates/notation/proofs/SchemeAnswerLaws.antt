@@ -4,7 +4,7 @@ use Prim.Native.Nat.{ℕ, ◌≤◌, ◌<◌}
 use mathlib.Core.Path.{◌≡◌, refl, sym, ap, ◌∙◌}
 use mathlib.Core.Bool.{Bool, true, false, not, true≢false}
 use mathlib.Core.List.{List, [], map}
-use mathlib.Core.Option.{Option, none, some}
+use mathlib.Core.Option.{Option as Maybe, none, some}
 use lib.ListN.{length, replicate}
 use lib.Dec.{ltb}
 use Rattle.word.specs.Ceilings.{ENTRIES, SCHEME_TEXT}
@@ -13,22 +13,19 @@ use Rattle.word.specs.declared.refusal.Refusal.TheVariants.{Misspelt, Oversize, 
 use Rattle.word.specs.declared.refusal.Refusal.TheVariants.{NoPosition, Childless, NoTarget}
 use Rattle.scheme.specs.WellFormed.{listed, large_entry, twin_entry, wrong_width, outside, lacks_child, lacks_target, scheme_tests}
 use Rattle.forms.specs.SchemeList.{EntryList}
-use Rattle.forms.specs.SchemeMemory.{scheme_in, fault_of, faulty}
+use Rattle.forms.specs.SchemeMemory.{scheme_in, fault_of}
 use Rattle.forms.specs.declared.memory.Entry.{Entry}
 use Rattle.forms.specs.declared.memory.Scheme.{Scheme}
-use Rattle.forms.specs.declared.memory.Fault.{Fault}
-use Rattle.forms.specs.declared.memory.Fault.TheVariants.{Clean, At}
 use Rattle.word.specs.Word.{is_perm}
 use Rattle.text_grammar.specs.Tokens.{tokens}
 use Rattle.text_grammar.specs.Spelling.{SpellsScheme, written_scheme}
-use Rattle.notation.specs.Answers.{answer_from}
+use Rattle.notation.specs.Answers.{answer_from, read_fault, read_list}
 use Rattle.text_grammar.specs.Grammar.{read_entries}
 use Rattle.text_schemes.specs.SchemeLoaded.{entry_of, plain_entry, loaded_scheme}
 use Rattle.text_schemes.specs.SchemeReading.{loaded_text}
 use Rattle.text_schemes.specs.SchemeLoading.{loaded_scheme_same, loaded_scheme_faults}
 use Rattle.text_grammar.specs.SpellingLaws.{scheme_sound, scheme_complete, scheme_unique, scheme_written_read}
-use Rattle.notation.specs.declared.schemes.SchemeRead.{SchemeRead}
-use Rattle.notation.specs.SchemeAnswers.{no_scheme, refused_scheme, read_scheme_or, tested_scheme, scheme_answer, ReadsScheme}
+use Rattle.notation.specs.SchemeAnswers.{SchemeRead, refused_scheme, read_scheme_or, tested_scheme, scheme_answer, ReadsScheme}
 use Rattle.notation.proofs.ReadingFaultLaws.{not_one, test_not_one, first_not_one, twin_not_one, all_not_one}
 use Rattle.notation.proofs.AnswerLaws as any
 
@@ -48,26 +45,17 @@ scheme_not_one E =
       first_not_one NoTarget refl (λ (e : EntryList). lacks_target (map (λ (d : EntryList). d.prefix) E) e.prefix e.rule) 0 E,
     ) refl)
 
--- the two ways of an answer
-pub or_read : (f : Fault) (m : Scheme) → faulty f ≡ false → record { fault = f; scheme = m } ≡ read_scheme_or f m
-or_read Clean m h = refl
-or_read (At r i) m h = absurd (true≢false h)
-
-pub or_refused : (f : Fault) (m : Scheme) → faulty f ≡ true → no_scheme f ≡ read_scheme_or f m
-or_refused Clean m h = absurd (true≢false (sym h))
-or_refused (At r i) m h = refl
-
 -- an array of plain entries is a scheme without entries
 pub none_loaded : (e : Entry) → e ≡ entry_of plain_entry → record { entries = replicate ENTRIES e; count = 0 } ≡ loaded_scheme []
 unfolding loaded_scheme
 none_loaded e h = rw h refl
 
 -- whether a text spells a scheme, and the scheme
-abbrev is_some : Option Scheme → Bool
+abbrev is_some : Maybe Scheme → Bool
 is_some none = false
 is_some (some m) = true
 
-abbrev scheme_or : Scheme → Option Scheme → Scheme
+abbrev scheme_or : Scheme → Maybe Scheme → Scheme
 scheme_or d none = d
 scheme_or d (some m) = m
 
@@ -77,7 +65,7 @@ module _ (s : List ℕ) where
   answer_long h = any.answer_long refused_scheme tested_scheme SCHEME_TEXT read_entries s h
 
   module _ (h : length s ≤ SCHEME_TEXT) where
-    misspelt_from : (o : Option (List EntryList)) → none ≡ loaded_text o →
+    misspelt_from : (o : Maybe (List EntryList)) → none ≡ loaded_text o →
         refused_scheme Misspelt 0 ≡ answer_from refused_scheme tested_scheme o
     misspelt_from none q = refl
     misspelt_from (some E) q = absurd (true≢false (sym (ap is_some q)))
@@ -86,7 +74,7 @@ module _ (s : List ℕ) where
     answer_misspelt e = misspelt_from (read_entries (tokens s)) e ∙
         any.answer_text refused_scheme tested_scheme SCHEME_TEXT read_entries s h
 
-    tested_from : (m : Scheme) (o : Option (List EntryList)) → some m ≡ loaded_text o →
+    tested_from : (m : Scheme) (o : Maybe (List EntryList)) → some m ≡ loaded_text o →
         read_scheme_or (fault_of (first_fault (scheme_tests (scheme_in m)))) m ≡ answer_from refused_scheme tested_scheme o
     tested_from m none q = absurd (true≢false (ap is_some q))
     tested_from m (some E) q = rw (ap (scheme_or m) q, loaded_scheme_faults E) refl
@@ -97,19 +85,19 @@ module _ (s : List ℕ) where
         any.answer_text refused_scheme tested_scheme SCHEME_TEXT read_entries s h
 
 -- the finding and the list in an answer
-or_fault : (x : Finding) (m : Scheme) → (read_scheme_or (fault_of x) m).fault ≡ fault_of x
+or_fault : (x : Finding) (m : Scheme) → read_fault (read_scheme_or (fault_of x) m) ≡ fault_of x
 or_fault clean m = refl
 or_fault (fault r i) m = refl
 
-or_list : (E : List EntryList) → first_fault (scheme_tests E) ≡ clean → scheme_in (tested_scheme E).scheme ≡ E
+or_list : (E : List EntryList) → first_fault (scheme_tests E) ≡ clean → read_list scheme_in (tested_scheme E) ≡ E
 or_list E e = rw e (loaded_scheme_same E e)
 
 -- an answer that is the defined one has what the definition promises
 pub answered : (s : List ℕ) (r : SchemeRead) → r ≡ scheme_answer s → (r ≡ scheme_answer s) × ReadsScheme s r
 answered s r e = (
   e,
-  rw e (any.answer_reads SCHEME_TEXT SpellsScheme scheme_tests written_scheme (λ (x : SchemeRead). x.fault)
-      (λ (x : SchemeRead). scheme_in x.scheme) tested_scheme read_entries refused_scheme s
+  rw e (any.answer_reads SCHEME_TEXT SpellsScheme scheme_tests written_scheme read_fault
+      (read_list scheme_in) tested_scheme read_entries refused_scheme s
       (scheme_sound s) (scheme_complete s) (scheme_unique s) (scheme_written_read s) (λ r i. refl)
       (λ (E : List EntryList). or_fault (first_fault (scheme_tests E)) (loaded_scheme E)) or_list scheme_not_one),
 )

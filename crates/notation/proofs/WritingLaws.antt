@@ -13,33 +13,26 @@ use borrow.Author.Tests.{lt-ltb, le-ltb}
 use Rattle.word.specs.Finding.{Finding, clean, fault, test, first_fault}
 use Rattle.word.specs.declared.refusal.Refusal.{Refusal}
 use Rattle.word.specs.declared.refusal.Refusal.TheVariants.{ShortPage}
-use Rattle.forms.specs.SchemeMemory.{fault_of, faulty}
-use Rattle.forms.specs.declared.memory.Fault.{Fault}
-use Rattle.forms.specs.declared.memory.Fault.TheVariants.{Clean, At}
+use Rattle.std.specs.Prelude.{Ok, Err}
+use Rattle.word.specs.Refusal.{refused_at}
+use Rattle.word.specs.declared.refusal.Refused.{Refused}
+use Rattle.forms.specs.SchemeMemory.{Fault, fault_of, faulty}
 use Rattle.text_page.specs.Page.{overlay}
 use Rattle.text_page.specs.PageLaws.{overlay_whole}
-use Rattle.notation.specs.Written.{written_or, writing, Writing}
-use Rattle.notation.specs.declared.written.Written.{Written}
-use Rattle.notation.specs.declared.written.Written.TheVariants.{Bytes, Refused}
+use Rattle.notation.specs.Written.{Written, written_or, writing, Writing}
 use Rattle.scheme.specs.TestLaws.{single}
-
-pub written_clean : (f : Fault) (n : ℕ) → f ≡ Clean → Bytes n ≡ written_or f n
-written_clean f n e = rw e refl
-
-pub written_fault : (f : Fault) (n : ℕ) (r : Refusal) (i : ℕ) → f ≡ At r i → Refused r i ≡ written_or f n
-written_fault f n r i e = rw e refl
 
 -- the two answers are told apart, and the number of bytes is read off
 abbrev bytes_in : Written → ℕ
-bytes_in (Bytes n) = n
-bytes_in (Refused r i) = 0
+bytes_in (Ok n) = n
+bytes_in (Err e) = 0
 
 abbrev is_bytes : Written → ℕ
-is_bytes (Bytes n) = 1
-is_bytes (Refused r i) = 0
+is_bytes (Ok n) = 1
+is_bytes (Err e) = 0
 
-not_bytes : (r : Refusal) (i n : ℕ) → Refused r i ≡ Bytes n → ⊥
-not_bytes r i n e = let z : ◌≡◌ {A = ℕ} 0 1 = ap is_bytes e in omega (arith, z)
+not_bytes : (x : Refused) (n : ℕ) → ◌≡◌ {A = Written} (Err x) (Ok n) → ⊥
+not_bytes x n e = let z : ◌≡◌ {A = ℕ} 0 1 = ap is_bytes e in omega (arith, z)
 
 -- a test behind others
 behind_fault : (l : List Finding) (x : Finding) (r : Refusal) (i : ℕ) → first_fault l ≡ fault r i → first_fault (l ++ (x ∷ [])) ≡ fault r i
@@ -53,15 +46,15 @@ behind_clean (clean ∷ l) x e = behind_clean l x e
 behind_clean (fault q j ∷ l) x e = let z : ◌≡◌ {A = ℕ} 0 1 = cc in absurd (omega (arith, z))
 
 module _ (tests : List Finding) (xs before : List ℕ) where
-  refused_by : (r : Refusal) (i : ℕ) → writing tests xs (length before) ≡ fault r i → Writing tests xs before before (Refused r i)
+  refused_by : (r : Refusal) (i : ℕ) → writing tests xs (length before) ≡ fault r i → Writing tests xs before before (Err (refused_at r i))
   refused_by r i e =
       record {
         result = rw e refl;
         numbers = rw e refl;
         page = rw e refl;
-        passed = λ n h. absurd (not_bytes r i n h);
-        text = λ n h. absurd (not_bytes r i n h);
-        rest = λ n h. absurd (not_bytes r i n h);
+        passed = λ n h. absurd (not_bytes (refused_at r i) n h);
+        text = λ n h. absurd (not_bytes (refused_at r i) n h);
+        rest = λ n h. absurd (not_bytes (refused_at r i) n h);
       }
 
   -- the tests of the list refuse
@@ -76,14 +69,14 @@ module _ (tests : List Finding) (xs before : List ℕ) where
 
   module _ (h : first_fault tests ≡ clean) where
     -- the page is shorter than the text
-    pub writes_short : length before < length xs → Writing tests xs before before (Refused ShortPage 0)
+    pub writes_short : length before < length xs → Writing tests xs before before (Err (refused_at ShortPage 0))
     writes_short k =
         refused_by ShortPage 0
         (behind_clean tests (test ShortPage (ltb (length before) (length xs))) h ∙ rw (lt-ltb (length before) (length xs) k) refl)
 
     -- the text is written
     pub writes_done : length xs ≤ length before → (after : List ℕ) → after ≡ overlay 0 xs before → (n : ℕ) → n ≡ length xs →
-        Writing tests xs before after (Bytes n)
+        Writing tests xs before after (Ok n)
     writes_done k after a n e =
         let fits : writing tests xs (length before) ≡ clean =
         behind_clean tests (test ShortPage (ltb (length before) (length xs))) h ∙ rw (le-ltb (length before) (length xs) k) refl in

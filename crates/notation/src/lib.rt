@@ -3,4 +3,3 @@
 
 pub mod patterns;
 pub mod schemes;
-pub mod written;

@@ -1,7 +1,7 @@
 -- The memory of a gap vector of any size, and of those of an entry: the first components of each,
 -- and widths; and of a set of positions. Definitions only.
-use Rattle.std.specs.Prelude.{ℕ, cond, List, map, length, get_or, leb}
-use Rattle.word.specs.Ceilings.{COMPONENTS, GAPS, PARTS}
+use Rattle.std.specs.Prelude.{ℕ, cond, List, map, length, take, leb}
+use Rattle.word.specs.Ceilings.{COMPONENTS, GAPS, PARTS, PREFIX}
 use Rattle.word.specs.Lists.{each}
 use Rattle.forms.specs.declared.memory.Gap.{Gap}
 use Rattle.forms.specs.declared.memory.Positions.{Positions}
@@ -24,12 +24,7 @@ gap_of b = record { parts = parts_of b; width = length b }
 abbrev pub positions_from : Gap → Positions
 positions_from g =
     record {
-      first = get_or g.parts 0 0;
-      second = get_or g.parts 1 0;
-      third = get_or g.parts 2 0;
-      fourth = get_or g.parts 3 0;
-      fifth = get_or g.parts 4 0;
-      sixth = get_or g.parts 5 0;
+      positions = take PREFIX g.parts;
       count = part_of g.width;
     }
 

@@ -3,111 +3,52 @@ ghost use Rattle.std.specs.Prelude.{◌≡◌, false, ◌<◌, ◌≤◌, [], le
 ghost use Rattle.text_grammar.specs.Tokens.{run};
 ghost use Rattle.text_gaps.specs.GapMemory.{part_of, gap_of};
 ghost use Rattle.text_gaps.specs.PartReading.{NumberAt, GapAt, GapsAt, loaded_gaps};
-ghost use Rattle.text_gaps.specs.GapReading.{no_number, Numbered, DigitOf};
-ghost use Rattle.text_gaps.specs.GapReading.{stored_part, stored_gap, GapReady, GapAdvanced, PartsAt};
-ghost use Rattle.text_gaps.specs.GapReading.{GapsReady, GapsAdvanced, VectorsAt};
+ghost use Rattle.text_gaps.specs.GapReading.{Numbered, DigitOf, stored_part, stored_gap, PartsAt, VectorsAt};
 
-use crate::parts::{GapRead, Gaps, GapsRead, NumberRead};
+use crate::parts::Gaps;
 use forms::gaps::with_gap;
 use forms::memory::Gap;
-use text_grammar::cursor::Cursor;
-use text_grammar::items::{Turn, goes_on, is_done, turn_of};
-use text_grammar::kinds::{is_byte, is_digits, is_empty, is_left, is_right};
-use word::bytes::wide;
+use text_grammar::cursor::{Cursor, Kind};
 use word::limits::{COMPONENTS, GAPS, PARTS};
 
-// The number that a run of digits spells.
-#[derive(Clone, Copy)]
-pub struct Numeral {
-    pub spelt: bool,
-    pub value: usize,
-}
-
-// How far a gap vector is read: the components so far, and the cursor behind them.
-#[derive(Clone, Copy)]
-pub struct GapPart {
-    pub turn: Turn,
-    pub gap: Gap,
-    pub next: Cursor,
-}
-
-// How far a list of gap vectors is read.
-#[derive(Clone, Copy)]
-pub struct GapsPart {
-    pub turn: Turn,
-    pub gaps: Gaps,
-    pub next: Cursor,
-}
-
-// The number from a cursor on.
-pub fn number_at(s: &[u8], c: Cursor) -> NumberRead
+// The number from a cursor on, and the cursor behind it.
+pub fn number_at(s: &[u8], c: Cursor) -> Option<(usize, Cursor)>
     ensures { NumberAt s.now c.at result }
 {
     let t = c.step(s);
-    let next = t.next;
-    let kind = t.kind;
-    if !is_digits(kind) {
-        return NumberRead {
-            spelt: false,
-            value: 0,
-            next,
-        };
+    if t.kind != Kind::Digits {
+        return None;
     }
-    let from = t.from;
-    let len = next.at - from;
-    let v = number_of(s, from, len);
-    NumberRead {
-        spelt: v.spelt,
-        value: v.value,
-        next,
-    }
+    let value = number_of(s, t.from, t.next.at - t.from)?;
+    Some((value, t.next))
 }
 
 // The number of the run that stands from `from` on: one to three digits, and no zero in front of
 // others.
 #[tactic(auto, using(crate::proofs::GapNumberLaws::number_long, crate::proofs::GapNumberLaws::number_zero))]
-fn number_of(s: &[u8], from: usize, len: usize) -> Numeral
+fn number_of(s: &[u8], from: usize, len: usize) -> Option<usize>
     requires { len ≡ length (run (drop from s.now)) }
     ensures { Numbered (run (drop from s.now)) result }
 {
     if len == 0 {
-        return no_number();
+        return None;
     }
     if 3 < len {
-        return no_number();
+        return None;
     }
     let a = digit_of(s, from, 0);
     if len == 1 {
-        return Numeral {
-            spelt: true,
-            value: a,
-        };
+        return Some(a);
     }
     if a == 0 {
-        return no_number();
+        return None;
     }
     let b = digit_of(s, from, 1);
     if len == 2 {
-        return Numeral {
-            spelt: true,
-            value: a * 10 + b,
-        };
+        return Some(a * 10 + b);
     }
     let c = digit_of(s, from, 2);
-    Numeral {
-        spelt: true,
-        value: (a * 10 + b) * 10 + c,
-    }
-}
-
-// No number.
-fn no_number() -> Numeral
-    ensures { result ≡ no_number }
-{
-    Numeral {
-        spelt: false,
-        value: 0,
-    }
+    Some((a * 10 + b) * 10 + c)
 }
 
 // The digit at a place of the run that stands from `from` on.
@@ -116,79 +57,39 @@ fn digit_of(s: &[u8], from: usize, i: usize) -> usize
     ensures { DigitOf (run (drop from s.now)) i result }
 {
     let k = from + i;
-    wide(s[k] - b'0')
+    usize::from(s[k] - b'0')
 }
 
-// The gap vector from a cursor on.
-fn gap_at(s: &[u8], c: Cursor) -> GapRead
+// The gap vector from a cursor on, and the cursor behind it.
+#[tactic(auto, using(crate::proofs::GapTextLaws::left_within))]
+fn gap_at(s: &[u8], c: Cursor) -> Option<(Gap, Cursor)>
     ensures { GapAt s.now c.at result }
 {
     let t = c.step(s);
-    let next = t.next;
-    let kind = t.kind;
-    if !is_left(kind) {
-        let gap = no_gap();
-        return GapRead {
-            spelt: false,
-            gap,
-            next,
-        };
+    if t.kind != Kind::Left {
+        return None;
     }
-    parts_at(s, next)
+    parts_at(s, t.next)
 }
 
-// The components of a gap vector and the mark behind them.
-fn parts_at(s: &[u8], c: Cursor) -> GapRead
+// The components of a gap vector, and the cursor behind the mark after them.
+fn parts_at(s: &[u8], c: Cursor) -> Option<(Gap, Cursor)>
     requires { c.at ≤ length s.now }
     ensures { PartsAt false s.now c.at result }
 {
-    let gap = no_gap();
-    let mut m = GapPart {
-        turn: Turn::More,
-        gap,
-        next: c,
-    };
+    let mut gap = no_gap();
+    let mut next = c;
     loop {
-        let turn = m.turn;
-        if !goes_on(turn) {
-            let read = m.gap;
-            let next = m.next;
-            return GapRead {
-                spelt: is_done(turn),
-                gap: read,
-                next,
-            };
+        let (n, behind) = number_at(s, next)?;
+        gap = stored_part(gap, n);
+        let t = behind.step(s);
+        next = t.next;
+        if t.kind == Kind::Right {
+            return Some((gap, next));
         }
-        let n = with_part(s, m);
-        m = n;
-    }
-}
-
-// The components with one more.
-fn with_part(s: &[u8], m: GapPart) -> GapPart
-    requires { GapReady s.now m }
-    ensures { GapAdvanced s.now m result }
-{
-    let c = m.next;
-    let before = m.gap;
-    let n = number_at(s, c);
-    if !n.spelt {
-        return GapPart {
-            turn: Turn::Wrong,
-            gap: before,
-            next: c,
-        };
-    }
-    let item = n.value;
-    let gap = stored_part(before, item);
-    let behind = n.next;
-    let t = behind.step(s);
-    let kind = t.kind;
-    let next = t.next;
-    GapPart {
-        turn: turn_of(is_right(kind), is_byte(kind, b',')),
-        gap,
-        next,
+        if t.kind != Kind::Byte(b',') {
+            return None;
+        }
     }
 }
 
@@ -233,84 +134,39 @@ fn no_gap() -> Gap
     }
 }
 
-// The gap vectors from a cursor on: ∅, or vectors in braces.
-pub fn gaps_at(s: &[u8], c: Cursor) -> GapsRead
+// The gap vectors from a cursor on, ∅ or vectors in braces, and the cursor behind them.
+#[tactic(auto, using(text_grammar::proofs::TextItemLaws::brace_within))]
+pub fn gaps_at(s: &[u8], c: Cursor) -> Option<(Gaps, Cursor)>
     ensures { GapsAt s.now c.at result }
 {
     let t = c.step(s);
-    let next = t.next;
-    let kind = t.kind;
-    if is_empty(kind) {
-        let gaps = no_gaps();
-        return GapsRead {
-            spelt: true,
-            gaps,
-            next,
-        };
+    if t.kind == Kind::Empty {
+        return Some((no_gaps(), t.next));
     }
-    if !is_byte(kind, b'{') {
-        let gaps = no_gaps();
-        return GapsRead {
-            spelt: false,
-            gaps,
-            next,
-        };
+    if t.kind != Kind::Byte(b'{') {
+        return None;
     }
-    vectors_at(s, next)
+    vectors_at(s, t.next)
 }
 
-// The vectors of a list and the brace behind them.
-fn vectors_at(s: &[u8], c: Cursor) -> GapsRead
+// The vectors of a list, and the cursor behind the brace after them.
+fn vectors_at(s: &[u8], c: Cursor) -> Option<(Gaps, Cursor)>
     requires { c.at ≤ length s.now }
     ensures { VectorsAt s.now c.at result }
 {
-    let gaps = no_gaps();
-    let mut m = GapsPart {
-        turn: Turn::More,
-        gaps,
-        next: c,
-    };
+    let mut gaps = no_gaps();
+    let mut next = c;
     loop {
-        let turn = m.turn;
-        if !goes_on(turn) {
-            let read = m.gaps;
-            let next = m.next;
-            return GapsRead {
-                spelt: is_done(turn),
-                gaps: read,
-                next,
-            };
+        let (g, behind) = gap_at(s, next)?;
+        gaps = stored_gap(gaps, g);
+        let t = behind.step(s);
+        next = t.next;
+        if t.kind == Kind::Byte(b'}') {
+            return Some((gaps, next));
         }
-        let n = with_vector(s, m);
-        m = n;
-    }
-}
-
-// The vectors with one more.
-fn with_vector(s: &[u8], m: GapsPart) -> GapsPart
-    requires { GapsReady s.now m }
-    ensures { GapsAdvanced s.now m result }
-{
-    let c = m.next;
-    let before = m.gaps;
-    let n = gap_at(s, c);
-    if !n.spelt {
-        return GapsPart {
-            turn: Turn::Wrong,
-            gaps: before,
-            next: c,
-        };
-    }
-    let item = n.gap;
-    let gaps = stored_gap(before, item);
-    let behind = n.next;
-    let t = behind.step(s);
-    let kind = t.kind;
-    let next = t.next;
-    GapsPart {
-        turn: turn_of(is_byte(kind, b'}'), is_byte(kind, b',')),
-        gaps,
-        next,
+        if t.kind != Kind::Byte(b',') {
+            return None;
+        }
     }
 }
 

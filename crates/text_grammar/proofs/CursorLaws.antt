@@ -1,17 +1,19 @@
 -- Laws on the text from a place on: its front against a mark, its spaces, its run of digits, its
 -- first token.
 -- Assumes nothing.
-use Prim.Native.Nat.{ℕ, suc, ◌+◌, ◌-◌, ◌≤◌, ◌<◌}
+use Prim.Native.Nat.{ℕ, suc, ◌+◌, ◌-◌, ◌≤◌, ◌<◌, max}
 use native.Mathlib.Numerals.{add-one}
 use native.Mathlib.Omega.{arith}
-use mathlib.Core.Path.{◌≡◌, refl, sym, ap, ◌∙◌, subst}
-use mathlib.Core.Bool.{true, false, false≢true}
+use mathlib.Core.Path.{◌≡◌, refl, sym, ap, ap₂, ◌∙◌, subst}
+use mathlib.Core.Logic.{◌⊎◌, inl, inr}
+use mathlib.Core.Bool.{true, false, false≢true, ◌&&◌}
 use mathlib.Core.List.{List, [], ◌∷◌}
 use lib.ListN.{length, get_or, take, drop, length-drop, length-map, drop_of_length-le}
 use lib.Seq.{drop-cons, drop-drop, take_all}
 use lib.Dec.{eqb}
-use borrow.Author.Tests.{eq-eqb, ne_eqb}
-use Rattle.word.specs.ListLaws.{and_right}
+use borrow.Author.Tests.{eq-eqb, eqb-true}
+use Rattle.std.specs.List.{starts_with}
+use Rattle.word.specs.ListLaws.{and_right, below_or_not, same_test}
 use Rattle.text_grammar.specs.Spelling.{Token, digits, epsilon, empty, left, right, byte, bytes_of}
 use Rattle.text_grammar.specs.Tokens.{is_digit, run, begins, token_at, more, tokens}
 use Rattle.text_grammar.specs.TokenLaws.{on_cond, tokens_nil, tokens_space, tokens_cons}
@@ -25,19 +27,14 @@ tail_is at s = take_all (length s - at) (drop at s) (omega (arith, length-drop a
 
 -- the front of a text against the bytes of a mark
 
-pub begins_next : (m s : List ℕ) (i : ℕ) → i < length m → i < length s → get_or s i 0 ≡ get_or m i 0
-    → begins (drop i m) (drop i s) ≡ begins (drop (i + 1) m) (drop (i + 1) s)
-begins_next m s i h k e = rw (add-one, drop-cons m i 0 h, drop-cons s i 0 k, eq-eqb (get_or s i 0) (get_or m i 0) e)
+eqb_sym : (a x : ℕ) → eqb a x ≡ eqb x a
+eqb_sym a x = same_test (eqb a x) (eqb x a) (λ e. eq-eqb x a (sym (eqb-true a x e))) (λ e. eq-eqb a x (sym (eqb-true x a e)))
 
-pub begins_other : (m s : List ℕ) (i : ℕ) → i < length m → i < length s → (get_or s i 0 ≡ get_or m i 0 → ⊥) →
-    begins (drop i m) (drop i s) ≡ false
-begins_other m s i h k e = rw (drop-cons m i 0 h, drop-cons s i 0 k, ne_eqb (get_or s i 0) (get_or m i 0) e)
-
-pub begins_short : (m s : List ℕ) (i : ℕ) → i < length m → length s ≤ i → begins (drop i m) (drop i s) ≡ false
-begins_short m s i h k = rw (drop-cons m i 0 h, drop_of_length-le s k)
-
-pub begins_end : (m s : List ℕ) (i : ℕ) → length m ≤ i → begins (drop i m) (drop i s) ≡ true
-begins_end m s i h = rw (drop_of_length-le m h)
+-- the library's test, for the bytes of a mark
+pub begins_starts : (m s : List ℕ) → starts_with eqb s m ≡ begins m s
+begins_starts [] s = refl
+begins_starts (a ∷ m) [] = refl
+begins_starts (a ∷ m) (x ∷ s) = ap₂ ◌&&◌ (eqb_sym a x) (begins_starts m s)
 
 begins_long : (l s : List ℕ) → begins l s ≡ true → length l ≤ length s
 begins_long [] s h = omega arith
@@ -75,6 +72,16 @@ module _ (x : ℕ) (t : List ℕ) where
 pub space_next : (s : List ℕ) (i : ℕ) → i < length s → get_or s i 0 ≡ 0x20 → tokens (drop i s) ≡ tokens (drop (i + 1) s)
 space_next s i h e = rw (add-one, drop-cons s i 0 h, e) (tokens_space (drop (suc i) s))
 
+-- from a place where nothing but spaces comes up to the end of the text
+pub passed_end : (s : List ℕ) (at i : ℕ) → tokens (drop at s) ≡ tokens (drop i s) → length s ≤ i → Passed s at (max at (length s))
+passed_end s at i same h =
+    record {
+      same = same ∙ ap tokens (drop_of_length-le s h ∙ sym (drop_of_length-le s (omega arith)));
+      onward = omega arith;
+      inside = λ k. omega arith;
+      stopped = λ k. absurd (omega arith);
+    }
+
 -- a run of digits
 
 pub run_next : (s : List ℕ) (i : ℕ) → i < length s → is_digit (get_or s i 0) ≡ true → run (drop i s) ≡
@@ -90,6 +97,16 @@ run_stop s i h e = rw (drop-cons s i 0 h, e) (omega arith)
 
 pub run_end : (s : List ℕ) (i : ℕ) → length s ≤ i → i + length (run (drop i s)) ≡ i
 run_end s i h = rw (drop_of_length-le s h) (omega arith)
+
+-- the run from a place goes up to the end of the text
+pub run_whole : (s : List ℕ) (at i : ℕ) → at + length (run (drop at s)) ≡ i + length (run (drop i s)) → at ≤ i →
+    (at ≤ length s → i ≤ length s)
+    → length s ≤ i → max at (length s) ≡ at + length (run (drop at s))
+run_whole s at i e g k h = step (below_or_not at (length s))
+  where
+    step : (at < length s) ⊎ (length s ≤ at) → max at (length s) ≡ at + length (run (drop at s))
+    step (inl l) = let j = run_end s i h in let m = k (omega arith) in omega arith
+    step (inr l) = let j = run_end s at l in omega arith
 
 run_short : (s : List ℕ) → length (run s) ≤ length s
 run_short [] = omega arith

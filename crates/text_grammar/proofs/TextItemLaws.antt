@@ -1,11 +1,11 @@
 -- Laws on items that are read one after the other, for any reader of items: one item more, the
 -- first and the last, and the marks around them.
 -- Assumes nothing.
-use Prim.Native.Nat.{ℕ, suc, ◌≤◌, ◌<◌}
+use Prim.Native.Nat.{ℕ, suc, ◌-◌, ◌≤◌, ◌<◌}
 use native.Mathlib.Omega.{arith}
 use mathlib.Core.Path.{◌≡◌, refl, sym, ap, ap₂, ◌∙◌}
 use mathlib.Core.Logic.{◌⊎◌, inl, inr}
-use mathlib.Core.Bool.{Bool, true, false, cond, true≢false, false≢true}
+use mathlib.Core.Bool.{Bool, true, false, cond}
 use mathlib.Core.List.{List, [], ◌∷◌, ◌++◌, append-nil, append_assoc}
 use lib.ListN.{length, drop}
 use lib.Dec.{eqb}
@@ -14,17 +14,13 @@ use Rattle.word.specs.ListLaws.{below_or_not}
 use Rattle.text_grammar.specs.declared.cursor.Kind.{Kind}
 use Rattle.text_grammar.specs.declared.cursor.Kind.TheVariants.{End, Digits, Epsilon, Empty, Left, Right, Byte}
 use Rattle.text_grammar.specs.declared.cursor.Step.{Step}
-use Rattle.text_grammar.specs.declared.items.Turn.{Turn}
-use Rattle.text_grammar.specs.declared.items.Turn.TheVariants.{More, Done, Wrong}
 use Rattle.text_grammar.specs.Spelling.{Token, empty, right, byte, comma}
 use Rattle.text_grammar.specs.Tokens.{tokens}
 use Rattle.text_grammar.specs.TokenLaws.{tokens_end}
 use Rattle.text_grammar.specs.Grammar.{Read, misspelt, got, after, code, same, fail, pick, either, follow, items, in_braces}
 use Rattle.text_grammar.specs.Cursor.{Stepped, tokens_by}
-use Rattle.text_grammar.specs.Kinds.{is_empty, is_byte}
-use Rattle.text_grammar.specs.KindLaws.{is_empty_lem, is_byte_lem}
-use Rattle.text_grammar.specs.ItemReading.{found, kept, Moved, turn_in_braces, turn_in_vector, goes_on, is_done}
-use Rattle.text_grammar.specs.ItemReading.{added, going, one_if, left_of, Ready, Advanced}
+use Rattle.text_grammar.specs.ItemReading.{kept, Moved, Turn, More, Done, Wrong, turn_of, turn_in_braces, turn_in_vector, added}
+use Rattle.text_grammar.specs.ItemReading.{going, ReadTo}
 use Rattle.text_grammar.proofs.CursorLaws.{beyond_le}
 
 -- what is read in all
@@ -34,15 +30,6 @@ pub by_turn : {A : Type 0} → Turn → Read A → Read A → Read A
 by_turn More p q = q
 by_turn Done p q = p
 by_turn Wrong p q = misspelt
-
-pub goes_more : (t : Turn) → goes_on t ≡ true → t ≡ More
-goes_more More h = refl
-goes_more Done h = absurd (false≢true h)
-goes_more Wrong h = absurd (false≢true h)
-
-at_most_one : (b : Bool) → one_if b ≤ 1
-at_most_one true = omega arith
-at_most_one false = omega arith
 
 pub same_byte : (a b : ℕ) → same (byte a) (byte b) ≡ eqb b a
 same_byte a b = step (eqb b a) refl
@@ -95,6 +82,27 @@ module _ {A : Type 0} (f g : List Token → Read A) where
   braces_turn (Byte b) t ts =
       ap₂ (λ (x y : Bool). pick x f (pick y g fail) ts) (same_byte 0x7D b) (same_byte 0x2C b) ∙ picked_two (eqb b 0x7D) (eqb b 0x2C) ts
 
+-- neither the closing mark nor a comma
+
+pub turn_other : (k : Kind) → (k ≡ Byte 0x7D → ⊥) → (k ≡ Byte 0x2C → ⊥) → turn_in_braces k ≡ Wrong
+turn_other End h g = refl
+turn_other Digits h g = refl
+turn_other Epsilon h g = refl
+turn_other Empty h g = refl
+turn_other Left h g = refl
+turn_other Right h g = refl
+turn_other (Byte b) h g =
+    ap₂ turn_of (ne_eqb b 0x7D (λ (e : b ≡ 0x7D). h (ap Byte e))) (ne_eqb b 0x2C (λ (e : b ≡ 0x2C). g (ap Byte e)))
+
+pub turn_vector_other : (k : Kind) → (k ≡ Right → ⊥) → (k ≡ Byte 0x2C → ⊥) → turn_in_vector k ≡ Wrong
+turn_vector_other End h g = refl
+turn_vector_other Digits h g = refl
+turn_vector_other Epsilon h g = refl
+turn_vector_other Empty h g = refl
+turn_vector_other Left h g = refl
+turn_vector_other Right h g = absurd (h refl)
+turn_vector_other (Byte b) h g = ap (turn_of false) (ne_eqb b 0x2C (λ (e : b ≡ 0x2C). g (ap Byte e)))
+
 -- one item more, for any reader of items
 
 module _ {A B C : Type 0} (read : List Token → Read A) (close : Token) (load : A → C) (store : B → C → B) where
@@ -110,12 +118,6 @@ module _ {A B C : Type 0} (read : List Token → Read A) (close : Token) (load :
   kept_turn More m x ts = kept_more m x (items read close ts)
   kept_turn Done m x ts = refl
   kept_turn Wrong m x ts = refl
-
-  -- where nothing goes on
-  pub at_end : (t : Turn) (m : B) (ts : List Token) → goes_on t ≡ false → going read close load store t m ts ≡ found (is_done t) m ts
-  at_end More m ts h = absurd (true≢false h)
-  at_end Done m ts h = refl
-  at_end Wrong m ts h = refl
 
   module _ (turn_of : Kind → Turn)
       (turns : (f g : List Token → Read (List A)) (k : Kind) (t : List ℕ) (ts : List Token)
@@ -148,48 +150,44 @@ module _ {A B C : Type 0} (read : List Token → Read A) (close : Token) (load :
         go misspelt h = refl
         go (got x p) h = let z : ◌≡◌ {A = ℕ} 0 1 = cc in absurd (omega arith)
 
-    module _ (s : List ℕ) (at : ℕ) (b : Bool) (y : C) (next : ℕ)
-        (gives : kept load (read (tokens (drop at s))) ≡ found b y (tokens (drop next s))) where
-      -- whatever is kept before
-      pub item_none : b ≡ false → (m : B) → going read close load store More m (tokens (drop at s)) ≡ misspelt
-      item_none h m = no_more m (tokens (drop at s)) (gives ∙ ap (λ (c : Bool). found c y (tokens (drop next s))) h)
+    -- the items up to a place, and what comes there
+    module _ (s : List ℕ) (whole : Read B) (m : B) (count at : ℕ) (before : ReadTo read close load store whole s m count at) where
+      pub items_none : kept load (read (tokens (drop at s))) ≡ misspelt → whole ≡ misspelt
+      items_none h = sym before.same ∙ no_more m (tokens (drop at s)) h
 
-      pub item_next : b ≡ true → (σ : Step) → Stepped s next σ → (m : B)
-          → going read close load store More m (tokens (drop at s))
-          ≡ going read close load store (turn_of σ.kind) (store m y) (tokens (drop σ.next.at s))
-      item_next h σ stepped m =
-          one_more m y (tokens (drop at s)) (tokens (drop next s)) σ.kind (drop σ.from s) (tokens (drop σ.next.at s))
-          (gives ∙ ap (λ (c : Bool). found c y (tokens (drop next s))) h) stepped.gives
+      -- an item, and the mark after it
+      module _ (y : C) (next : ℕ) (gives : kept load (read (tokens (drop at s))) ≡ got y (tokens (drop next s)))
+          (moved : Moved s at next) (σ : Step) (stepped : Stepped s next σ) where
+        items_by : (u : Turn) → turn_of σ.kind ≡ u → whole ≡ going read close load store u (store m y) (tokens (drop σ.next.at s))
+        items_by u e =
+            sym before.same
+            ∙ one_more m y (tokens (drop at s)) (tokens (drop next s)) σ.kind (drop σ.from s) (tokens (drop σ.next.at s)) gives
+            stepped.gives
+            ∙ ap (λ (v : Turn). going read close load store v (store m y) (tokens (drop σ.next.at s))) e
 
-      module _ (t : Turn) (m : B) (count : ℕ) (ready : Ready s t count at) (moved : Moved s at next b) where
-        pub item_wrong : b ≡ false → Advanced (going read close load store) s t m at Wrong m count at
-        unfolding left_of
-        item_wrong h =
-            let k : t ≡ More = goes_more t ready.goes in
+        pub items_more : turn_of σ.kind ≡ More → ReadTo read close load store whole s (store m y) (suc count) σ.next.at
+        items_more e =
+            let j : next ≤ σ.next.at = beyond_le σ.kind next σ.next.at stepped.beyond in
+            let k = moved.onward in
+            let l = before.counted in
             record {
-              same = ap (λ (u : Turn). going read close load store u m (tokens (drop at s))) k ∙ item_none h m;
-              within = ready.within;
-              onward = omega arith;
-              falls = rw k (omega arith);
+              same = sym (items_by More e);
+              inside = stepped.inside (moved.inside before.inside);
+              counted = omega arith;
             }
 
-        pub item_stored : b ≡ true → (σ : Step) → Stepped s next σ
-            → Advanced (going read close load store) s t m at (turn_of σ.kind) (store m y) (suc count) σ.next.at
-        unfolding left_of
-        item_stored h σ stepped =
-            let k : t ≡ More = goes_more t ready.goes in
-            let i : at ≤ length s = ready.within.inside in
-            let j : count ≤ at = ready.within.counted in
-            let n : at < next = moved.onward h in
-            let o : next ≤ σ.next.at = beyond_le σ.kind next σ.next.at stepped.beyond in
-            let p : σ.next.at ≤ length s = stepped.inside (moved.inside i) in
-            let w = at_most_one (goes_on (turn_of σ.kind)) in
-            record {
-              same = ap (λ (u : Turn). going read close load store u m (tokens (drop at s))) k ∙ item_next h σ stepped m;
-              within = record { inside = p; counted = omega arith };
-              onward = omega arith;
-              falls = rw k (omega arith);
-            }
+        pub items_fall : length s - σ.next.at < length s - at
+        items_fall =
+            let j : next ≤ σ.next.at = beyond_le σ.kind next σ.next.at stepped.beyond in
+            let k = moved.onward in
+            let l = moved.inside before.inside in
+            omega arith
+
+        pub items_done : turn_of σ.kind ≡ Done → whole ≡ got (store m y) (tokens (drop σ.next.at s))
+        items_done e = items_by Done e
+
+        pub items_wrong : turn_of σ.kind ≡ Wrong → whole ≡ misspelt
+        items_wrong e = items_by Wrong e
 
 -- from the first item to the last
 
@@ -213,16 +211,17 @@ module _ {A B C : Type 0} (load : A → C) (store : B → C → B) (whole : List
 
 -- the marks around the items
 
-no_list : {A : Type 0} (read : List Token → Read A) (k : Kind) (t : List ℕ) (ts : List Token) → is_empty k ≡ false → is_byte 0x7B k ≡ false
+no_list : {A : Type 0} (read : List Token → Read A) (k : Kind) (t : List ℕ) (ts : List Token) → (k ≡ Empty → ⊥) → (k ≡ Byte 0x7B → ⊥)
     → in_braces read (tokens_by k t ts) ≡ misspelt
 no_list read End t ts h g = refl
 no_list read Digits t ts h g = refl
 no_list read Epsilon t ts h g = refl
-no_list read Empty t ts h g = absurd (true≢false h)
+no_list read Empty t ts h g = absurd (h refl)
 no_list read Left t ts h g = refl
 no_list read Right t ts h g = refl
 no_list read (Byte b) t ts h g =
-    ap₂ (λ (c d : Bool). pick c (got []) (pick d (items read (byte 0x7D)) fail) ts) (no_empty b) (same_byte 0x7B b ∙ g)
+    ap₂ (λ (c d : Bool). pick c (got []) (pick d (items read (byte 0x7D)) fail) ts) (no_empty b)
+    (same_byte 0x7B b ∙ ne_eqb b 0x7B (λ (e : b ≡ 0x7B). g (ap Byte e)))
 
 module _ (s : List ℕ) (at : ℕ) (t : Step) (stepped : Stepped s at t) where
   pub gives_by : (k : Kind) → t.kind ≡ k → tokens (drop at s) ≡ tokens_by k (drop t.from s) (tokens (drop t.next.at s))
@@ -239,19 +238,19 @@ module _ (s : List ℕ) (at : ℕ) (t : Step) (stepped : Stepped s at t) where
           let z : ◌≡◌ {A = ℕ} 0 (suc (length ts)) = ap length f in absurd (omega arith)
       step (inr h) = stepped.inside h
 
-  pub brace_within : is_byte 0x7B t.kind ≡ true → t.next.at ≤ length s
-  brace_within h = within_text (byte 0x7B) (tokens (drop t.next.at s)) (gives_by (Byte 0x7B) (is_byte_lem 0x7B t.kind h))
+  pub brace_within : t.kind ≡ Byte 0x7B → t.next.at ≤ length s
+  brace_within h = within_text (byte 0x7B) (tokens (drop t.next.at s)) (gives_by (Byte 0x7B) h)
 
   module _ {A B : Type 0} (read : List Token → Read A) (load : List A → B) where
-    pub braces_empty : is_empty t.kind ≡ true
+    pub braces_empty : t.kind ≡ Empty
         → kept load (in_braces read (tokens (drop at s))) ≡ got (load []) (tokens (drop t.next.at s))
-    braces_empty h = ap (λ (ts : List Token). kept load (in_braces read ts)) (gives_by Empty (is_empty_lem t.kind h))
+    braces_empty h = ap (λ (ts : List Token). kept load (in_braces read ts)) (gives_by Empty h)
 
-    pub braces_none : is_empty t.kind ≡ false → is_byte 0x7B t.kind ≡ false → kept load (in_braces read (tokens (drop at s))) ≡ misspelt
+    pub braces_none : (t.kind ≡ Empty → ⊥) → (t.kind ≡ Byte 0x7B → ⊥) → kept load (in_braces read (tokens (drop at s))) ≡ misspelt
     braces_none h k =
         ap (λ (ts : List Token). kept load (in_braces read ts)) stepped.gives
         ∙ ap (kept load) (no_list read t.kind (drop t.from s) (tokens (drop t.next.at s)) h k)
 
-    pub braces_items : is_byte 0x7B t.kind ≡ true
+    pub braces_items : t.kind ≡ Byte 0x7B
         → kept load (in_braces read (tokens (drop at s))) ≡ kept load (items read (byte 0x7D) (tokens (drop t.next.at s)))
-    braces_items h = ap (λ (ts : List Token). kept load (in_braces read ts)) (gives_by (Byte 0x7B) (is_byte_lem 0x7B t.kind h))
+    braces_items h = ap (λ (ts : List Token). kept load (in_braces read ts)) (gives_by (Byte 0x7B) h)

@@ -3,8 +3,8 @@
 -- Assumes nothing.
 use Prim.Native.Nat.{ℕ, zero, suc, ◌-◌, ◌+◌, ◌<◌}
 use native.Mathlib.Omega.{arith}
-use mathlib.Core.Path.{◌≡◌, refl, sym, ap, ◌∙◌, subst}
-use mathlib.Core.Bool.{Bool, true, false, false≢true}
+use mathlib.Core.Path.{◌≡◌, refl, ap, ◌∙◌, subst}
+use mathlib.Core.Bool.{Bool, true, false, true≢false, false≢true}
 use mathlib.Core.List.{List, [], ◌∷◌}
 use lib.ListN.{length, drop}
 use lib.Dec.{leb, eqb}
@@ -17,11 +17,10 @@ use Rattle.text_grammar.specs.declared.cursor.Step.{Step}
 use Rattle.text_grammar.specs.Spelling.{Token, digits, epsilon, empty, left, right, byte, bytes_of, digit_run}
 use Rattle.text_grammar.specs.Tokens.{is_digit, run, begins, token_at, skip_at, placed, tokens_after, tokens}
 use Rattle.text_grammar.specs.TokenLaws.{on_cond, digit_value, run_digits}
-use Rattle.text_grammar.specs.Grammar.{got, read_perm}
+use Rattle.text_grammar.specs.Grammar.{misspelt, got, read_perm}
 use Rattle.text_grammar.specs.Cursor.{Stepped, span_of, tokens_by, Beyond}
-use Rattle.text_grammar.specs.Kinds.{is_end, is_digits, is_epsilon}
-use Rattle.text_grammar.specs.KindLaws.{is_digits_lem}
-use Rattle.text_grammar.specs.ItemReading.{found, kept, Moved}
+use Rattle.text_grammar.specs.Kinds.{is_end}
+use Rattle.text_grammar.specs.ItemReading.{kept, Moved}
 use Rattle.text_grammar.proofs.TextItemLaws.{gives_by}
 
 -- a run has digits 0 to 9, and at least one
@@ -75,21 +74,17 @@ run_perm t u ts e =
     ∙ full_perm u ts (and_left (full_run (digits u)) (all full_run ts)
     (subst (λ (l : List Token). all full_run l ≡ true) e (tokens_full t)))
 
-other_perm : (k : Kind) (t : List ℕ) (ts : List Token) → is_digits k ≡ false → read_perm (tokens_by k t ts) ≡ found (is_epsilon k) [] ts
-other_perm End t ts h = refl
-other_perm Digits t ts h = absurd (false≢true (sym h))
-other_perm Epsilon t ts h = refl
-other_perm Empty t ts h = refl
-other_perm Left t ts h = refl
-other_perm Right t ts h = refl
-other_perm (Byte b) t ts h = refl
-
-kept_found : {A B : Type 0} (load : A → B) (b : Bool) (x : A) (ts : List Token) → kept load (found b x ts) ≡ found b (load x) ts
-kept_found load true x ts = refl
-kept_found load false x ts = refl
+other_perm : (k : Kind) (t : List ℕ) (ts : List Token) → (k ≡ Digits → ⊥) → (k ≡ Epsilon → ⊥) → read_perm (tokens_by k t ts) ≡ misspelt
+other_perm End t ts h g = refl
+other_perm Digits t ts h g = absurd (h refl)
+other_perm Epsilon t ts h g = absurd (g refl)
+other_perm Empty t ts h g = refl
+other_perm Left t ts h g = refl
+other_perm Right t ts h g = refl
+other_perm (Byte b) t ts h g = refl
 
 past : (k : Kind) (a r : ℕ) → Beyond k a r → is_end k ≡ false → a < r
-past End a r h e = absurd (false≢true (sym e))
+past End a r h e = absurd (true≢false e)
 past Digits a r h e = h
 past Epsilon a r h e = h
 past Empty a r h e = h
@@ -99,28 +94,26 @@ past (Byte b) a r h e = h
 
 module _ (s : List ℕ) (at : ℕ) (t : Step) (stepped : Stepped s at t) where
   -- behind the place where it is read, but for the end of the text
-  pub moved_by : (b : Bool) → (b ≡ true → is_end t.kind ≡ false) → Moved s at t.next.at b
-  moved_by b h = record { onward = λ e. past t.kind at t.next.at stepped.beyond (h e); inside = stepped.inside }
+  pub moved_by : is_end t.kind ≡ false → Moved s at t.next.at
+  moved_by h = record { onward = past t.kind at t.next.at stepped.beyond h; inside = stepped.inside }
 
-  pub run_length : is_digits t.kind ≡ true → t.next.at - t.from ≡ length (run (drop t.from s))
+  pub run_length : t.kind ≡ Digits → t.next.at - t.from ≡ length (run (drop t.from s))
   run_length h =
       let q : t.next.at ≡ t.from + length (run (drop t.from s)) =
-      stepped.span ∙ ap (λ (k : Kind). t.from + span_of k (drop t.from s)) (is_digits_lem t.kind h) in
+      stepped.span ∙ ap (λ (k : Kind). t.from + span_of k (drop t.from s)) h in
       omega arith
 
   -- a permutation is a run of digits, or ε
   module _ {B : Type 0} (load : List ℕ → B) where
-    pub perm_run : is_digits t.kind ≡ true
-        → kept load (read_perm (tokens (drop at s))) ≡ got (load (run (drop t.from s))) (tokens (drop t.next.at s))
+    pub perm_run : t.kind ≡ Digits → kept load (read_perm (tokens (drop at s))) ≡ got (load (run (drop t.from s)))
+        (tokens (drop t.next.at s))
     perm_run h =
-        ap (kept load)
-        (run_perm (drop at s) (run (drop t.from s)) (tokens (drop t.next.at s))
-        (gives_by s at t stepped Digits (is_digits_lem t.kind h)))
+        ap (kept load) (run_perm (drop at s) (run (drop t.from s)) (tokens (drop t.next.at s)) (gives_by s at t stepped Digits h))
 
-    pub perm_other : (b : Bool) → b ≡ is_epsilon t.kind → is_digits t.kind ≡ false
-        → kept load (read_perm (tokens (drop at s))) ≡ found b (load []) (tokens (drop t.next.at s))
-    perm_other b e h =
+    pub perm_empty : t.kind ≡ Epsilon → kept load (read_perm (tokens (drop at s))) ≡ got (load []) (tokens (drop t.next.at s))
+    perm_empty h = ap (λ (ts : List Token). kept load (read_perm ts)) (gives_by s at t stepped Epsilon h)
+
+    pub perm_none : (t.kind ≡ Digits → ⊥) → (t.kind ≡ Epsilon → ⊥) → kept load (read_perm (tokens (drop at s))) ≡ misspelt
+    perm_none h g =
         ap (λ (ts : List Token). kept load (read_perm ts)) stepped.gives
-        ∙ ap (kept load) (other_perm t.kind (drop t.from s) (tokens (drop t.next.at s)) h)
-        ∙ kept_found load (is_epsilon t.kind) [] (tokens (drop t.next.at s))
-        ∙ ap (λ (c : Bool). found c (load []) (tokens (drop t.next.at s))) (sym e)
+        ∙ ap (kept load) (other_perm t.kind (drop t.from s) (tokens (drop t.next.at s)) h g)

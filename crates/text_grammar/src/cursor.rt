@@ -1,9 +1,9 @@
 // A cursor in a text: it steps past spaces, and from token to token.
 ghost use Rattle.std.specs.Prelude.{◌≡◌, ◌+◌, length, drop};
-ghost use Rattle.text_grammar.specs.Tokens.{is_digit, run};
+ghost use Rattle.text_grammar.specs.Tokens.{run};
 ghost use Rattle.text_grammar.specs.Cursor.{Passed, Stepped, mark_of, width_of};
 
-use crate::marks::{EMPTY, EPSILON, LEFT, RIGHT, begins_with};
+use crate::marks::{EMPTY, EPSILON, LEFT, RIGHT};
 
 // A place in a text.
 #[derive(Clone, Copy)]
@@ -12,7 +12,7 @@ pub struct Cursor {
 }
 
 // What a token is: nothing where the text ends, a run of digits, a mark, or any other byte.
-#[derive(Clone, Copy)]
+#[derive(Clone, Copy, PartialEq, Eq)]
 pub enum Kind {
     End,
     Digits,
@@ -36,14 +36,14 @@ impl Cursor {
     pub fn past_spaces(self, s: &[u8]) -> Cursor
         ensures { Passed s.now self.at result.at }
     {
-        let mut at = self.at;
-        while at < s.len() {
+        for at in self.at..s.len() {
             if s[at] != b' ' {
                 return Cursor { at };
             }
-            at += 1;
         }
-        Cursor { at }
+        Cursor {
+            at: self.at.max(s.len()),
+        }
     }
 
     // The next token. A cursor at the end of the text, or behind it, finds the end.
@@ -60,7 +60,7 @@ impl Cursor {
             };
         }
         let x = s[at];
-        if is_digit(x) {
+        if x.is_ascii_digit() {
             let behind = past_digits(s, at);
             return Step {
                 kind: Kind::Digits,
@@ -78,44 +78,33 @@ impl Cursor {
     }
 }
 
-// Whether a byte is a digit.
-fn is_digit(x: u8) -> bool
-    ensures { result ≡ is_digit x }
-{
-    if x < b'0' {
-        return false;
-    }
-    x <= b'9'
-}
-
 // The place behind the digits that stand from `from` on.
 fn past_digits(s: &[u8], from: usize) -> usize
     ensures { result ≡ from + length (run (drop from s.now)) }
 {
-    let mut at = from;
-    while at < s.len() {
-        if !is_digit(s[at]) {
+    for at in from..s.len() {
+        if !s[at].is_ascii_digit() {
             return at;
         }
-        at += 1;
     }
-    at
+    from.max(s.len())
 }
 
 // The mark with which the text begins, or else its first byte x.
+#[tactic(auto, using(crate::proofs::CursorLaws::begins_starts), unfolding(crate::specs::Cursor::mark_of))]
 fn mark_at(s: &[u8], x: u8) -> Kind
     ensures { result ≡ mark_of x s.now }
 {
-    if begins_with(s, &EPSILON) {
+    if s.starts_with(&EPSILON) {
         return Kind::Epsilon;
     }
-    if begins_with(s, &EMPTY) {
+    if s.starts_with(&EMPTY) {
         return Kind::Empty;
     }
-    if begins_with(s, &LEFT) {
+    if s.starts_with(&LEFT) {
         return Kind::Left;
     }
-    if begins_with(s, &RIGHT) {
+    if s.starts_with(&RIGHT) {
         return Kind::Right;
     }
     Kind::Byte(x)

@@ -2,6 +2,4 @@
 #![tactic(auto)]
 
 pub mod cursor;
-pub mod items;
-pub mod kinds;
 pub mod marks;

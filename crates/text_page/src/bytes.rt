@@ -22,10 +22,8 @@ pub fn put_bytes(page: &mut [u8], at: usize, bytes: &[u8]) -> usize
     ensures { Writes bytes.now at page.old page.new result }
 {
     let mut next = at;
-    let mut i: usize = 0;
-    while i < bytes.len() {
-        next = put(page, next, bytes[i]);
-        i += 1;
+    for b in bytes {
+        next = put(page, next, *b);
     }
     next
 }

@@ -1,11 +1,12 @@
 -- The memory of a pattern list of any size: true counts and lengths, the first 24 patterns, of each
 -- the first 8 digits. Definitions only.
-use Rattle.std.specs.Prelude.{ℕ, zero, suc, true, false, List, [], ◌∷◌, map, length}
-use Rattle.std.proofs.Math.Option.{Option, none, some}
+use Rattle.std.specs.Prelude.{ℕ, zero, suc, List, [], ◌∷◌, map, length}
+use Rattle.std.specs.declared.option.Option.{Option}
+use Rattle.std.specs.declared.option.Option.TheVariants.{Some, None}
+use Rattle.std.proofs.Math.Option.{Option as MathOption, none, some}
 use Rattle.word.specs.Ceilings.{DIGITS, PATTERNS}
 use Rattle.forms.specs.declared.memory.Pattern.{Pattern}
 use Rattle.forms.specs.declared.memory.Patterns.{Patterns}
-use Rattle.text_patterns.specs.declared.pattern_reader.PatternText.{PatternText}
 
 -- the first n elements of a list, and z at the places behind its end
 abbrev pub filled : {A : Type 0} → ℕ → A → List A → List A
@@ -20,6 +21,6 @@ unfoldable pub loaded_patterns : List (List ℕ) → Patterns
 loaded_patterns P = record { items = filled PATTERNS (pattern_of []) (map pattern_of P); count = length P }
 
 -- what a text spells, in memory
-abbrev pub pattern_text : Option (List (List ℕ)) → PatternText
-pattern_text none = record { spelt = false; patterns = loaded_patterns [] }
-pattern_text (some P) = record { spelt = true; patterns = loaded_patterns P }
+abbrev pub pattern_text : MathOption (List (List ℕ)) → Option Patterns
+pattern_text none = None
+pattern_text (some P) = Some (loaded_patterns P)

@@ -9,13 +9,11 @@ pub fn put_digits(digits: &mut [u8], s: &[u8], from: usize, len: usize)
     requires { len ≡ length (run (drop from s.now)) }
     ensures { digits.new ≡ sets digits.old 0 (run (drop from s.now)) }
 {
-    let mut i: usize = 0;
-    while i < digits.len() {
+    for i in 0..digits.len() {
         if len <= i {
             return;
         }
         let k = from + i;
         digits[i] = s[k] - b'0';
-        i += 1;
     }
 }

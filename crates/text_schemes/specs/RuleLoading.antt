@@ -1,7 +1,7 @@
 -- Numbers that memory keeps as bytes, up to a number of places; and the rule of an entry in memory,
 -- which is refused where the rule is, and is the rule itself where it is not.
 use Rattle.std.specs.Prelude.{ℕ, ◌≤◌, ◌<◌, ◌≡◌, refl, ◌⊎◌, Bool, true, false, ◌||◌, List, [], ◌∷◌, ◌++◌, map}
-use Rattle.std.specs.Prelude.{length, get_or, take, replicate, leb, eqb}
+use Rattle.std.specs.Prelude.{length, take, replicate, leb, eqb}
 use Rattle.std.proofs.Common.{arith, sym, ap, ap₂, ◌∙◌, inl, inr, lt-ltb}
 use Rattle.std.proofs.lemmas.List.{length-map}
 use Rattle.word.specs.Ceilings.{PREFIX, COMPONENTS}
@@ -35,10 +35,8 @@ many_kept c b l k h = step (below_or_not 255 (length b))
     step (inl i) = omega (arith, length_padded (part_of (length b)) l, part_most (length b) i)
     step (inr i) = omega (arith, length_padded (part_of (length b)) l, part_same (length b) i)
 
--- the positions that have a name are the first ones
-six_filled : (l : List ℕ) → (
-    get_or (filled COMPONENTS 0 l) 0 0 ∷ get_or (filled COMPONENTS 0 l) 1 0 ∷ get_or (filled COMPONENTS 0 l) 2 0 ∷
-    get_or (filled COMPONENTS 0 l) 3 0 ∷ get_or (filled COMPONENTS 0 l) 4 0 ∷ get_or (filled COMPONENTS 0 l) 5 0 ∷ []) ≡ filled PREFIX 0 l
+-- the positions that have a place are the first ones
+six_filled : (l : List ℕ) → padded PREFIX (take PREFIX (filled COMPONENTS 0 l)) ≡ filled PREFIX 0 l
 six_filled [] = refl
 six_filled (a ∷ []) = refl
 six_filled (a ∷ (b ∷ [])) = refl

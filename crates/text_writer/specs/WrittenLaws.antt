@@ -7,6 +7,8 @@ use Rattle.std.proofs.lemmas.Simd.{map-map}
 use Rattle.std.proofs.lemmas.List.{take-append-le}
 use Rattle.word.specs.Lists.{row}
 use Rattle.word.specs.ListLaws.{below_or_not, each_append}
+use Rattle.word.specs.Ceilings.{PREFIX}
+use Rattle.forms.specs.MemoryLaws.{length_padded}
 use Rattle.forms.specs.SchemeMemory.{padded, pattern_in, patterns_in, gap_at, six_of, positions_in, entry_in, scheme_in}
 use Rattle.forms.specs.SchemeMemory.{no_pattern, no_entry}
 use Rattle.forms.specs.SchemeList.{EntryList, deletes}
@@ -144,7 +146,8 @@ pub text_deletes : (d : Positions) (l : List ℕ) (n : ℕ) → l ≡ six_of d �
 text_deletes d l n e f h =
     let some = h.some in
     let few = h.few in
-    rw (e, f) (text_numbers (byte 0x7B) (byte 0x7D) d.count (six_of d) (omega arith) few)
+    rw (e, f) (text_numbers (byte 0x7B) (byte 0x7D) d.count (six_of d) (omega arith)
+    (omega (arith, length_padded PREFIX d.positions)))
 
 -- a number of up to three digits: its bytes are those of the number in base ten
 pub numeral_decimal : (n : ℕ) → n ≤ 999 → bytes_of (digits (numeral n)) ≡ decimal n

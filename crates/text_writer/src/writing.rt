@@ -12,10 +12,8 @@ ghost use Rattle.text_writer.specs.Writable.{text, further, number, pattern_at, 
 
 use forms::gaps::entry_gap;
 use forms::memory::{Entry, Gap, Pattern, Patterns, Positions, Rule, Scheme};
-use forms::positions::six_of;
 use text_grammar::marks::{EMPTY, EPSILON, LEFT, RIGHT};
 use text_page::bytes::{put, put_bytes, put_decimal};
-use word::bytes::wide;
 
 // Writes the first n digits.
 fn put_digits(page: &mut [u8], at: usize, run: &[u8], n: usize) -> usize
@@ -23,10 +21,8 @@ fn put_digits(page: &mut [u8], at: usize, run: &[u8], n: usize) -> usize
     ensures { Writes (bytes_of (digits (padded n run.now))) at page.old page.new result }
 {
     let mut next = at;
-    let mut i: usize = 0;
-    while i < n {
+    for i in 0..n {
         next = put(page, next, 48 + run[i]);
-        i += 1;
     }
     next
 }
@@ -58,13 +54,10 @@ fn put_further_patterns(page: &mut [u8], at: usize, s: Patterns) -> usize
     ensures { Writes (further (pattern_at s.items) 1 (s.count - 1)) at page.old page.new result }
 {
     let items = s.items;
-    let last_pattern = s.count - 1;
     let mut next = at;
-    let mut i: usize = 1;
-    while i <= last_pattern {
+    for i in 1..s.count {
         let from = put(page, next, b',');
         next = put_pattern(page, from, items[i]);
-        i += 1;
     }
     next
 }
@@ -97,7 +90,7 @@ fn put_part(page: &mut [u8], at: usize, x: u8) -> usize
     requires { Room (text (digits (numeral x) ∷ [])) at }
     ensures { Writes (text (digits (numeral x) ∷ [])) at page.old page.new result }
 {
-    put_number(page, at, wide(x))
+    put_number(page, at, usize::from(x))
 }
 
 // Writes the first n numbers of an array but for the first of them, a comma before each.
@@ -105,13 +98,10 @@ fn put_further_parts(page: &mut [u8], at: usize, parts: &[u8], n: usize) -> usiz
     requires { (1 ≤ n) × (n ≤ length parts.now) × Room (further (number parts.now) 1 (n - 1)) at }
     ensures { Writes (further (number parts.now) 1 (n - 1)) at page.old page.new result }
 {
-    let last_part = n - 1;
     let mut next = at;
-    let mut k: usize = 1;
-    while k <= last_part {
+    for k in 1..n {
         let from = put(page, next, b',');
         next = put_part(page, from, parts[k]);
-        k += 1;
     }
     next
 }
@@ -143,13 +133,10 @@ fn put_further_vectors(page: &mut [u8], at: usize, e: Entry) -> usize
     requires { EntryFits e × Room (further (vector_at e) 1 (e.gap_count - 1)) at }
     ensures { Writes (further (vector_at e) 1 (e.gap_count - 1)) at page.old page.new result }
 {
-    let n = e.gap_count;
     let mut next = at;
-    let mut i: usize = 1;
-    while i < n {
+    for i in 1..e.gap_count {
         let from = put(page, next, b',');
         next = put_vector_at(page, from, e, i);
-        i += 1;
     }
     next
 }
@@ -173,11 +160,10 @@ fn put_deleted(page: &mut [u8], at: usize, d: Positions) -> usize
     requires { PositionsFit d × Room (text (rule_pieces (deletes (positions_in d)))) at }
     ensures { Writes (text (rule_pieces (deletes (positions_in d)))) at page.old page.new result }
 {
-    let six = six_of(d);
-    let n = wide(d.count);
+    let n = usize::from(d.count);
     let first = put(page, at, b'{');
-    let second = put_part(page, first, six[0]);
-    let last = put_further_parts(page, second, &six, n);
+    let second = put_part(page, first, d.positions[0]);
+    let last = put_further_parts(page, second, &d.positions, n);
     put(page, last, b'}')
 }
 
@@ -215,13 +201,11 @@ fn put_further_entries(page: &mut [u8], at: usize, s: Scheme) -> usize
     ensures { Writes (further (entry_at s.entries) 1 (s.count - 1)) at page.old page.new result }
 {
     let entries = s.entries;
-    let last_entry = s.count - 1;
+    let count = s.count;
     let mut next = at;
-    let mut i: usize = 1;
-    while i <= last_entry {
+    for i in 1..count {
         let from = put(page, next, b',');
         next = put_entry(page, from, entries[i]);
-        i += 1;
     }
     next
 }

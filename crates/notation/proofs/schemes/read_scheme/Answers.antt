@@ -1,126 +1,74 @@
 -- `notation::schemes::read_scheme` meets its contract: by the length of the text, by its spelling,
 -- by the tests of what it spells. What is read in all is what is read from the place on.
 -- Assumes nothing.
-use Prim.Native.Nat.{◌≤◌}
-use mathlib.Core.Path.{◌≡◌, sym, ap, ◌∙◌}
-use mathlib.Core.Bool.{Bool, true, ◌&&◌}
-use mathlib.Core.Option.{none, some}
-use native.Mathlib.Omega.{arith}
-use lib.ListN.{length, drop}
+use Rattle.std.proofs.Common.{◌≡◌, ◌≤◌, ◌∙◌, refl, sym, ap, length, drop, arith, rules}
+use Rattle.std.specs.Prelude.{Err}
+use Rattle.std.proofs.Math.Option.{none, some}
 use Rattle.word.specs.Ceilings.{SCHEME_TEXT}
+use Rattle.word.specs.declared.refusal.Refused.{Refused}
+use Rattle.word.specs.Finding.{first_fault}
+use Rattle.scheme.specs.WellFormed.{scheme_tests}
+use Rattle.forms.specs.SchemeMemory.{Fault, fault_of, scheme_in}
 use Rattle.text_grammar.specs.Tokens.{tokens}
-use Rattle.text_grammar.specs.Grammar.{read_entries}
-use Rattle.text_schemes.specs.SchemeReading.{loaded_text}
-use Rattle.text_schemes.specs.EntryReading.{no_tokens}
-use Rattle.text_schemes.proofs.EntryItemLaws.{start_read, countable, next_inside, left_less}
-use Rattle.text_schemes.proofs.EntryItemLaws.{read_kept, read_counted, at_last}
-use Rattle.text_schemes.proofs.EntryItemLaws.{text_spelt, text_misspelt, whole_text}
-use Rattle.notation.specs.SchemeAnswers.{read_scheme_or, scheme_answer}
-use Rattle.forms.specs.declared.memory.Fault.{Fault}
-use Rattle.notation.proofs.SchemeAnswerLaws.{none_loaded, answer_long, answer_misspelt, answer_tested, or_read, or_refused, answered}
+use Rattle.text_grammar.specs.Grammar.{misspelt}
+use Rattle.text_schemes.proofs.EntryItemLaws.{start_missed, start_read, item_missed}
+use Rattle.text_schemes.proofs.EntryItemLaws.{at_last, text_spelt, text_misspelt, whole_text}
+use Rattle.notation.specs.SchemeAnswers.{SchemeRead, read_scheme_or, scheme_answer}
+use Rattle.notation.proofs.SchemeAnswerLaws.{none_loaded, answer_misspelt, answer_tested, answered}
 use Rattle.notation.proofs.schemes.read_scheme.Goals as goal
-use Rattle.notation.proofs.schemes.read_scheme.Goals.{After-both}
+use Rattle.notation.proofs.schemes.read_scheme.Goals.{Else-not-ends_at}
 
--- what was read in all
-whole : (c : After-both) → c.both.result ≡ (c.loop-more.spelt && no_tokens (tokens (drop c.loop-more.at c.args.text.now)))
-whole c =
-    let l = c.loop-more in
-    c.both.ensures ∙ ap (λ (b : Bool). l.spelt && b) c.ends_at.ensures
+abbrev refusal : Refused → SchemeRead
+refusal e = Err e
 
--- where all was spelt, the entries that were read are those of the text
-spells : (c : After-both) → c.both.result ≡ true → some c.loop-more.scheme ≡ loaded_text (read_entries (tokens c.args.text.now))
-spells c =
-    λ h. let l = c.loop-more in
+-- a text that spells no scheme
+pub returns-in_default : goal.returns-in_default
+returns-in_default c =
     let s = c.args.text.now in
-    whole_text s _ _ (text_spelt l.scheme l.spelt (tokens (drop l.at s)) (sym (whole c) ∙ h))
-    (at_last s l.scheme l.at l.more l.spelt c.loop-more-test.false l.invariant)
-
-pub returns-then-text-gt-SCHEME_TEXT : goal.returns-then-text-gt-SCHEME_TEXT
-returns-then-text-gt-SCHEME_TEXT c =
-    let s = c.args.text.now in
-    answered s c.refused_scheme.result (c.refused_scheme.ensures ∙ answer_long s (omega arith))
+    let short : length s ≤ SCHEME_TEXT = omega arith in
+    answered s _ (ap refusal c.at-misspelt.ensures ∙ answer_misspelt s short
+    (whole_text s misspelt none refl (start_missed s c.in_default.ensures)))
 
 pub loop-more-init : goal.loop-more-init
 loop-more-init c =
-    start_read c.args.text.now c.opening_at-mark.result c.opening_at-mark.ensures
-    _ c.goes_on-more.result (none_loaded c.no_entry-none.result c.no_entry-none.ensures) c.goes_on-more.ensures
+    start_read c.args.text.now c.in-Some.last c.in-Some.mark c.in-Some.ensures _ _
+    (none_loaded c.no_entry-none.result c.no_entry-none.ensures) refl
 
-pub slice_bounds-item_at-count : goal.slice_bounds-item_at-count
-slice_bounds-item_at-count c = c.loop-more.invariant.inside
-
-pub overflow_add-at : goal.overflow_add-at
-overflow_add-at c =
-    let l = c.loop-more in
-    omega (
-      arith,
-      next_inside c.args.text.now l.scheme l.at l.more l.spelt c.loop-more-test.true l.invariant
-          c.item_at-item.result c.item_at-item.ensures,
-    )
-
-pub overflow_add-scheme : goal.overflow_add-scheme
-overflow_add-scheme c =
-    let l = c.loop-more in
-    omega (
-      arith,
-      countable c.args.text.now l.scheme l.at l.more l.spelt c.loop-more-test.true l.invariant
-          c.item_at-item.result c.item_at-item.ensures,
-    )
-
-pub loop-more-smaller-then-count-lt-ENTRIES : goal.loop-more-smaller-then-count-lt-ENTRIES
-loop-more-smaller-then-count-lt-ENTRIES c =
-    let l = c.loop-more in
-    left_less c.args.text.now l.scheme l.at l.more l.spelt c.loop-more-test.true l.invariant
-    c.item_at-item.result c.item_at-item.ensures
-
-pub loop-more-preserved-then-count-lt-ENTRIES : goal.loop-more-preserved-then-count-lt-ENTRIES
-loop-more-preserved-then-count-lt-ENTRIES c =
-    let l = c.loop-more in
-    read_kept c.args.text.now l.scheme l.at l.more l.spelt c.loop-more-test.true l.invariant
-    c.item_at-item.result c.item_at-item.ensures
-
-pub loop-more-smaller : goal.loop-more-smaller
-loop-more-smaller c =
-    let l = c.loop-more in
-    left_less c.args.text.now l.scheme l.at l.more l.spelt c.loop-more-test.true l.invariant
-    c.item_at-item.result c.item_at-item.ensures
-
-pub loop-more-preserved : goal.loop-more-preserved
-loop-more-preserved c =
-    let l = c.loop-more in
-    read_counted c.args.text.now l.scheme l.at l.more l.spelt c.loop-more-test.true l.invariant
-    c.item_at-item.result c.item_at-item.ensures c.if-count-lt-ENTRIES.false
-
-pub returns-then-not-both : goal.returns-then-not-both
-returns-then-not-both c =
-    let short : length c.args.text.now ≤ SCHEME_TEXT =
-    let h = c.if-text-gt-SCHEME_TEXT.false in omega arith in
-    let l = c.loop-more in
+pub returns-in_default-item_at : goal.returns-in_default-item_at
+returns-in_default-item_at c =
     let s = c.args.text.now in
-    let misspelt = whole_text s _ none
-    (text_misspelt l.scheme l.spelt (tokens (drop l.at s)) (sym (whole (goal.at.returns-then-not-both c).After-both) ∙ c.if-not-both.true))
-    (at_last s l.scheme l.at l.more l.spelt c.loop-more-test.false l.invariant) in
-    answered s c.refused_scheme-then-not-both.result (c.refused_scheme-then-not-both.ensures ∙ answer_misspelt s (short) misspelt)
+    let l = c.loop-more in
+    let short : length s ≤ SCHEME_TEXT = omega arith in
+    answered s _ (ap refusal c.at-misspelt.ensures ∙ answer_misspelt s short
+    (whole_text s misspelt none refl
+    (item_missed s l.scheme l.at l.more c.loop-more-test.true l.invariant c.in_default-item_at.ensures)))
 
-pub returns-then-is_fault : goal.returns-then-is_fault
-returns-then-is_fault c =
-    let short : length c.args.text.now ≤ SCHEME_TEXT =
-    let h = c.if-text-gt-SCHEME_TEXT.false in omega arith in
-    let tested : read_scheme_or c.scheme_fault-fault.result c.loop-more.scheme ≡ scheme_answer c.args.text.now =
-    let m = c.loop-more.scheme in
-    ap (λ (x : Fault). read_scheme_or x m) c.scheme_fault-fault.ensures ∙
-    answer_tested c.args.text.now (short) m ((spells (goal.at.returns-then-is_fault c).After-both) c.if-not-both.false) in
-    answered c.args.text.now _
-    (c.refused_scheme-then-is_fault.ensures ∙
-    or_refused c.scheme_fault-fault.result c.loop-more.scheme (sym c.is_fault.ensures ∙ c.if-is_fault.true) ∙
-    tested)
+pub returns-then-not-ends_at : goal.returns-then-not-ends_at
+returns-then-not-ends_at c =
+    let s = c.args.text.now in
+    let l = c.loop-more in
+    let short : length s ≤ SCHEME_TEXT = omega arith in
+    answered s _ (ap refusal c.at-misspelt.ensures ∙ answer_misspelt s short
+    (whole_text s _ none (text_misspelt l.scheme (tokens (drop l.at s)) (sym c.ends_at.ensures ∙ c.if-not-ends_at.true))
+    (at_last s l.scheme l.at l.more c.loop-more-test.false l.invariant)))
+
+-- where all was spelt, the answer is by the tests of the entries that were read
+tested : (c : Else-not-ends_at) → (f : Fault) → f ≡ fault_of (first_fault (scheme_tests (scheme_in c.loop-more.scheme))) →
+    read_scheme_or f c.loop-more.scheme ≡ scheme_answer c.args.text.now
+tested c f e =
+    let s = c.args.text.now in
+    let l = c.loop-more in
+    let short : length s ≤ SCHEME_TEXT = let h = c.if-text-gt-SCHEME_TEXT.false in omega arith in
+    ap (λ (x : Fault). read_scheme_or x l.scheme) e ∙ answer_tested s short l.scheme
+    (whole_text s _ (some l.scheme) (text_spelt l.scheme (tokens (drop l.at s)) (sym c.ends_at.ensures ∙ c.if-not-ends_at.false))
+    (at_last s l.scheme l.at l.more c.loop-more-test.false l.invariant))
+
+pub returns-in_err-scheme_fault : goal.returns-in_err-scheme_fault
+returns-in_err-scheme_fault c =
+    let r : c.from_residual.result ≡ Err c.in_err-scheme_fault.field-0.0 = search rules in
+    answered c.args.text.now _ (r ∙ tested (goal.at.returns-in_err-scheme_fault c).Else-not-ends_at _
+    (sym c.in_err-scheme_fault.was ∙ c.scheme_fault.ensures))
 
 pub returns : goal.returns
 returns c =
-    let short : length c.args.text.now ≤ SCHEME_TEXT =
-    let h = c.if-text-gt-SCHEME_TEXT.false in omega arith in
-    let tested : read_scheme_or c.scheme_fault-fault.result c.loop-more.scheme ≡ scheme_answer c.args.text.now =
-    let m = c.loop-more.scheme in
-    ap (λ (x : Fault). read_scheme_or x m) c.scheme_fault-fault.ensures ∙
-    answer_tested c.args.text.now (short) m ((spells (goal.at.returns c).After-both) c.if-not-both.false) in
-    answered c.args.text.now _
-    (or_read c.scheme_fault-fault.result c.loop-more.scheme (sym c.is_fault.ensures ∙ c.if-is_fault.false) ∙ tested)
+    answered c.args.text.now _ (tested (goal.at.returns c).Else-not-ends_at _ (sym c.in_ok-scheme_fault.was ∙ c.scheme_fault.ensures))

@@ -1,6 +1,7 @@
 -- `text_gaps::gap_reader::digit_of` meets its contract: a digit of a run is the value of its byte.
 -- Assumes nothing.
 use native.Mathlib.Omega.{arith}
+use borrow.Author.Rules.{rules}
 use Rattle.text_patterns.proofs.FilledLaws.{digits_in}
 use Rattle.text_gaps.proofs.GapNumberLaws.{digit_is}
 use Rattle.text_gaps.proofs.gap_reader.digit_of.Goals as goal
@@ -19,4 +20,4 @@ overflow_sub-s c =
     c.args.i c.requires).1
 
 pub returns : goal.returns
-returns c = digit_is c.args.s.now c.args.from c.args.i c.wide.result c.requires c.wide.ensures.0
+returns c = digit_is c.args.s.now c.args.from c.args.i c.from.result c.requires (search rules)

@@ -9,8 +9,7 @@ use Rattle.text_gaps.proofs.gap_reader.number_of.Goals as goal
 
 pub returns-then-len-eq0 : goal.returns-then-len-eq0
 returns-then-len-eq0 c =
-    number_empty (run (drop c.args.from c.args.s.now)) c.no_number.result
-    c.no_number.ensures (sym c.requires ∙ c.if-len-eq0.true)
+    number_empty (run (drop c.args.from c.args.s.now)) (sym c.requires ∙ c.if-len-eq0.true)
 
 pub returns-then-len-eq1 : goal.returns-then-len-eq1
 returns-then-len-eq1 c =

@@ -1,44 +1,42 @@
 -- `text_gaps::gap_reader::parts_at` meets its contract: what is read in all is what is read from
 -- the place on.
 -- Assumes nothing.
-use mathlib.Core.Path.{sym, ◌∙◌}
-use mathlib.Core.Bool.{false}
-use native.Mathlib.Omega.{arith}
-use lib.ListN.{drop}
-use Rattle.text_grammar.specs.Tokens.{tokens}
-use Rattle.text_gaps.proofs.GapTextLaws.{parts_start, no_parts, parts_end}
+use Rattle.std.proofs.Common.{◌≡◌, ap, false, rules}
+use Rattle.text_grammar.specs.declared.cursor.Kind.TheVariants.{Right, Byte}
+use Rattle.text_grammar.proofs.TextItemLaws.{turn_vector_other}
+use Rattle.text_gaps.specs.GapReading.{turn_after}
+use Rattle.text_gaps.proofs.GapTextLaws.{parts_start, numbers_none, numbers_more, numbers_done, numbers_wrong}
 use Rattle.text_gaps.proofs.gap_reader.parts_at.Goals as goal
 
-pub loop-read-init : goal.loop-read-init
-loop-read-init c =
-    let a = c.args in
-    let z = no_parts c.no_gap-gap.result c.no_gap-gap.ensures in (
-      parts_start false c.no_gap-gap.result (tokens (drop a.c.at a.s.now)) c.no_gap-gap.ensures,
-      record { inside = c.requires; counted = omega arith },
-      omega arith,
-    )
+pub loop-n-init : goal.loop-n-init
+loop-n-init c = parts_start false c.args.s.now c.args.c.at c.requires c.no_gap-gap.result c.no_gap-gap.ensures
 
-pub returns-then-not-goes_on : goal.returns-then-not-goes_on
-returns-then-not-goes_on c =
-    let a = c.args in
-    let l = c.loop-read in
-    parts_end a.s.now a.c.at l.m.turn l.m.next
-    (sym c.goes_on.ensures ∙ c.if-not-goes_on.true) l.m.gap.width l.invariant.1
-    l.invariant.2 c.is_done.result c.is_done.ensures false l.m.gap l.invariant.0
+pub returns-in_err-n : goal.returns-in_err-n
+returns-in_err-n c =
+    let l = c.loop-n in
+    rw c.from_residual.ensures (numbers_none false c.args.s.now c.args.c.at l.gap l.next.at l.invariant c.in_err-n.ensures)
 
-pub with_part-n-requires : goal.with_part-n-requires
-with_part-n-requires c =
-    record {
-      within = c.loop-read.invariant.1;
-      goes = sym
-          c.goes_on.ensures ∙ c.if-not-goes_on.false;
-    }
+pub returns-then-eq : goal.returns-then-eq
+returns-then-eq c =
+    let l = c.loop-n in
+    let n = c.in_ok-n in
+    let e : c.step-t.result.kind ≡ Right = search rules in
+    numbers_done false c.args.s.now c.args.c.at l.gap l.next.at l.invariant n.n n.behind n.ensures c.step-t.result
+    c.step-t.ensures c.stored_part-gap.result c.stored_part-gap.ensures (ap (turn_after false) e)
 
-pub loop-read-smaller : goal.loop-read-smaller
-loop-read-smaller c = c.with_part-n.ensures.falls
+pub returns-then-ne : goal.returns-then-ne
+returns-then-ne c =
+    let l = c.loop-n in
+    let n = c.in_ok-n in
+    let e : c.step-t.result.kind ≡ Right → ⊥ = search rules in
+    let f : c.step-t.result.kind ≡ Byte 0x2C → ⊥ = search rules in
+    numbers_wrong false c.args.s.now c.args.c.at l.gap l.next.at l.invariant n.n n.behind n.ensures c.step-t.result
+    c.step-t.ensures (turn_vector_other c.step-t.result.kind e f)
 
-pub loop-read-preserved : goal.loop-read-preserved
-loop-read-preserved c =
-    let i = c.loop-read.invariant in
-    let e = c.with_part-n.ensures in
-    (sym e.same ∙ i.0, e.within, omega (arith, i.2, e.onward))
+pub loop-n-preserved : goal.loop-n-preserved
+loop-n-preserved c =
+    let l = c.loop-n in
+    let n = c.in_ok-n in
+    let e : c.step-t.result.kind ≡ Byte 0x2C = search rules in
+    numbers_more false c.args.s.now c.args.c.at l.gap l.next.at l.invariant n.n n.behind n.ensures c.step-t.result
+    c.step-t.ensures c.stored_part-gap.result c.stored_part-gap.ensures (ap (turn_after false) e)

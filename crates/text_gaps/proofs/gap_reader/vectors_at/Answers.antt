@@ -1,43 +1,40 @@
 -- `text_gaps::gap_reader::vectors_at` meets its contract: what is read in all is what is read from
 -- the place on.
 -- Assumes nothing.
-use mathlib.Core.Path.{sym, ◌∙◌}
-use native.Mathlib.Omega.{arith}
-use lib.ListN.{drop}
-use Rattle.text_grammar.specs.Tokens.{tokens}
-use Rattle.text_gaps.proofs.GapTextLaws.{vectors_start, no_vectors, vectors_end}
+use Rattle.std.proofs.Common.{◌≡◌, rules}
+use Rattle.text_grammar.specs.declared.cursor.Kind.TheVariants.{Byte}
+use Rattle.text_gaps.proofs.GapTextLaws.{vectors_start, vectors_none, vectors_more, vectors_done, vectors_wrong}
 use Rattle.text_gaps.proofs.gap_reader.vectors_at.Goals as goal
 
-pub loop-read-init : goal.loop-read-init
-loop-read-init c =
-    let a = c.args in
-    let z = no_vectors c.no_gaps-gaps.result c.no_gaps-gaps.ensures in (
-      vectors_start c.no_gaps-gaps.result (tokens (drop a.c.at a.s.now)) c.no_gaps-gaps.ensures,
-      record { inside = c.requires; counted = omega arith },
-      omega arith,
-    )
+pub loop-g-init : goal.loop-g-init
+loop-g-init c = vectors_start c.args.s.now c.args.c.at c.requires c.no_gaps-gaps.result c.no_gaps-gaps.ensures
 
-pub returns-then-not-goes_on : goal.returns-then-not-goes_on
-returns-then-not-goes_on c =
-    let a = c.args in
-    let l = c.loop-read in
-    vectors_end a.s.now a.c.at l.m.turn l.m.next
-    (sym c.goes_on.ensures ∙ c.if-not-goes_on.true) l.m.gaps.count l.invariant.1
-    l.invariant.2 c.is_done.result c.is_done.ensures l.m.gaps l.invariant.0
+pub returns-in_err-g : goal.returns-in_err-g
+returns-in_err-g c =
+    let l = c.loop-g in
+    rw c.from_residual.ensures (vectors_none c.args.s.now c.args.c.at l.gaps l.next.at l.invariant c.in_err-g.ensures)
 
-pub with_vector-n-requires : goal.with_vector-n-requires
-with_vector-n-requires c =
-    record {
-      within = c.loop-read.invariant.1;
-      goes = sym
-          c.goes_on.ensures ∙ c.if-not-goes_on.false;
-    }
+pub returns-then-eq : goal.returns-then-eq
+returns-then-eq c =
+    let l = c.loop-g in
+    let g = c.in_ok-g in
+    let e : c.step-t.result.kind ≡ Byte 0x7D = search rules in
+    vectors_done c.args.s.now c.args.c.at l.gaps l.next.at l.invariant g.g g.behind g.ensures c.step-t.result
+    c.step-t.ensures c.stored_gap-gaps.result c.stored_gap-gaps.ensures e
 
-pub loop-read-smaller : goal.loop-read-smaller
-loop-read-smaller c = c.with_vector-n.ensures.falls
+pub returns-then-ne : goal.returns-then-ne
+returns-then-ne c =
+    let l = c.loop-g in
+    let g = c.in_ok-g in
+    let e : c.step-t.result.kind ≡ Byte 0x7D → ⊥ = search rules in
+    let f : c.step-t.result.kind ≡ Byte 0x2C → ⊥ = search rules in
+    vectors_wrong c.args.s.now c.args.c.at l.gaps l.next.at l.invariant g.g g.behind g.ensures c.step-t.result
+    c.step-t.ensures e f
 
-pub loop-read-preserved : goal.loop-read-preserved
-loop-read-preserved c =
-    let i = c.loop-read.invariant in
-    let e = c.with_vector-n.ensures in
-    (sym e.same ∙ i.0, e.within, omega (arith, i.2, e.onward))
+pub loop-g-preserved : goal.loop-g-preserved
+loop-g-preserved c =
+    let l = c.loop-g in
+    let g = c.in_ok-g in
+    let e : c.step-t.result.kind ≡ Byte 0x2C = search rules in
+    vectors_more c.args.s.now c.args.c.at l.gaps l.next.at l.invariant g.g g.behind g.ensures c.step-t.result
+    c.step-t.ensures c.stored_gap-gaps.result c.stored_gap-gaps.ensures e

@@ -1,5 +1,5 @@
--- The invariant and the measure of the loop of `text_grammar::cursor::past_digits`.
-use Prim.Native.Nat.{◌+◌, ◌-◌}
+-- The invariant of the loop of `text_grammar::cursor::past_digits`.
+use Prim.Native.Nat.{◌+◌}
 use mathlib.Core.Path.{◌≡◌}
 use lib.ListN.{length, drop}
 use Rattle.text_grammar.specs.Tokens.{run}
@@ -7,6 +7,3 @@ use Rattle.text_grammar.proofs.cursor.past_digits.Given as goal
 
 abbrev pub invariant-loop-at : goal.invariant-loop-at
 invariant-loop-at l = l.from + length (run (drop l.from l.s)) ≡ l.at + length (run (drop l.at l.s))
-
-abbrev pub decreases-loop-at : goal.decreases-loop-at
-decreases-loop-at l = length l.s - l.at

@@ -1,11 +1,8 @@
--- The invariant and the measure of the loop of `text_page::bytes::put_bytes`.
-use Prim.Native.Nat.{◌-◌}
-use lib.ListN.{length, drop}
+-- The invariant of the loop of `text_page::bytes::put_bytes`: the bytes from the index on are still
+-- to come.
+use Rattle.std.proofs.Common.{drop}
 use Rattle.text_page.specs.PageLaws.{ToCome}
 use Rattle.text_page.proofs.bytes.put_bytes.Given as goal
 
-abbrev pub invariant-loop-i : goal.invariant-loop-i
-invariant-loop-i l = ToCome l.bytes l.at l.initial.page (drop l.i l.bytes) l.next l.page
-
-abbrev pub decreases-loop-i : goal.decreases-loop-i
-decreases-loop-i l = length l.bytes - l.i
+abbrev pub invariant-loop-b : goal.invariant-loop-b
+invariant-loop-b l = ToCome l.bytes l.at l.initial.page (drop l.b-index l.bytes) l.next l.page

@@ -1,56 +1,57 @@
 -- `text_patterns::pattern_reader::items_at` meets its contract: what is read in all is what is read
 -- from the place on.
 -- Assumes nothing.
-use mathlib.Core.Path.{sym, ◌∙◌}
-use native.Mathlib.Omega.{arith}
-use Rattle.text_patterns.proofs.PatternTextLaws.{made, start_read, countable, left_less, read_kept, read_counted, at_last}
+use Rattle.std.proofs.Common.{◌≡◌, ◌+◌, rules}
+use Rattle.text_grammar.specs.declared.cursor.Kind.TheVariants.{Byte}
+use Rattle.text_patterns.specs.PatternReading.{stored_in}
+use Rattle.text_patterns.proofs.PatternTextLaws.{made, start_read, no_pattern_at, pattern_kept, pattern_counted}
+use Rattle.text_patterns.proofs.PatternTextLaws.{patterns_more, patterns_done, patterns_wrong}
 use Rattle.text_patterns.proofs.pattern_reader.items_at.Goals as goal
+use Rattle.text_patterns.proofs.pattern_reader.items_at.Goals.{After-step-t, then-count-lt-PATTERNS, else-count-lt-PATTERNS}
 
-pub loop-items-init : goal.loop-items-init
-loop-items-init c =
-    start_read c.args.s.now c.args.c.at c.requires c.no_patterns-none.result
-    c.no_patterns-none.ensures
+pub loop-pattern-init : goal.loop-pattern-init
+loop-pattern-init c = start_read c.args.s.now c.args.c.at c.requires c.no_patterns-none.result c.no_patterns-none.ensures
 
-pub returns-then-not-goes_on : goal.returns-then-not-goes_on
-returns-then-not-goes_on c =
-    let l = c.loop-items in
-    at_last c.args.s.now c.args.c.at (made l.items l.count) l.turn l.next
-    (sym c.goes_on.ensures ∙ c.if-not-goes_on.true) l.invariant c.is_done.result c.is_done.ensures
+pub returns-in_err-pattern : goal.returns-in_err-pattern
+returns-in_err-pattern c =
+    let l = c.loop-pattern in
+    rw c.from_residual.ensures
+    (no_pattern_at c.args.s.now c.args.c.at (made l.items l.count) l.next.at l.invariant c.in_err-pattern.ensures)
 
-pub overflow_add-count : goal.overflow_add-count
-overflow_add-count c =
-    let l = c.loop-items in
-    let goes = sym c.goes_on.ensures ∙ c.if-not-goes_on.false in
-    omega (
-      arith,
-      countable c.args.s.now c.args.c.at (made l.items l.count) l.turn l.next.at goes l.invariant
-          c.item_at-item.result c.item_at-item.ensures,
-    )
+-- what is kept with the pattern that was read
+kept : (c : After-step-t) → made c.if-count-lt-PATTERNS.items (c.loop-pattern.count + 1) ≡
+    stored_in (made c.loop-pattern.items c.loop-pattern.count) c.in_ok-pattern.pattern
+kept c =
+    let l = c.loop-pattern in
+    let p = c.in_ok-pattern in
+    elim c.if-count-lt-PATTERNS.branch [
+      | then-count-lt-PATTERNS w ↦ pattern_kept c.args.s.now c.args.c.at (made l.items l.count) l.next.at l.invariant p.pattern p.behind
+          p.ensures c.step-t.result c.step-t.ensures _ w.items-is
+      | else-count-lt-PATTERNS w ↦ pattern_counted c.args.s.now c.args.c.at (made l.items l.count) l.next.at l.invariant p.pattern p.behind
+          p.ensures c.step-t.result c.step-t.ensures _ w.items-is w.if-count-lt-PATTERNS.false
+    ]
 
-pub loop-items-smaller-then-count-ge-PATTERNS : goal.loop-items-smaller-then-count-ge-PATTERNS
-loop-items-smaller-then-count-ge-PATTERNS c =
-    let l = c.loop-items in
-    let goes = sym c.goes_on.ensures ∙ c.if-not-goes_on.false in
-    left_less c.args.s.now c.args.c.at (made l.items l.count) l.turn l.next.at goes l.invariant
-    c.item_at-item.result c.item_at-item.ensures
+pub returns-then-eq : goal.returns-then-eq
+returns-then-eq c =
+    let l = c.loop-pattern in
+    let p = c.in_ok-pattern in
+    let e : c.step-t.result.kind ≡ Byte 0x7D = search rules in
+    patterns_done c.args.s.now c.args.c.at (made l.items l.count) l.next.at l.invariant p.pattern p.behind
+    p.ensures c.step-t.result c.step-t.ensures _ (kept (goal.at.returns-then-eq c).After-step-t) e
 
-pub loop-items-preserved-then-count-ge-PATTERNS : goal.loop-items-preserved-then-count-ge-PATTERNS
-loop-items-preserved-then-count-ge-PATTERNS c =
-    let l = c.loop-items in
-    let goes = sym c.goes_on.ensures ∙ c.if-not-goes_on.false in
-    read_counted c.args.s.now c.args.c.at (made l.items l.count) l.turn l.next.at goes l.invariant
-    c.item_at-item.result c.item_at-item.ensures c.if-count-ge-PATTERNS.true
+pub returns-then-ne : goal.returns-then-ne
+returns-then-ne c =
+    let l = c.loop-pattern in
+    let p = c.in_ok-pattern in
+    let e : c.step-t.result.kind ≡ Byte 0x7D → ⊥ = search rules in
+    let f : c.step-t.result.kind ≡ Byte 0x2C → ⊥ = search rules in
+    patterns_wrong c.args.s.now c.args.c.at (made l.items l.count) l.next.at l.invariant p.pattern p.behind
+    p.ensures c.step-t.result c.step-t.ensures e f
 
-pub loop-items-smaller : goal.loop-items-smaller
-loop-items-smaller c =
-    let l = c.loop-items in
-    let goes = sym c.goes_on.ensures ∙ c.if-not-goes_on.false in
-    left_less c.args.s.now c.args.c.at (made l.items l.count) l.turn l.next.at goes l.invariant
-    c.item_at-item.result c.item_at-item.ensures
-
-pub loop-items-preserved : goal.loop-items-preserved
-loop-items-preserved c =
-    let l = c.loop-items in
-    let goes = sym c.goes_on.ensures ∙ c.if-not-goes_on.false in
-    read_kept c.args.s.now c.args.c.at (made l.items l.count) l.turn l.next.at goes l.invariant
-    c.item_at-item.result c.item_at-item.ensures
+pub loop-pattern-preserved : goal.loop-pattern-preserved
+loop-pattern-preserved c =
+    let l = c.loop-pattern in
+    let p = c.in_ok-pattern in
+    let f : c.step-t.result.kind ≡ Byte 0x2C = search rules in
+    patterns_more c.args.s.now c.args.c.at (made l.items l.count) l.next.at l.invariant p.pattern p.behind
+    p.ensures c.step-t.result c.step-t.ensures _ (kept (goal.at.loop-pattern-preserved c).After-step-t) f

@@ -1,25 +1,22 @@
 -- `text_patterns::pattern_reader::load_patterns` meets its contract: ∅ or patterns in braces, and
 -- nothing after them.
 -- Assumes nothing.
-use mathlib.Core.Path.{sym, ◌∙◌}
-use Rattle.std.proofs.lemmas.Bool.{not-true, not-false}
-use Rattle.text_patterns.proofs.PatternTextLaws.{text_wrong, text_more, text_end}
+use Rattle.std.proofs.Common.{◌≡◌, ◌∙◌, rules}
+use Rattle.text_grammar.specs.declared.cursor.Kind.TheVariants.{End}
+use Rattle.text_patterns.proofs.PatternTextLaws.{text_none, text_more, text_end}
 use Rattle.text_patterns.proofs.pattern_reader.load_patterns.Goals as goal
 
-pub returns-then-not-m : goal.returns-then-not-m
-returns-then-not-m c =
-    text_wrong c.args.s.now c.set_at-m.result c.set_at-m.ensures (not-true _ c.if-not-m.true)
-    c.misspelt.result c.misspelt.ensures
+pub returns-in_err-patterns : goal.returns-in_err-patterns
+returns-in_err-patterns c = c.from_residual.ensures ∙ text_none c.args.s.now c.in_err-patterns.ensures
 
-pub returns-then-not-is_end : goal.returns-then-not-is_end
-returns-then-not-is_end c =
-    text_more c.args.s.now c.set_at-m.result c.set_at-m.ensures
-    (not-false _ c.if-not-m.false) c.step-t.result c.step-t.ensures
-    (sym c.is_end.ensures ∙ c.if-not-is_end.true)
-    c.misspelt-then-not-is_end.result c.misspelt-then-not-is_end.ensures
+pub returns-then-ne : goal.returns-then-ne
+returns-then-ne c =
+    let a = c.in_ok-patterns in
+    let e : c.step-t.result.kind ≡ End → ⊥ = search rules in
+    text_more c.args.s.now a.patterns a.behind a.ensures c.step-t.result c.step-t.ensures e
 
 pub returns : goal.returns
 returns c =
-    text_end c.args.s.now c.set_at-m.result c.set_at-m.ensures
-    (not-false _ c.if-not-m.false) c.step-t.result c.step-t.ensures
-    (sym c.is_end.ensures ∙ c.if-not-is_end.false)
+    let a = c.in_ok-patterns in
+    let e : c.step-t.result.kind ≡ End = search rules in
+    text_end c.args.s.now a.patterns a.behind a.ensures c.step-t.result c.step-t.ensures e

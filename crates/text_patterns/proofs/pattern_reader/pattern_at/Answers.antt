@@ -1,22 +1,10 @@
 -- `text_patterns::pattern_reader::pattern_at` meets its contract: the next token is a run of
 -- digits, ε, or neither.
 -- Assumes nothing.
-use mathlib.Core.Path.{sym, ◌∙◌}
-use Rattle.text_grammar.proofs.TextRunLaws.{run_length}
-use Rattle.text_patterns.proofs.PatternTextLaws.{pattern_run, pattern_other}
+use Rattle.text_patterns.proofs.PatternTextLaws.{pattern_run}
 use Rattle.text_patterns.proofs.pattern_reader.pattern_at.Goals as goal
 
-pub digits_at-digits-requires : goal.digits_at-digits-requires
-digits_at-digits-requires c =
-    run_length c.args.s.now c.args.c.at c.step-t.result c.step-t.ensures
-    (sym c.is_digits.ensures ∙ c.if-is_digits.true)
-
-pub returns-then-is_digits : goal.returns-then-is_digits
-returns-then-is_digits c =
-    pattern_run c.args.s.now c.args.c.at c.step-t.result c.step-t.ensures
-    (sym c.is_digits.ensures ∙ c.if-is_digits.true) c.digits_at-digits.result c.digits_at-digits.ensures
-
-pub returns : goal.returns
-returns c =
-    pattern_other c.args.s.now c.args.c.at c.step-t.result c.step-t.ensures
-    (sym c.is_digits.ensures ∙ c.if-is_digits.false) c.is_epsilon-spelt.result c.is_epsilon-spelt.ensures
+pub returns-in-Digits : goal.returns-in-Digits
+returns-in-Digits c =
+    pattern_run c.args.s.now c.args.c.at c.step-t.result c.step-t.ensures c.in-Digits.is c.digits_at-digits.result
+    c.digits_at-digits.ensures

@@ -1,4 +1,4 @@
--- The invariant and the measure of the loop of `text_writer::writing::put_digits`.
+-- The invariant of the loop of `text_writer::writing::put_digits`.
 use Prim.Native.Nat.{◌-◌}
 use Rattle.word.specs.Lists.{row}
 use Rattle.forms.specs.SchemeMemory.{padded}
@@ -9,6 +9,3 @@ use Rattle.text_writer.proofs.writing.put_digits.Given as goal
 
 abbrev pub invariant-loop-i : goal.invariant-loop-i
 invariant-loop-i l = ToCome (bytes_of (digits (padded l.n l.run))) l.at l.initial.page (shown l.run (row l.i (l.n - l.i))) l.next l.page
-
-abbrev pub decreases-loop-i : goal.decreases-loop-i
-decreases-loop-i l = l.n - l.i

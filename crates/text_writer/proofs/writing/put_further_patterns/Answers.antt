@@ -1,24 +1,21 @@
 -- `text_writer::writing::put_further_patterns` meets its contract: what is still to come are the
 -- patterns from the index on.
 -- Assumes nothing.
-use Prim.Native.Nat.{◌+◌, ◌-◌}
 use borrow.Author.Rules.{rules}
-use Rattle.text_page.specs.PageLaws.{start_as, same_size, room_first, room_rest}
+use Rattle.text_page.specs.PageLaws.{start, same_size, room_first, room_rest}
 use Rattle.text_writer.specs.Writable.{pattern_at}
-use Rattle.text_writer.specs.WrittenLaws.{further_room, further_on, further_done, further_up_to}
+use Rattle.text_writer.specs.WrittenLaws.{further_room, further_on, further_done}
 use Rattle.text_writer.proofs.writing.put_further_patterns.Goals as goal
 
 pub loop-i-init : goal.loop-i-init
-loop-i-init c =
-    let s = c.args.s in
-    start_as _ _ _ _ (further_up_to (pattern_at s.items) (s.count - 1))
+loop-i-init c = start _ _ _
 
 pub put-from-requires : goal.put-from-requires
 put-from-requires c =
     let s = c.args.s in
     let h = c.requires in
     let l = c.loop-i in
-    room_first (further_room (pattern_at s.items) l.i (s.count - 1 + 1) l.invariant (search rules) h.2)
+    room_first (further_room (pattern_at s.items) l.i s.count l.invariant (search rules) h.2)
 
 pub put_pattern-next-requires : goal.put_pattern-next-requires
 put_pattern-next-requires c =
@@ -26,7 +23,7 @@ put_pattern-next-requires c =
     let h = c.requires in
     let l = c.loop-i in (
       h.0.fit l.i (search rules),
-      room_rest (further_room (pattern_at s.items) l.i (s.count - 1 + 1)
+      room_rest (further_room (pattern_at s.items) l.i s.count
           l.invariant (search rules) h.2) c.put-from.ensures,
     )
 
@@ -34,7 +31,7 @@ pub loop-i-preserved : goal.loop-i-preserved
 loop-i-preserved c =
     let s = c.args.s in
     let l = c.loop-i in
-    further_on (pattern_at s.items) l.i (s.count - 1 + 1) l.invariant (search rules) c.put-from.ensures
+    further_on (pattern_at s.items) l.i s.count l.invariant (search rules) c.put-from.ensures
     c.put_pattern-next.ensures
 
 pub shape_of-page : goal.shape_of-page
@@ -44,4 +41,4 @@ pub returns : goal.returns
 returns c =
     let s = c.args.s in
     let l = c.loop-i in
-    further_done (pattern_at s.items) l.i (s.count - 1 + 1) l.invariant (search rules)
+    further_done (pattern_at s.items) l.i s.count l.invariant (search rules)

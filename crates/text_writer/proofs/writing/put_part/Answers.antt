@@ -10,11 +10,11 @@ use Rattle.text_writer.proofs.writing.put_part.Goals as goal
 
 pub put_number-requires : goal.put_number-requires
 put_number-requires c =
-    let w = c.wide.ensures in
-    let same = ap (λ (n : ℕ). bytes_of (digits (numeral n))) w.0 in
+    let w = c.from.ensures in
+    let same = ap (λ (n : ℕ). bytes_of (digits (numeral n))) w in
     (search rules, room_as c.requires (text_one (digits (numeral c.args.x)) ∙ sym same))
 
 pub returns : goal.returns
 returns c =
-    let same = ap (λ (n : ℕ). bytes_of (digits (numeral n))) c.wide.ensures.0 in
+    let same = ap (λ (n : ℕ). bytes_of (digits (numeral n))) c.from.ensures in
     writes_as c.put_number.ensures (same ∙ sym (text_one (digits (numeral c.args.x))))

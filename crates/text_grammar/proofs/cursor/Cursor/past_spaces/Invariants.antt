@@ -1,5 +1,5 @@
--- The invariant and the measure of the loop of `text_grammar::cursor::Cursor::past_spaces`.
-use Prim.Native.Nat.{◌-◌, ◌≤◌}
+-- The invariant of the loop of `text_grammar::cursor::Cursor::past_spaces`.
+use Prim.Native.Nat.{◌≤◌}
 use mathlib.Core.Path.{◌≡◌}
 use lib.ListN.{length, drop}
 use Rattle.text_grammar.specs.Tokens.{tokens}
@@ -8,6 +8,3 @@ use Rattle.text_grammar.proofs.cursor.Cursor.past_spaces.Given as goal
 abbrev pub invariant-loop-at : goal.invariant-loop-at
 invariant-loop-at l = (tokens (drop l.initial.at l.s) ≡ tokens (drop l.at l.s)) × (l.initial.at ≤ l.at) ×
     (l.initial.at ≤ length l.s → l.at ≤ length l.s)
-
-abbrev pub decreases-loop-at : goal.decreases-loop-at
-decreases-loop-at l = length l.s - l.at

@@ -15,12 +15,12 @@ returns-then-s-at c =
     let a = c.args in
     stepped_end a.s.now a.self.at c.past_spaces-c.result.at c.past_spaces-c.ensures c.if-s-at.true
 
-pub returns-then-is_digit : goal.returns-then-is_digit
-returns-then-is_digit c =
+pub returns-then-is_ascii_digit : goal.returns-then-is_ascii_digit
+returns-then-is_ascii_digit c =
     let a = c.args in
     let p = c.past_spaces-c in
     stepped_run a.s.now a.self.at p.result.at p.ensures c.past_digits-behind.result c.if-s-at.false
-    (sym c.is_digit.ensures ∙ c.if-is_digit.true) c.past_digits-behind.ensures
+    (sym c.is_ascii_digit.ensures.value ∙ c.if-is_ascii_digit.true) c.past_digits-behind.ensures
 
 pub overflow_add-behind : goal.overflow_add-behind
 overflow_add-behind c =
@@ -30,7 +30,7 @@ overflow_add-behind c =
     c.mark_at-kind.ensures ∙ ap (λ (u : List ℕ). mark_of (get_or a.s.now p.result.at 0) u)
     (tail_is p.result.at a.s.now) in
     let b = mark_inside a.s.now a.self.at p.result.at p.ensures c.mark_at-kind.result
-    c.if-s-at.false (sym c.is_digit.ensures ∙ c.if-is_digit.false) k in
+    c.if-s-at.false (sym c.is_ascii_digit.ensures.value ∙ c.if-is_ascii_digit.false) k in
     omega (arith, b, c.width.ensures)
 
 pub returns : goal.returns
@@ -42,4 +42,4 @@ returns c =
     (tail_is p.result.at a.s.now) in
     stepped_mark a.s.now a.self.at p.result.at p.ensures c.mark_at-kind.result
     (p.result.at + c.width.result) c.if-s-at.false
-    (sym c.is_digit.ensures ∙ c.if-is_digit.false) k (ap (λ (n : ℕ). p.result.at + n) c.width.ensures)
+    (sym c.is_ascii_digit.ensures.value ∙ c.if-is_ascii_digit.false) k (ap (λ (n : ℕ). p.result.at + n) c.width.ensures)
