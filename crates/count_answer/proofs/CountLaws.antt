@@ -1,5 +1,5 @@
 -- Laws of counting: the tests in their order, and what an accepted count is.
-use Rattle.std.specs.Prelude.{ℕ, ◌≤◌, ◌<◌, ◌≡◌, refl, Bool, true, false, List, [], ◌∷◌, ◌++◌, length, ltb}
+use Rattle.std.specs.Prelude.{ℕ, ◌≤◌, ◌<◌, ◌≡◌, refl, Bool, true, false, List, [], ◌∷◌, ◌++◌, length, ltb, Ok, Err}
 use Rattle.std.proofs.Common.{arith, sym, ap, ap₂, ◌∙◌}
 use borrow.Author.Tests.{lt-ltb, le-ltb}
 use Rattle.word.specs.Ceilings.{LENGTH, PLAIN_LENGTH as PLAIN}
@@ -9,21 +9,17 @@ use Rattle.word.specs.Finding.{Finding, test, first_fault}
 use Rattle.word.specs.Told.{told_by}
 use Rattle.word.specs.declared.refusal.Refusal.TheVariants.{Oversize, ShortTable}
 use Rattle.forms.specs.SchemeList.{EntryList}
-use Rattle.forms.specs.SchemeMemory.{fault_of, or_else, faulty, told_or}
+use Rattle.forms.specs.SchemeMemory.{Fault, fault_of, or_else, faulty, told_or}
 use Rattle.forms.specs.ToldLaws.{told_found}
-use Rattle.forms.specs.declared.memory.Fault.{Fault}
-use Rattle.forms.specs.declared.memory.Fault.TheVariants.{Clean, At}
+use Rattle.word.specs.Refusal.{refused_at}
 use Rattle.wellformed.proofs.OrderLaws.{or_else_fault, or_else_clean, not_faulty, faults_append}
-use Rattle.verdict.specs.Verdict.{compared_cells, judge_tests, answered, verdict_of, accepted}
+use Rattle.verdict.specs.Verdict.{Verdict, compared_cells, judge_tests, answered, verdict_of, accepted}
 use Rattle.verdict.specs.VerdictLaws.{accepted_clean, accepted_exactly}
-use Rattle.verdict.specs.declared.answer.Verdict.{Verdict}
 use Rattle.count_plan.specs.Layout.{need_of}
 use Rattle.verdict.specs.Value.{count_of}
 use Rattle.verdict.specs.ValueLaws.{count_avoiders}
-use Rattle.count_answer.specs.Counting.{table_tests, count_tests, length_tests, plain_tests, fault_in, counted_or}
+use Rattle.count_answer.specs.Counting.{table_tests, count_tests, length_tests, plain_tests, fault_in, Counted, counted_or}
 use Rattle.count_answer.specs.Counting.{told_counted, table_after, Counts, PlainCounts}
-use Rattle.count_answer.specs.declared.answer.Counted.{Counted}
-use Rattle.count_answer.specs.declared.answer.Counted.TheVariants.{Count}
 
 -- the fault in a verdict is that of its tests
 pub verdict_fault : (P : List (List ℕ)) (E : List EntryList) (v : Verdict) → v ≡ verdict_of P E → fault_in v ≡
@@ -31,73 +27,74 @@ pub verdict_fault : (P : List (List ℕ)) (E : List EntryList) (v : Verdict) →
 verdict_fault P E v e = ap fault_in e ∙ read (fault_of (first_fault (judge_tests P E))) (compared_cells P E)
   where
     read : (f : Fault) (n : ℕ) → fault_in (answered f n) ≡ f
-    read Clean n = refl
-    read (At r i) n = refl
+    read (Ok u) n = refl
+    read (Err e) n = refl
 
 -- a clean verdict accepts
-pub clean_accepts : (v : Verdict) → fault_in v ≡ Clean → accepted v ≡ true
-clean_accepts (Rattle.verdict.specs.declared.answer.Verdict.TheVariants.Accepted n) e = refl
-clean_accepts (Rattle.verdict.specs.declared.answer.Verdict.TheVariants.Refused r i) e = let z : ◌≡◌ {A = ℕ} 0 1 =
+pub clean_accepts : (v : Verdict) → fault_in v ≡ Ok tt → accepted v ≡ true
+clean_accepts (Ok n) e = refl
+clean_accepts (Err x) e = let z : ◌≡◌ {A = ℕ} 0 1 =
     cc in absurd (omega arith)
 
 -- the tests of n and of the table
-pub length_refused : (E : List EntryList) (n cells : ℕ) → LENGTH < n → fault_of (first_fault (table_tests E n cells)) ≡ At Oversize 0
+pub length_refused : (E : List EntryList) (n cells : ℕ) → LENGTH < n →
+    fault_of (first_fault (table_tests E n cells)) ≡ Err (refused_at Oversize 0)
 length_refused E n cells h = rw (lt-ltb LENGTH n h) refl
 
 pub table_refused : (E : List EntryList) (n cells : ℕ) → n ≤ LENGTH → cells < need_of n E →
-    fault_of (first_fault (table_tests E n cells)) ≡ At ShortTable 0
+    fault_of (first_fault (table_tests E n cells)) ≡ Err (refused_at ShortTable 0)
 table_refused E n cells h k = rw (le-ltb LENGTH n h, lt-ltb cells (need_of n E) k) refl
 
 pub table_serves : (E : List EntryList) (n cells : ℕ) → n ≤ LENGTH → need_of n E ≤ cells →
-    fault_of (first_fault (table_tests E n cells)) ≡ Clean
+    fault_of (first_fault (table_tests E n cells)) ≡ Ok tt
 table_serves E n cells h k = rw (le-ltb LENGTH n h, le-ltb cells (need_of n E) k) refl
 
 -- where they find nothing, n is at most LENGTH and the table is long enough
-pub table_good : (E : List EntryList) (n cells : ℕ) → fault_of (first_fault (table_tests E n cells)) ≡ Clean →
+pub table_good : (E : List EntryList) (n cells : ℕ) → fault_of (first_fault (table_tests E n cells)) ≡ Ok tt →
     (n ≤ LENGTH) × (need_of n E ≤ cells)
 table_good E n cells e = go (ltb LENGTH n) (ltb cells (need_of n E)) refl refl e
   where
     go : (a b : Bool) → ltb LENGTH n ≡ a → ltb cells (need_of n E) ≡ b →
-        fault_of (first_fault (test Oversize a ∷ test ShortTable b ∷ [])) ≡ Clean → (n ≤ LENGTH) ×
+        fault_of (first_fault (test Oversize a ∷ test ShortTable b ∷ [])) ≡ Ok tt → (n ≤ LENGTH) ×
         (need_of n E ≤ cells)
     go true b p q r = let z : ◌≡◌ {A = ℕ} 0 1 = cc in absurd (omega arith)
     go false true p q r = let z : ◌≡◌ {A = ℕ} 0 1 = cc in absurd (omega arith)
     go false false p q r = (borrow.Author.Tests.ltb-false LENGTH n p, borrow.Author.Tests.ltb-false cells (need_of n E) q)
 
 -- the test of n in the plain evaluation
-pub length_serves : (n : ℕ) → n ≤ PLAIN → fault_of (first_fault (length_tests n)) ≡ Clean
+pub length_serves : (n : ℕ) → n ≤ PLAIN → fault_of (first_fault (length_tests n)) ≡ Ok tt
 length_serves n h = rw (le-ltb PLAIN n h) refl
 
-pub length_long : (n : ℕ) → PLAIN < n → fault_of (first_fault (length_tests n)) ≡ At Oversize 0
+pub length_long : (n : ℕ) → PLAIN < n → fault_of (first_fault (length_tests n)) ≡ Err (refused_at Oversize 0)
 length_long n h = rw (lt-ltb PLAIN n h) refl
 
-pub length_good : (n : ℕ) → fault_of (first_fault (length_tests n)) ≡ Clean → n ≤ PLAIN
+pub length_good : (n : ℕ) → fault_of (first_fault (length_tests n)) ≡ Ok tt → n ≤ PLAIN
 length_good n e = go (ltb PLAIN n) refl e
   where
-    go : (a : Bool) → ltb PLAIN n ≡ a → fault_of (first_fault (test Oversize a ∷ [])) ≡ Clean → n ≤ PLAIN
+    go : (a : Bool) → ltb PLAIN n ≡ a → fault_of (first_fault (test Oversize a ∷ [])) ≡ Ok tt → n ≤ PLAIN
     go true p r = let z : ◌≡◌ {A = ℕ} 0 1 = cc in absurd (omega arith)
     go false p r = borrow.Author.Tests.ltb-false PLAIN n p
 
 -- an answer to a refusal does not ask for the count, and leaves the table
 pub refused_count : (f : Fault) (m n : ℕ) → faulty f ≡ true → counted_or f m ≡ counted_or f n
-refused_count Clean m n h = absurd (true_not_false (sym h))
-refused_count (At r i) m n h = refl
+refused_count (Ok u) m n h = absurd (true_not_false (sym h))
+refused_count (Err e) m n h = refl
 
 pub refused_table : (f : Fault) (m : ℕ) (t : List ℕ) → faulty f ≡ true → t ≡ table_after f m t
-refused_table Clean m t h = absurd (true_not_false (sym h))
-refused_table (At r i) m t h = refl
+refused_table (Ok u) m t h = absurd (true_not_false (sym h))
+refused_table (Err e) m t h = refl
 
 -- an answer by what the tests find, in the numbers of document 01
 told_counted_lem : (x : Finding) (n : ℕ) (r : Counted) → r ≡ counted_or (fault_of x) n → told_counted r ≡ told_by x (n ∷ [])
 told_counted_lem x n r e = ap told_counted e ∙ by_fault (fault_of x) ∙ told_found x (n ∷ [])
   where
     by_fault : (f : Fault) → told_counted (counted_or f n) ≡ told_or f (n ∷ [])
-    by_fault Clean = refl
-    by_fault (At r i) = refl
+    by_fault (Ok u) = refl
+    by_fault (Err e) = refl
 
 module _ (P : List (List ℕ)) (E : List EntryList) where
   -- an accepted scheme has no fault in the tests of judging
-  pub accepted_judged : accepted (verdict_of P E) ≡ true → fault_of (first_fault (judge_tests P E)) ≡ Clean
+  pub accepted_judged : accepted (verdict_of P E) ≡ true → fault_of (first_fault (judge_tests P E)) ≡ Ok tt
   accepted_judged a = ap fault_of (accepted_clean (first_fault (judge_tests P E)) (compared_cells P E) a)
 
   -- the count of an accepted scheme
@@ -118,7 +115,7 @@ module _ (P : List (List ℕ)) (E : List EntryList) where
             ap (λ (f : Fault). counted_or f (count_of P E n))
             (faults_append (judge_tests P E) (table_tests E n (length before)) ∙
             ap₂ or_else (accepted_judged a) (table_serves E n (length before) h k)) ∙
-            ap Count (count_exact a n);
+            ap Ok (count_exact a n);
       }
 
   pub plain_so : (n : ℕ) (r : Counted) → r ≡ counted_or (fault_of (first_fault (plain_tests P E n))) (count_of P E n) → PlainCounts P E n r
@@ -130,10 +127,10 @@ module _ (P : List (List ℕ)) (E : List EntryList) where
             e ∙
             ap (λ (f : Fault). counted_or f (count_of P E n))
             (faults_append (judge_tests P E) (length_tests n) ∙ ap₂ or_else (accepted_judged a) (short h)) ∙
-            ap Count (count_exact a n);
+            ap Ok (count_exact a n);
       }
     where
-      short : n ≤ PLAIN → fault_of (first_fault (length_tests n)) ≡ Clean
+      short : n ≤ PLAIN → fault_of (first_fault (length_tests n)) ≡ Ok tt
       short h = length_serves n h
 
   -- Two parts of tests: a fault in the first refuses, then one in the second.
@@ -171,7 +168,7 @@ module _ (P : List (List ℕ)) (E : List EntryList) where
         pub served : (n ≤ LENGTH) × (need_of n E ≤ length T)
         served = table_good E n (length T) (sym found ∙ not_faulty g k)
 
-        pub done : (T' : List ℕ) (v : ℕ) (r : Counted) → T' ≡ table_after Clean (need_of n E) T → v ≡ count_of P E n →
+        pub done : (T' : List ℕ) (v : ℕ) (r : Counted) → T' ≡ table_after (Ok tt) (need_of n E) T → v ≡ count_of P E n →
             r ≡ counted_or g v → Counts P E n T T' r
         done T' v r t e q =
             counts_so n T T' r (q ∙ ap₂ counted_or (sym tests_so) e)

@@ -3,11 +3,10 @@
 use Prim.Native.Nat.{ℕ, ◌*◌, ◌≤◌}
 use native.Mathlib.Omega.{arith}
 use mathlib.Core.Path.{◌≡◌, sym, ap, ap₂, ◌∙◌, subst}
-use mathlib.Core.Bool.{false}
 use mathlib.Core.List.{List}
 use lib.ListN.{length}
 use Rattle.word.specs.Ceilings.{LENGTH}
-use Rattle.forms.specs.SchemeMemory.{patterns_in, scheme_in, faulty}
+use Rattle.forms.specs.SchemeMemory.{patterns_in, scheme_in}
 use Rattle.forms.specs.declared.memory.Patterns.{Patterns}
 use Rattle.forms.specs.declared.memory.Scheme.{Scheme}
 use Rattle.scheme.specs.Proper.{Proper}
@@ -17,7 +16,7 @@ use Rattle.count_plan.specs.LayoutLaws.{width_sum, rows_few}
 use Rattle.count_plan.specs.Plan.{Places}
 use Rattle.count_entry.specs.Frames.{frame_of, FrameFits}
 use Rattle.count_entry.specs.declared.frame.Frame.{Frame}
-use Rattle.count_answer.specs.Measuring.{Measured, TableGiven}
+use Rattle.count_answer.specs.Measuring.{LaidOut, TableGiven}
 use Rattle.count_answer.specs.declared.measure.Measure.{Measure}
 
 -- The layout of n
@@ -43,21 +42,20 @@ module _ (n : ℕ) (s : Scheme) (places : List ℕ) (p : Places n s places) (f :
 
 -- A count in that layout
 
-pub given_of : (patterns : Patterns) (s : Scheme) (n cells : ℕ) (m : Measure) (T : List ℕ) → Measured s n cells m →
-    faulty m.fault ≡ false →
+pub given_of : (patterns : Patterns) (s : Scheme) (n : ℕ) (m : Measure) (T : List ℕ) → LaidOut s n m →
     WellFormed (patterns_in patterns) (scheme_in s) → AllTrue (patterns_in patterns) (scheme_in s) → n ≤ LENGTH → need_of n
     (scheme_in s) ≤ length T →
     TableGiven patterns s m T
-given_of patterns s n cells m T w clean formed truth small room =
-    let last : n ≡ m.frame.last = sym (ap (λ (x : Frame). x.last) (w.framed clean)) in
+given_of patterns s n m T w formed truth small room =
+    let last : n ≡ m.frame.last = sym (ap (λ (x : Frame). x.last) w.framed) in
     record {
       formed = formed;
       truth = truth;
       small = omega arith;
-      placed = subst (λ k. Places k s m.places) last (w.placed clean);
-      framed = w.framed clean ∙ ap (λ k. frame_of m.places k s.count (rows_of (scheme_in s))) last;
+      placed = subst (λ k. Places k s m.places) last w.placed;
+      framed = w.framed ∙ ap (λ k. frame_of m.places k s.count (rows_of (scheme_in s))) last;
       room = subst (λ k. need_of k (scheme_in s) ≤ length T) last room;
     }
 
-pub last_is : (s : Scheme) (n cells : ℕ) (m : Measure) → Measured s n cells m → faulty m.fault ≡ false → m.frame.last ≡ n
-last_is s n cells m w clean = ap (λ (x : Frame). x.last) (w.framed clean)
+pub last_is : (s : Scheme) (n : ℕ) (m : Measure) → LaidOut s n m → m.frame.last ≡ n
+last_is s n m w = ap (λ (x : Frame). x.last) w.framed

@@ -1,9 +1,9 @@
 -- What is worked out of n and of the table, and what a count in that table is given. Definitions
 -- only.
-use Rattle.std.specs.Prelude.{ℕ, ◌≤◌, ◌≡◌, false, List, length}
+use Rattle.std.specs.Prelude.{ℕ, ◌≤◌, ◌≡◌, List, length, Ok, Err}
 use Rattle.word.specs.Ceilings.{LENGTH}
 use Rattle.word.specs.Finding.{first_fault}
-use Rattle.forms.specs.SchemeMemory.{patterns_in, scheme_in, fault_of, faulty}
+use Rattle.forms.specs.SchemeMemory.{patterns_in, scheme_in, fault_of}
 use Rattle.forms.specs.declared.memory.Patterns.{Patterns}
 use Rattle.forms.specs.declared.memory.Scheme.{Scheme}
 use Rattle.verdict.specs.Truth.{WellFormed, AllTrue}
@@ -12,13 +12,19 @@ use Rattle.count_plan.specs.Plan.{Places}
 use Rattle.count_entry.specs.Frames.{frame_of}
 use Rattle.count_answer.specs.Counting.{table_tests}
 use Rattle.count_answer.specs.declared.measure.Measure.{Measure}
+use Rattle.std.specs.declared.result.Result.{Result}
+use Rattle.word.specs.declared.refusal.Refused.{Refused}
 
--- the fault is what the tests of n and of the table find; where they find none, the places and the
--- layout are those of n
-pub record Measured (s : Scheme) (n cells : ℕ) (m : Measure) : Type 0 where
-  pub found : m.fault ≡ fault_of (first_fault (table_tests (scheme_in s) n cells))
-  pub placed : faulty m.fault ≡ false → Places n s m.places
-  pub framed : faulty m.fault ≡ false → m.frame ≡ frame_of m.places n s.count (rows_of (scheme_in s))
+-- the places and the layout are those of n
+pub record LaidOut (s : Scheme) (n : ℕ) (m : Measure) : Type 0 where
+  pub placed : Places n s m.places
+  pub framed : m.frame ≡ frame_of m.places n s.count (rows_of (scheme_in s))
+
+-- the refusal is what the tests of n and of the table find; where they find none, the places and
+-- the layout are those of n
+abbrev pub Measured : Scheme → ℕ → ℕ → Result Measure Refused → Type 0
+Measured s n cells (Ok m) = (Ok tt ≡ fault_of (first_fault (table_tests (scheme_in s) n cells))) × LaidOut s n m
+Measured s n cells (Err e) = Err e ≡ fault_of (first_fault (table_tests (scheme_in s) n cells))
 
 -- an accepted scheme, and a table of this layout that is long enough
 pub record TableGiven (patterns : Patterns) (s : Scheme) (m : Measure) (T : List ℕ) : Type 0 where

@@ -1,5 +1,4 @@
-// What counting answers: the refusals of n and of the table, the layout, the answer.
+// What n and the table of a count are refused for, and the layout of the table.
 #![tactic(auto)]
 
-pub mod answer;
 pub mod measure;

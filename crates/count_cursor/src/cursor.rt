@@ -31,12 +31,10 @@ fn entry_from(sheet: &[u8], entries: usize, k: usize, from: usize) -> usize
     requires { Listed sheet.now entries × (from ≤ entries) }
     ensures { FindsFrom sheet.now entries k from result }
 {
-    let mut e = from;
-    while e < entries {
+    for e in from..entries {
         if field(sheet, e, 0) == k {
             return e;
         }
-        e += 1;
     }
     entries
 }
@@ -47,9 +45,7 @@ fn entry_below(sheet: &[u8], entries: usize, k: usize) -> usize
     requires { Listed sheet.now entries × (k ≤ PREFIX + 1) }
     ensures { FindsBelow sheet.now entries k result }
 {
-    let mut l = k;
-    while 0 < l {
-        l -= 1;
+    for l in (0..k).rev() {
         let e = entry_from(sheet, entries, l, 0);
         if e < entries {
             return e;

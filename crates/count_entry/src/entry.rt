@@ -10,7 +10,7 @@ ghost use Rattle.count_entry.specs.Frames.{CellGiven, task_at, WorkFor, CellWalk
 use crate::frame::{Frame, block_of};
 use count_cursor::cursor::Cursor;
 use count_plan::places::place_at;
-use count_plan::reading::{field, gaps_of, gone_of, long};
+use count_plan::reading::{field, gaps_of, gone_of};
 use count_plan::sheet::FIELDS;
 use count_step::cells::Task;
 use count_step::filling::{fill_cells, fill_one};
@@ -25,11 +25,9 @@ fn links_from(sheet: &[u8], places: &[usize], e: usize, offset: usize) -> [usize
     ensures { result ≡ map (λ x. offset + x) (links_at sheet.now places.now e) }
 {
     let mut from = [0usize; LINKS];
-    let mut a: usize = 0;
-    while a < LINKS {
+    for a in 0..LINKS {
         let place = place_at(places, field(sheet, e, FIELDS + a));
         from[a] = offset + place;
-        a += 1;
     }
     from
 }
@@ -44,7 +42,7 @@ fn task_of(sheet: &[u8], places: &[usize], f: Frame, c: Cursor) -> Task
     let k = field(sheet, e, 0);
     let deleted = field(sheet, e, 1);
     let gone = gone_of(sheet, e);
-    let alone = long(field(sheet, e, 2));
+    let alone = field(sheet, e, 2) as u64;
     let count = field(sheet, e, 3);
     let offset = block_of(f, c.row, deleted);
     let links = links_from(sheet, places, e, offset);

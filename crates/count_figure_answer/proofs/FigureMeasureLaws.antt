@@ -3,12 +3,11 @@
 use Prim.Native.Nat.{ℕ, ◌*◌, ◌≤◌}
 use native.Mathlib.Omega.{arith}
 use mathlib.Core.Path.{◌≡◌, sym, ap, ◌∙◌, subst}
-use mathlib.Core.Bool.{false}
 use mathlib.Core.List.{List}
 use lib.ListN.{length}
 use Rattle.word.specs.Ceilings.{REFINED}
 use Rattle.word.specs.Inversions.{figure_count}
-use Rattle.forms.specs.SchemeMemory.{patterns_in, scheme_in, faulty}
+use Rattle.forms.specs.SchemeMemory.{patterns_in, scheme_in}
 use Rattle.forms.specs.declared.memory.Patterns.{Patterns}
 use Rattle.forms.specs.declared.memory.Scheme.{Scheme}
 use Rattle.verdict.specs.Truth.{WellFormed, AllTrue}
@@ -19,28 +18,25 @@ use Rattle.count_entry.specs.declared.frame.Frame.{Frame}
 use Rattle.count_answer.proofs.MeasureLaws.{frame_need}
 use Rattle.count_answer.specs.declared.measure.Measure.{Measure}
 use Rattle.count_figure_answer.specs.FigureCounting.{figure_need}
-use Rattle.count_figure_answer.specs.FigureMeasuring.{FiguresMeasured, FiguresGiven}
+use Rattle.count_answer.specs.Measuring.{LaidOut}
+use Rattle.count_figure_answer.specs.FigureMeasuring.{FiguresGiven}
 
 -- the need, by the layout of n
 pub figure_need_lem : (n : ℕ) (s : Scheme) (places : List ℕ) → Places n s places → (f : Frame) →
     f ≡ frame_of places n s.count (rows_of (scheme_in s)) → figure_count n * (f.rows * f.width) ≡ figure_need n (scheme_in s)
 figure_need_lem n s places p f is = ap (λ m. figure_count n * m) (frame_need n s places p f is ∙ omega arith)
 
-pub given_of : (patterns : Patterns) (s : Scheme) (n cells results : ℕ) (m : Measure) (T R : List ℕ) → FiguresMeasured s n cells results m →
-    faulty m.fault ≡ false → WellFormed (patterns_in patterns) (scheme_in s) → AllTrue (patterns_in patterns) (scheme_in s) →
+pub given_of : (patterns : Patterns) (s : Scheme) (n : ℕ) (m : Measure) (T R : List ℕ) → LaidOut s n m →
+    WellFormed (patterns_in patterns) (scheme_in s) → AllTrue (patterns_in patterns) (scheme_in s) →
     n ≤ REFINED → figure_need n (scheme_in s) ≤ length T → figure_count n ≤ length R → FiguresGiven patterns s m T R
-given_of patterns s n cells results m T R w clean formed truth small room space =
-    let last : n ≡ m.frame.last = sym (ap (λ (x : Frame). x.last) (w.framed clean)) in
+given_of patterns s n m T R w formed truth small room space =
+    let last : n ≡ m.frame.last = sym (ap (λ (x : Frame). x.last) w.framed) in
     record {
       formed = formed;
       truth = truth;
       small = omega arith;
-      placed = subst (λ k. Places k s m.places) last (w.placed clean);
-      framed = w.framed clean ∙ ap (λ k. frame_of m.places k s.count (rows_of (scheme_in s))) last;
+      placed = subst (λ k. Places k s m.places) last w.placed;
+      framed = w.framed ∙ ap (λ k. frame_of m.places k s.count (rows_of (scheme_in s))) last;
       room = subst (λ k. figure_need k (scheme_in s) ≤ length T) last room;
       space = subst (λ k. figure_count k ≤ length R) last space;
     }
-
-pub last_is : (s : Scheme) (n cells results : ℕ) (m : Measure) → FiguresMeasured s n cells results m → faulty m.fault ≡ false →
-    m.frame.last ≡ n
-last_is s n cells results m w clean = ap (λ (x : Frame). x.last) (w.framed clean)

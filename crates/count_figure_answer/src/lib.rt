@@ -1,5 +1,4 @@
 // What counting by inversions answers: the refusals of n, of the table and of the results.
 #![tactic(auto)]
 
-pub mod answer;
 pub mod measure;

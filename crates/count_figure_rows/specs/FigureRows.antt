@@ -5,7 +5,7 @@ use Rattle.word.specs.Ceilings.{REFINED}
 use Rattle.word.specs.Inversions.{figure_count}
 use Rattle.count_step.specs.declared.cells.Task.{Task}
 use Rattle.count_plan.specs.Layout.{number_at}
-use Rattle.count_walk.specs.Cells.{entry_cells, row_cells, cells_of}
+use Rattle.count_walk.specs.Cells.{entry_cells, cells_of}
 use Rattle.count_cursor.specs.declared.cursor.Cursor.{Cursor}
 use Rattle.count_entry.specs.Frames.{FrameFits, Framed, CellGiven}
 use Rattle.count_entry.specs.declared.frame.Frame.{Frame}
@@ -17,16 +17,12 @@ abbrev pub figure_task : Task → ℕ → FigureTask
 figure_task t n = record { task = t; numbers = figure_count n; figures = figure_count t.total }
 
 -- The table after steps, for every scheme whose sheet it is: at all cells of the cursor's entry in
--- its row, at those of row j, at those of all rows
+-- its row, at those of all rows
 
 abbrev pub EntryFigured : List ℕ → List ℕ → Frame → Cursor → List ℕ → List ℕ → Type 0
 EntryFigured sheet places f c T U =
     (o : CellGiven sheet places f c) →
     U ≡ figures_walked o.framed.of.P f.last o.framed.of.s (entry_cells o.framed.of.s c.row c.entry) T
-
-abbrev pub RowFigured : List ℕ → List ℕ → Frame → ℕ → List ℕ → List ℕ → Type 0
-RowFigured sheet places f j T U =
-    (o : Framed sheet places f) → U ≡ figures_walked o.of.P f.last o.of.s (row_cells o.of.s j) T
 
 abbrev pub RowsFigured : List ℕ → List ℕ → Frame → List ℕ → List ℕ → Type 0
 RowsFigured sheet places f T U =

@@ -13,13 +13,7 @@ use count_step::sums::capped_sum;
 fn in_reach(length: usize, from: usize, n: usize) -> usize
     ensures { result ≡ min n (length - from) }
 {
-    if length <= from {
-        return 0;
-    }
-    if length - from < n {
-        return length - from;
-    }
-    n
+    n.min(length.saturating_sub(from))
 }
 
 // Adds n numbers of the table, from a place on, to the figures from d on.
@@ -28,11 +22,9 @@ pub fn add_moved(figures: &mut [u64], table: &[u64], from: usize, d: usize, n: u
     ensures { Adds figures.old figures.new (moved_at d (take n (drop from table.now))) }
 {
     let count = in_reach(table.len(), from, n);
-    let mut i: usize = 0;
-    while i < count {
+    for i in 0..count {
         let x = capped_sum(figures[d + i], table[from + i]);
         figures[d + i] = x;
-        i += 1;
     }
 }
 
@@ -41,10 +33,8 @@ pub fn put_figures(table: &mut [u64], at: usize, figures: &[u64], n: usize)
     requires { (n ≤ length figures.now) × (n ≤ FIGURES) × (at ≤ FIGURES * (FAR + CHOICES)) }
     ensures { table.new ≡ overlay at (take n figures.now) table.old }
 {
-    let mut i: usize = 0;
-    while i < n {
+    for i in 0..n {
         let x = figures[i];
         store(table, at + i, x);
-        i += 1;
     }
 }

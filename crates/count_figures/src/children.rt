@@ -14,7 +14,6 @@ use count_step::cells::Task;
 use spacing::binomials::choose;
 use spacing::is_free;
 use spacing::walk::{rank_after, rank_without};
-use word::bytes::wide;
 use word::limits::COMPONENTS;
 
 // How many numbers a cell of the table is, and how many figures the cell of a child has.
@@ -42,14 +41,11 @@ fn add_part(figures: &mut [u64], table: &[u64], part: Part, shape: Shape, b: &[u
     ensures { Adds figures.old figures.new (spread_at part.moved
         (map (numbers_from shape table.now) (part_places part.at part.col part.first part.values))) }
 {
-    let end = part.first + part.values;
     let mut d = part.moved;
-    let mut z = part.first;
-    while z < end {
+    for z in part.first..part.first + part.values {
         let cell = part.at + choose(b, z, part.col);
         add_moved(figures, table, shape.numbers * cell, d, shape.figures);
         d += 1;
-        z += 1;
     }
 }
 
@@ -74,9 +70,8 @@ pub fn add_children(
     let mut below: usize = 0;
     let mut moved: usize = 0;
     let mut z: usize = 0;
-    let mut i: usize = 0;
-    while i < k {
-        let x = wide(g[i]);
+    for i in 0..k {
+        let x = usize::from(g[i]);
         let part = Part {
             at: links[i] + (below + above),
             col: i + 1,
@@ -90,9 +85,8 @@ pub fn add_children(
         below += choose(b, z, i + 1);
         above -= choose(b, z, i + 2);
         z += 1;
-        i += 1;
     }
-    let last = wide(g[k]);
+    let last = usize::from(g[k]);
     let end = Part {
         at: links[k] + below,
         col: k + 1,

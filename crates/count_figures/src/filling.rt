@@ -12,7 +12,6 @@ ghost use Rattle.count_figures.specs.Steps.{FigureTaskFits, figure_step};
 
 use crate::adding::put_figures;
 use crate::children::{FigureTask, add_figures};
-use count_step::filling::narrow;
 use spacing::first_spacing;
 use spacing::walk::next_cell;
 use word::limits::{COMPONENTS, FIGURES};
@@ -53,12 +52,10 @@ pub fn fill_figures(
 {
     let task = work.task;
     let k = task.length;
-    let mut next = first_spacing(k, narrow(task.total));
-    let mut p: usize = 0;
-    while p < size {
+    let mut next = first_spacing(k, task.total as u8);
+    for p in 0..size {
         let g = next;
         next_cell(&mut next, k);
         fill_one(table, at + p, work, gaps, g, b);
-        p += 1;
     }
 }

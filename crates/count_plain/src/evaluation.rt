@@ -5,7 +5,7 @@ ghost use Rattle.count_plain.specs.Reading.{CellAt, Evaluates, Sums};
 
 use crate::reading::is_free_at;
 use crate::spacings::{held, merged_spacing, split_spacing};
-use count_plan::reading::{field, gone_of, long};
+use count_plan::reading::{field, gone_of};
 use count_plan::sheet::FIELDS;
 use count_step::sums::capped_sum;
 use word::limits::COMPONENTS;
@@ -28,7 +28,7 @@ pub fn cell(sheet: &[u8], e: usize, g: [u8; COMPONENTS], t: usize) -> u64
         return cell(sheet, target, h, t);
     }
     if t == 0 {
-        return long(field(sheet, e, 2));
+        return field(sheet, e, 2) as u64;
     }
     next_sum(sheet, e, k, g, t)
 }
@@ -40,14 +40,12 @@ fn next_sum(sheet: &[u8], e: usize, k: usize, g: [u8; COMPONENTS], t: usize) -> 
     ensures { Sums sheet.now e g t result }
 {
     let mut sum: u64 = 0;
-    let mut q: usize = 1;
-    while q <= t {
+    for q in 1..t + 1 {
         let at = held(g, k, q);
         let h = split_spacing(g, k, at.index, at.left);
         let child = field(sheet, e, FIELDS + at.index);
         let x = cell(sheet, child, h, t - 1);
         sum = capped_sum(sum, x);
-        q += 1;
     }
     sum
 }

@@ -5,7 +5,6 @@ ghost use Rattle.cell.specs.Cell.{total, merge_values};
 ghost use Rattle.spacing.specs.Flagged.{flagged};
 ghost use Rattle.count_plain.specs.Pieces.{split_at, Begins, HeldAt};
 
-use word::bytes::wide;
 use word::limits::COMPONENTS;
 
 // The component that holds a value, and its number there, from 1.
@@ -21,9 +20,8 @@ pub fn held(g: [u8; COMPONENTS], k: usize, s: usize) -> Place
     ensures { HeldAt (take (k + 1) g) k s result.index result.left }
 {
     let mut left = s;
-    let mut i: usize = 0;
-    while i < k {
-        let x = wide(g[i]);
+    for i in 0..k {
+        let x = usize::from(g[i]);
         if left <= x {
             return Place {
                 index: i,
@@ -31,7 +29,6 @@ pub fn held(g: [u8; COMPONENTS], k: usize, s: usize) -> Place
             };
         }
         left -= x;
-        i += 1;
     }
     Place {
         index: k,
@@ -48,20 +45,12 @@ fn split_piece(g: [u8; COMPONENTS], i: usize, left: usize, j: usize) -> u8
         return g[j];
     }
     if j == i {
-        return narrow(left - 1);
+        return (left - 1) as u8;
     }
     if j == i + 1 {
-        return g[i] - narrow(left);
+        return g[i] - left as u8;
     }
     g[j - 1]
-}
-
-// The same number, of at most 255.
-fn narrow(x: usize) -> u8
-    requires { x ≤ 255 }
-    ensures { result ≡ x }
-{
-    x as u8
 }
 
 // The spacing of the child whose new value is the one with number `left` in component i.
@@ -70,11 +59,9 @@ pub fn split_spacing(g: [u8; COMPONENTS], k: usize, i: usize, left: usize) -> [u
     ensures { take (k + 2) result ≡ split_at (take (k + 1) g) i left }
 {
     let mut r = g;
-    let mut j: usize = 0;
-    while j <= k + 1 {
+    for j in 0..k + 2 {
         let x = split_piece(g, i, left, j);
         r[j] = x;
-        j += 1;
     }
     r
 }
@@ -96,12 +83,10 @@ pub fn merged_spacing(g: [u8; COMPONENTS], k: usize, gone: [u8; COMPONENTS]) -> 
     let mut r = [0u8; COMPONENTS];
     r[0] = g[0];
     let mut n: usize = 0;
-    let mut v: usize = 1;
-    while v <= k {
+    for v in 1..k + 1 {
         n = flagged_with(n, gone[v]);
         let at = v - n;
         r[at] = r[at] + g[v];
-        v += 1;
     }
     r
 }

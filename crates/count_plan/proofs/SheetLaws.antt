@@ -5,8 +5,7 @@ use native.Mathlib.Omega.{arith}
 use mathlib.Core.Path.{◌≡◌, refl, sym, ap, ◌∙◌, subst}
 use mathlib.Core.Logic.{◌⊎◌, inl, inr}
 use mathlib.Core.List.{List}
-use lib.ListN.{length, get_or, set, length-set}
-use lib.Seq.{get_or-set_same, get_or-set_other}
+use lib.ListN.{length, get_or}
 use Rattle.word.specs.Ceilings.{PARTS}
 use Rattle.word.specs.ListLaws.{below_or_not}
 use Rattle.forms.specs.SchemeMemory.{no_entry}
@@ -18,50 +17,6 @@ use Rattle.count_plan.specs.Cards.{EntryCard}
 use Rattle.count_plan.specs.SheetSizes.{HEAD, CARD}
 use Rattle.count_plan.specs.SheetForm.{Put, head_of, GapsIn, CardIn, CardFor, SheetTo}
 use Rattle.count_plan.specs.declared.cards.Card.{Card}
-
--- the first m bytes of a part are written
-pub record PutTo (at : ℕ) (part : List ℕ) (m : ℕ) (before after : List ℕ) : Type 0 where
-  pub size : length after ≡ length before
-  pub here : (f : ℕ) → f < m → get_or after (at + f) 0 ≡ get_or part f 0
-  pub other : (x : ℕ) → (x < at) ⊎ (at + m ≤ x) → get_or after x 0 ≡ get_or before x 0
-
-pub put_start : (at : ℕ) (part before : List ℕ) → PutTo at part 0 before before
-put_start at part before =
-    record { size = refl; here = λ (f : ℕ) (h : f < 0). absurd (omega arith); other = λ (x : ℕ) (h : (x < at) ⊎ (at + 0 ≤ x)). refl }
-
-pub put_more : (at : ℕ) (part : List ℕ) (m : ℕ) (before after : List ℕ) → at + m < length before → PutTo at part m before after →
-    PutTo at part (m + 1) before (set after (at + m) (get_or part m 0))
-put_more at part m before after h p =
-    record {
-      size = length-set after (at + m) (get_or part m 0) ∙ p.size;
-      here = λ (f : ℕ) (l : f < m + 1). go f l (below_or_not f m);
-      other = λ (x : ℕ) (o : (x < at) ⊎ (at + (m + 1) ≤ x)). far x o;
-    }
-  where
-    go : (f : ℕ) → f < m + 1 → (f < m) ⊎ (m ≤ f) → get_or (set after (at + m) (get_or part m 0)) (at + f) 0 ≡ get_or part f 0
-    go f l (inl a) = get_or-set_other after (at + m) (at + f) (get_or part m 0) 0 (λ (q : at + f ≡ at + m). omega arith) ∙ p.here f a
-    go f l (inr a) =
-        let q : f ≡ m = omega arith in
-        ap (λ n. get_or (set after (at + m) (get_or part m 0)) (at + n) 0) q ∙
-        get_or-set_same after (at + m) (get_or part m 0) 0 (omega (arith, p.size)) ∙
-        ap (λ n. get_or part n 0) (sym q)
-
-    far : (x : ℕ) → (x < at) ⊎ (at + (m + 1) ≤ x) → get_or (set after (at + m) (get_or part m 0)) x 0 ≡ get_or before x 0
-    far x (inl a) = get_or-set_other after (at + m) x (get_or part m 0) 0 (λ (q : x ≡ at + m). omega arith) ∙ p.other x (inl a)
-    far x (inr a) = get_or-set_other after (at + m) x (get_or part m 0) 0 (λ (q : x ≡ at + m). omega arith) ∙ p.other x (inr (omega arith))
-
-pub put_end : (at : ℕ) (part : List ℕ) (m : ℕ) (before after : List ℕ) → PutTo at part m before after → m ≡
-    length part → Put at part before after
-put_end at part m before after p e =
-    record {
-      size = p.size;
-      here = λ (f : ℕ) (h : f < length part). p.here f (omega arith);
-      other = λ (x : ℕ) (o : (x < at) ⊎ (at + length part ≤ x)). p.other x (far x o);
-    }
-  where
-    far : (x : ℕ) → (x < at) ⊎ (at + length part ≤ x) → (x < at) ⊎ (at + m ≤ x)
-    far x (inl a) = inl a
-    far x (inr a) = inr (omega arith)
 
 -- an entry: its first bytes, and then its gap vectors
 pub card_made : (e : Entry) (t : Card) (at : ℕ) (before now after head : List ℕ) → head ≡

@@ -8,7 +8,7 @@ use mathlib.Core.Path.{◌≡◌, refl, sym, ap, ap₂, ◌∙◌, subst}
 use mathlib.Core.Bool.{Bool, true, false, not, cond}
 use mathlib.Core.List.{List, [], ◌∷◌, map}
 use lib.ListN.{length, get_or, drop, length-drop}
-use lib.Seq.{take_all, length-take-le, get_or-take, get_or-drop, ext_get_or}
+use lib.Seq.{length-take-le, get_or-take, get_or-drop, ext_get_or}
 use lib.Dec.{eqb}
 use Rattle.word.specs.Ceilings.{ENTRIES, PREFIX, COMPONENTS, PARTS, LINKS}
 use Rattle.word.specs.Lists.{row}
@@ -19,7 +19,6 @@ use Rattle.spacing.specs.Sizes.{NEAR}
 use Rattle.spacing.specs.Flagged.{flagged}
 use Rattle.forms.specs.SchemeList.{Does, expands, deletes}
 use Rattle.forms.specs.SchemeMemory.{no_entry, scheme_in}
-use Rattle.forms.specs.MemoryLaws.{take_row}
 use Rattle.forms.specs.GapRows.{gaps_of}
 use Rattle.forms.specs.GapRowLaws.{gaps_stand}
 use Rattle.forms.specs.declared.memory.Scheme.{Scheme}
@@ -66,14 +65,6 @@ head_flag t n (suc (suc (suc (suc (suc (suc (suc v))))))) h = absurd (omega arit
 pub flags_long : (sheet : List ℕ) (e : ℕ) → e < ENTRIES → length sheet ≡ SHEET → length (flags_at sheet e) ≡ COMPONENTS
 flags_long sheet e h long =
     length-take-le COMPONENTS (drop (CARD * e + FLAGS) sheet) (omega (arith, length-drop (CARD * e + FLAGS) sheet))
-
--- one by one
-pub flags_listed : (sheet : List ℕ) (e : ℕ) → e < ENTRIES → length sheet ≡ SHEET →
-    get_or (flags_at sheet e) 0 0 ∷ get_or (flags_at sheet e) 1 0 ∷ get_or (flags_at sheet e) 2 0 ∷ get_or (flags_at sheet e) 3 0 ∷
-    get_or (flags_at sheet e) 4 0 ∷ get_or (flags_at sheet e) 5 0 ∷ get_or (flags_at sheet e) 6 0 ∷ [] ≡ flags_at sheet e
-flags_listed sheet e h long =
-    let size = flags_long sheet e h long in
-    sym (take_row (flags_at sheet e) 0 COMPONENTS (omega arith)) ∙ take_all COMPONENTS (flags_at sheet e) (omega arith)
 
 -- the part of the sheet that holds the gap vectors of an entry
 pub parts_long : (sheet : List ℕ) (e : ℕ) → e < ENTRIES → length sheet ≡ SHEET → length (parts_at sheet e) ≡ PARTS

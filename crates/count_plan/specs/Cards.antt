@@ -1,6 +1,6 @@
 -- What is looked up for an entry: the indices of the entries of its children, or of its target.
 -- Definitions only.
-use Rattle.std.specs.Prelude.{ℕ, suc, ◌<◌, ◌≡◌, cond, List, map, length, get_or}
+use Rattle.std.specs.Prelude.{ℕ, suc, ◌<◌, ◌≡◌, cond, List, map, length, get_or, Option, Some, None}
 use Rattle.word.specs.Ceilings.{PREFIX, LINKS}
 use Rattle.word.specs.Word.{avoids, has, entry}
 use Rattle.cell.specs.Cell.{deleted}
@@ -12,8 +12,6 @@ use Rattle.forms.specs.declared.memory.Entry.{Entry}
 use Rattle.forms.specs.Codes.{Codes}
 use Rattle.forms.specs.declared.memory.Scheme.{Scheme}
 use Rattle.scheme.specs.Links.{find_in, found_of, prefixes_in}
-use Rattle.scheme.specs.declared.links.Found.{Found}
-use Rattle.scheme.specs.declared.links.Found.TheVariants.{At, Nothing}
 use Rattle.count_plan.specs.declared.cards.Card.{Card}
 
 -- a claim on the prefixes whose codes are given
@@ -21,9 +19,9 @@ abbrev pub Coded : List ℕ → (List (List ℕ) → Type 0) → Type 0
 Coded codes claim = (ps : List (List ℕ)) → Codes ps codes → claim ps
 
 -- the index of an entry that was found
-abbrev pub index_found : Found → ℕ
-index_found (At i) = i
-index_found Nothing = 0
+abbrev pub index_found : Option ℕ → ℕ
+index_found (Some i) = i
+index_found None = 0
 
 -- the index of the prefix q among the prefixes ps
 abbrev pub index_in : List (List ℕ) → List ℕ → ℕ

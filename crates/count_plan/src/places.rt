@@ -19,15 +19,12 @@ pub fn places_of(s: Scheme, n: usize, b: &[usize]) -> [usize; PLACES]
     requires { Proper (scheme_in s) × (n ≤ LENGTH) × Pascal b.now }
     ensures { Places n s result }
 {
-    let count = s.count;
     let mut places = [0usize; PLACES];
     let mut at: usize = 0;
-    let mut i: usize = 0;
-    while i < count {
+    for i in 0..s.count {
         let e = s.entries[i];
         at += choose(b, n, e.length);
-        i += 1;
-        places[i] = at;
+        places[i + 1] = at;
     }
     places
 }
@@ -36,8 +33,5 @@ pub fn places_of(s: Scheme, n: usize, b: &[usize]) -> [usize; PLACES]
 pub fn place_at(places: &[usize], i: usize) -> usize
     ensures { result ≡ get_or places.now i 0 }
 {
-    if places.len() <= i {
-        return 0;
-    }
-    places[i]
+    places.get(i).copied().unwrap_or(0)
 }

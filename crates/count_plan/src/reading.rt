@@ -5,7 +5,6 @@ ghost use Rattle.count_plan.specs.SheetSizes.{CARD, SHEET};
 ghost use Rattle.count_plan.specs.SheetRows.{field_of, flags_at, parts_at};
 
 use crate::sheet::{CARD, FLAGS, HEAD};
-use word::bytes::wide;
 use word::limits::{COMPONENTS, PARTS};
 
 // Byte f of the entry with index e.
@@ -13,7 +12,7 @@ pub fn field(sheet: &[u8], e: usize, f: usize) -> usize
     requires { (e < ENTRIES) × (f < CARD) × (length sheet.now ≡ SHEET) }
     ensures { result ≡ field_of sheet.now e f }
 {
-    wide(sheet[CARD * e + f])
+    usize::from(sheet[CARD * e + f])
 }
 
 // The flags of the values that the entry with index e deletes.
@@ -22,8 +21,9 @@ pub fn gone_of(sheet: &[u8], e: usize) -> [u8; COMPONENTS]
     ensures { result ≡ flags_at sheet.now e }
 {
     let at = CARD * e + FLAGS;
-    let l = &sheet[at..at + COMPONENTS];
-    [l[0], l[1], l[2], l[3], l[4], l[5], l[6]]
+    let mut gone = [0u8; COMPONENTS];
+    gone.copy_from_slice(&sheet[at..at + COMPONENTS]);
+    gone
 }
 
 // The components of the gap vectors of the entry with index e.

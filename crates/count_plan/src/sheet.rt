@@ -6,12 +6,12 @@ ghost use Rattle.count_plan.specs.SheetForm.{Put, head_of, GapsIn, CardIn, Sheet
 ghost use Rattle.count_plan.specs.SheetRows.{Names};
 ghost use Rattle.forms.specs.SchemeMemory.{scheme_in};
 ghost use Rattle.scheme.specs.Proper.{Proper};
-ghost use Rattle.word.specs.Patterns.{patterns_of};
+ghost use Rattle.forms.specs.SetMemory.{held_in};
 
 use crate::cards::{Card, entry_card, index_in};
-use forms::memory::{Entry, Scheme};
+use forms::memory::{Entry, Pattern, Scheme};
 use scheme::links::codes_of;
-use word::limits::{DIGITS, ENTRIES, LINKS, PARTS, PATTERNS, PREFIX};
+use word::limits::{ENTRIES, LINKS, PARTS};
 
 // Bytes before the flags of the values: four numbers of an entry.
 pub const FLAGS: usize = 4;
@@ -29,22 +29,11 @@ fn put(sheet: &mut [u8], at: usize, part: &[u8])
     requires { (at + length part.now ≤ length sheet.old) × (length sheet.old ≤ SHEET) }
     ensures { Put at part.now sheet.old sheet.new }
 {
-    let mut f: usize = 0;
-    while f < part.len() {
-        sheet[at + f] = part[f];
-        f += 1;
-    }
+    sheet[at..at + part.len()].copy_from_slice(part);
 }
 
 // The last byte of a number.
 fn low(x: usize) -> u8
-    ensures { result ≡ x % 256 }
-{
-    (x % 256) as u8
-}
-
-// The last byte of a number of the table's size.
-fn low_long(x: u64) -> u8
     ensures { result ≡ x % 256 }
 {
     (x % 256) as u8
@@ -59,7 +48,7 @@ fn head_of(card: Card, n: usize) -> [u8; HEAD]
     [
         low(card.length),
         low(card.deleted),
-        low_long(card.alone),
+        low(card.alone as usize),
         low(n),
         g[0],
         g[1],
@@ -104,25 +93,17 @@ fn put_card(sheet: &mut [u8], at: usize, e: Entry, card: Card)
 }
 
 // Writes the sheet of a scheme; answers the index of the entry for ε.
-pub fn fill_sheet(
-    sheet: &mut [u8],
-    set: [[u8; DIGITS]; PATTERNS],
-    lengths: [u8; PATTERNS],
-    count: usize,
-    s: Scheme,
-) -> usize
+pub fn fill_sheet(sheet: &mut [u8], patterns: &[Pattern], s: Scheme) -> usize
     requires { Proper (scheme_in s) × (length sheet.old ≡ SHEET) }
-    ensures sheet { SheetTo (patterns_of set lengths count) s s.count sheet.new }
+    ensures sheet { SheetTo (held_in patterns.now) s s.count sheet.new }
     ensures root { Names s [] result }
 {
     let codes = codes_of(s);
-    let entries = s.count;
-    let mut i: usize = 0;
-    while i < entries {
+    let codes = &codes[..s.count];
+    for i in 0..s.count {
         let e = s.entries[i];
-        let card = entry_card(set, lengths, count, &codes[..entries], e);
+        let card = entry_card(patterns, codes, e);
         put_card(sheet, CARD * i, e, card);
-        i += 1;
     }
-    index_in(&codes[..entries], [0u8; PREFIX], 0)
+    index_in(codes, &[])
 }

@@ -4,7 +4,7 @@ ghost use Rattle.spacing.specs.Pascal.{Pascal};
 ghost use Rattle.count_rows.specs.Rows.{RootGiven};
 ghost use Rattle.count_rows.specs.Run.{cleared, LastValue, Values};
 
-use crate::rows::{fill_row, fill_rows};
+use crate::rows::{CountPass, fill_row, fill_rows};
 use crate::values::{root_cell, value_in};
 use count_entry::frame::{Frame, need};
 use word::limits::COUNTS;
@@ -14,11 +14,7 @@ pub fn clear(table: &mut [u64], m: usize)
     requires { m ≤ length table.old }
     ensures { table.new ≡ cleared m table.old }
 {
-    let mut i: usize = 0;
-    while i < m {
-        table[i] = 0;
-        i += 1;
-    }
+    table[..m].fill(0);
 }
 
 // The value at ε in the last row. The needed cells of the table hold 0 afterwards, the others what
@@ -36,7 +32,7 @@ pub fn last_value(
     ensures table { table.new ≡ cleared (f.rows * f.width) table.old }
 {
     let last = f.last;
-    fill_rows(table, sheet, places, f, last, b);
+    fill_rows::<CountPass>(table, sheet, places, f, last, b);
     let cell = root_cell(root, last);
     let x = value_in(table, sheet, places, f, cell, b);
     clear(table, need(f));
@@ -58,13 +54,11 @@ pub fn all_values(
 {
     let last = f.last;
     let mut counts = [0u64; COUNTS];
-    let mut j: usize = 0;
-    while j <= last {
-        fill_row(table, sheet, places, f, j, b);
+    for j in 0..last + 1 {
+        fill_row::<CountPass>(table, sheet, places, f, j, b);
         let cell = root_cell(root, j);
         let x = value_in(table, sheet, places, f, cell, b);
         counts[j] = x;
-        j += 1;
     }
     clear(table, need(f));
     counts

@@ -11,7 +11,6 @@ use crate::sums::capped_sum;
 use spacing::binomials::choose;
 use spacing::is_free;
 use spacing::walk::{rank_after, rank_without};
-use word::bytes::wide;
 use word::limits::{COMPONENTS, LINKS};
 
 // What the cells of one entry at one length share: the entry's length and the total of its
@@ -33,20 +32,16 @@ pub struct Task {
 pub fn read(table: &[u64], i: usize) -> u64
     ensures { result ≡ get_or table.now i 0 }
 {
-    if table.len() <= i {
-        return 0;
-    }
-    table[i]
+    table.get(i).copied().unwrap_or(0)
 }
 
 // Stores x at index i; nothing behind the end.
 pub fn store(table: &mut [u64], i: usize, x: u64)
     ensures { table.new ≡ set table.old i x }
 {
-    if table.len() <= i {
-        return;
+    if i < table.len() {
+        table[i] = x;
     }
-    table[i] = x;
 }
 
 // The sum of the cells at `at` + C(z, col) for the n values z from `first` on.
@@ -54,13 +49,10 @@ fn part_sum(table: &[u64], at: usize, col: usize, first: usize, n: usize, b: &[u
     requires { (at ≤ REACH) × (col < COLUMNS) × (first + n ≤ COUNTS) × Pascal b.now }
     ensures { result ≡ capped (sum_of table.now (part_places at col first n)) }
 {
-    let end = first + n;
     let mut sum: u64 = 0;
-    let mut z = first;
-    while z < end {
+    for z in first..first + n {
         let x = read(table, at + choose(b, z, col));
         sum = capped_sum(sum, x);
-        z += 1;
     }
     sum
 }
@@ -82,18 +74,16 @@ fn child_sum(
     let mut below: usize = 0;
     let mut z: usize = 0;
     let mut sum: u64 = 0;
-    let mut i: usize = 0;
-    while i < k {
-        let x = wide(g[i]);
+    for i in 0..k {
+        let x = usize::from(g[i]);
         let part = part_sum(table, links[i] + (below + above), i + 1, z, x, b);
         sum = capped_sum(sum, part);
         z += x;
         below += choose(b, z, i + 1);
         above -= choose(b, z, i + 2);
         z += 1;
-        i += 1;
     }
-    let last = wide(g[k]);
+    let last = usize::from(g[k]);
     let end = part_sum(table, links[k] + below, k + 1, z, last, b);
     capped_sum(sum, end)
 }

@@ -1,6 +1,5 @@
 // Filling the cells of one entry at one length, in the order of their ranks.
 ghost use Rattle.std.specs.Prelude.{◌≡◌, ◌+◌, ◌≤◌, set};
-ghost use Rattle.word.specs.Ceilings.{LENGTH};
 ghost use Rattle.cell.specs.Cell.{total};
 ghost use Rattle.cell.specs.Binomial.{binomial};
 ghost use Rattle.spacing.specs.Sizes.{FAR};
@@ -41,20 +40,10 @@ pub fn fill_cells(table: &mut [u64], at: usize, size: usize, task: Task, gaps: &
         (spacings_from size (first_vector task.length task.total)) table.old }
 {
     let k = task.length;
-    let mut next = first_spacing(k, narrow(task.total));
-    let mut p: usize = 0;
-    while p < size {
+    let mut next = first_spacing(k, task.total as u8);
+    for p in 0..size {
         let g = next;
         next_cell(&mut next, k);
         fill_one(table, at + p, task, gaps, g, b);
-        p += 1;
     }
-}
-
-// The same number, of at most LENGTH.
-pub fn narrow(x: usize) -> u8
-    requires { x ≤ LENGTH }
-    ensures { result ≡ x }
-{
-    x as u8
 }

@@ -8,8 +8,5 @@ ghost use Rattle.count_step.specs.Step.{capped};
 pub fn capped_sum(x: u64, y: u64) -> u64
     ensures { result ≡ capped (x + y) }
 {
-    if x <= u64::MAX - y {
-        return x + y;
-    }
-    u64::MAX
+    x.saturating_add(y)
 }

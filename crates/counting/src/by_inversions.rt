@@ -9,10 +9,8 @@ ghost use Rattle.count_figure_answer.specs.FigureCounting.{figure_need, CountsBy
 ghost use Rattle.count_figure_answer.specs.FigureMeasuring.{FiguresGiven};
 
 use crate::values::write_plan;
-use count_answer::answer::fault_of;
 use count_answer::measure::Measure;
 use count_entry::frame::need;
-use count_figure_answer::answer::{Figured, figures_or};
 use count_figure_answer::measure::measured;
 use count_figure_rows::root::write_root;
 use count_figure_rows::rows::fill_rows;
@@ -20,9 +18,9 @@ use count_figures::sizes::figure_count;
 use count_plan::sheet::SHEET;
 use count_rows::run::clear;
 use forms::memory::{Patterns, Scheme};
-use forms::order::is_fault;
 use judge::judging::judge_without_page;
 use spacing::binomials::binomials;
+use word::refusal::Refused;
 
 // How many permutations of 1 to n avoid the patterns and have 0, 1, .., n(n - 1)/2 inversions, over
 // the front of the results, by a scheme that is judged first. Nothing is asked of the caller.
@@ -32,23 +30,15 @@ pub fn count_by_inversions(
     n: usize,
     table: &mut [u64],
     results: &mut [u64],
-) -> Figured
+) -> Result<usize, Refused>
     ensures { CountsByInversions (patterns_in patterns) (scheme_in scheme) n table.old table.new
         results.old results.new result }
 {
-    let verdict = judge_without_page(patterns, scheme);
-    let judged = fault_of(verdict);
-    if is_fault(judged) {
-        return figures_or(judged, 0);
-    }
+    judge_without_page(patterns, scheme)?;
     let b = binomials();
-    let m = measured(scheme, n, table.len(), results.len(), &b);
-    let fault = m.fault;
-    if is_fault(fault) {
-        return figures_or(fault, 0);
-    }
+    let m = measured(scheme, n, table.len(), results.len(), &b)?;
     write_figures(patterns, scheme, m, &b, table, results);
-    figures_or(fault, figure_count(n))
+    Ok(figure_count(n))
 }
 
 // The figures of an accepted scheme for the last length, in a table that is measured.

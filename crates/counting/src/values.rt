@@ -15,7 +15,6 @@ use count_answer::measure::Measure;
 use count_plan::sheet::{SHEET, fill_sheet};
 use count_rows::run::{all_values, last_value};
 use forms::memory::{Patterns, Scheme};
-use forms::sets::{lengths_of, rows_of};
 use word::limits::COUNTS;
 
 // Writes the sheet of the scheme for the patterns; the index of the entry for ε.
@@ -24,10 +23,7 @@ pub fn write_plan(sheet: &mut [u8], patterns: Patterns, scheme: Scheme) -> usize
     ensures sheet { SheetTo (patterns_in patterns) scheme scheme.count sheet.new }
     ensures root { Names scheme [] result }
 {
-    let rows = rows_of(patterns);
-    let lengths = lengths_of(patterns);
-    let size = patterns.count;
-    fill_sheet(sheet, rows, lengths, size, scheme)
+    fill_sheet(sheet, patterns.as_slice(), scheme)
 }
 
 // The count for the last length.

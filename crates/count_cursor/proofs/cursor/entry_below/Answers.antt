@@ -7,7 +7,7 @@ use Rattle.count_cursor.proofs.FindLaws.{NoneBetween, between_start, between_mor
 use Rattle.count_cursor.proofs.cursor.entry_below.Goals as goal
 
 pub loop-l-init : goal.loop-l-init
-loop-l-init c = (omega arith, λ o. between_start o.of.s c.args.k)
+loop-l-init c = λ o. between_start o.of.s c.args.k
 
 pub returns-then-e-entries : goal.returns-then-e-entries
 returns-then-e-entries c =
@@ -16,18 +16,16 @@ returns-then-e-entries c =
     λ o.
     let up : l.l ≡ l.l - 1 + 1 = omega arith in
     below_here o.of.s a.k (l.l - 1) c.entry_from-e.result (c.entry_from-e.ensures o) (omega (arith, o.counted))
-    (omega arith) (subst (λ m. NoneBetween o.of.s m a.k) up (l.invariant.1 o))
+    (omega arith) (subst (λ m. NoneBetween o.of.s m a.k) up (l.invariant o))
 
 pub loop-l-preserved : goal.loop-l-preserved
 loop-l-preserved c =
     let a = c.args in
-    let l = c.loop-l in (
-      omega arith,
-      λ o.
-          let up : l.l ≡ l.l - 1 + 1 = omega arith in
-          between_more o.of.s a.k (l.l - 1) c.entry_from-e.result (c.entry_from-e.ensures o)
-          (omega (arith, o.counted)) (subst (λ m. NoneBetween o.of.s m a.k) up (l.invariant.1 o)),
-    )
+    let l = c.loop-l in
+    λ o.
+    let up : l.l ≡ l.l - 1 + 1 = omega arith in
+    between_more o.of.s a.k (l.l - 1) c.entry_from-e.result (c.entry_from-e.ensures o)
+    (omega (arith, o.counted)) (subst (λ m. NoneBetween o.of.s m a.k) up (l.invariant o))
 
 pub returns : goal.returns
 returns c =
@@ -35,4 +33,4 @@ returns c =
     let l = c.loop-l in
     λ o.
     let z : l.l ≡ 0 = omega arith in
-    rw o.counted (below_end o.of.s a.k (subst (λ m. NoneBetween o.of.s m a.k) z (l.invariant.1 o)))
+    rw o.counted (below_end o.of.s a.k (subst (λ m. NoneBetween o.of.s m a.k) z (l.invariant o)))

@@ -10,7 +10,7 @@ use Rattle.count_cursor.proofs.cursor.entry_from.Goals as goal
 pub loop-e-init : goal.loop-e-init
 loop-e-init c =
     let a = c.args in
-    (omega arith, c.requires.1, λ o. none_start o.of.s a.k a.from)
+    λ o. none_start o.of.s a.k a.from
 
 pub field-requires : goal.field-requires
 field-requires c =
@@ -23,23 +23,20 @@ returns-then-field-k c =
     λ o.
     let inside : l.e < o.of.s.count = omega (arith, o.counted) in
     record {
-      low = l.invariant.0;
+      low = omega arith;
       high = omega arith;
-      none = l.invariant.2 o;
+      none = l.invariant o;
       here = λ h. sym (o.of.rows l.e inside).size ∙ sym c.field.ensures ∙ c.if-field-k.true;
     }
 
 pub loop-e-preserved : goal.loop-e-preserved
 loop-e-preserved c =
     let a = c.args in
-    let l = c.loop-e in (
-      omega arith,
-      omega arith,
-      λ o.
-          let inside : l.e < o.of.s.count = omega (arith, o.counted) in
-          none_more o.of.s a.k a.from l.e
-          (λ q. c.if-field-k.false (c.field.ensures ∙ (o.of.rows l.e inside).size ∙ q)) (l.invariant.2 o),
-    )
+    let l = c.loop-e in
+    λ o.
+    let inside : l.e < o.of.s.count = omega (arith, o.counted) in
+    none_more o.of.s a.k a.from l.e
+    (λ q. c.if-field-k.false (c.field.ensures ∙ (o.of.rows l.e inside).size ∙ q)) (l.invariant o)
 
 pub returns : goal.returns
 returns c =
@@ -48,6 +45,6 @@ returns c =
     record {
       low = omega arith;
       high = omega (arith, o.counted);
-      none = λ d low high. l.invariant.2 o d low (omega arith);
+      none = λ d low high. l.invariant o d low (omega arith);
       here = λ h. absurd (omega (arith, o.counted));
     }

@@ -1,11 +1,7 @@
--- The invariant and the measure of the loop of `count_cursor::cursor::entry_from`.
-use Prim.Native.Nat.{◌-◌, ◌≤◌}
+-- The invariant of the loop of `count_cursor::cursor::entry_from`.
 use Rattle.count_cursor.specs.Cursor.{Listed}
 use Rattle.count_cursor.proofs.FindLaws.{NoneFrom}
 use Rattle.count_cursor.proofs.cursor.entry_from.Given as goal
 
 abbrev pub invariant-loop-e : goal.invariant-loop-e
-invariant-loop-e l = (l.from ≤ l.e) × (l.e ≤ l.entries) × ((o : Listed l.sheet l.entries) → NoneFrom o.of.s l.k l.from l.e)
-
-abbrev pub decreases-loop-e : goal.decreases-loop-e
-decreases-loop-e l = l.entries - l.e
+invariant-loop-e l = (o : Listed l.sheet l.entries) → NoneFrom o.of.s l.k l.from l.e

@@ -12,7 +12,7 @@ use Rattle.count_entry.proofs.FrameLaws.{links_counted}
 use Rattle.count_entry.proofs.entry.links_from.Goals as goal
 
 pub loop-a-init : goal.loop-a-init
-loop-a-init c = (omega arith, refl, λ (d : ℕ) (h : d < 0). absurd (omega arith))
+loop-a-init c = (refl, λ (d : ℕ) (h : d < 0). absurd (omega arith))
 
 pub overflow_add-from : goal.overflow_add-from
 overflow_add-from c =
@@ -31,16 +31,15 @@ loop-a-preserved c =
     let a = c.args in
     let l = c.loop-a in
     let e = c.place_at-place.ensures ∙ ap (λ n. get_or a.places.now n 0) c.field.ensures in (
-      omega arith,
-      length-set l.from l.a (a.offset + c.place_at-place.result) ∙ l.invariant.1,
+      length-set l.from l.a (a.offset + c.place_at-place.result) ∙ l.invariant.0,
       rows_more (λ (j x : ℕ). x ≡ a.offset + link_at a.sheet.now a.places.now a.e j) l.from 0 l.a
           (a.offset + c.place_at-place.result)
-          (omega (arith, l.invariant.1)) (ap (λ n. a.offset + n) e) l.invariant.2,
+          (omega (arith, l.invariant.0)) (ap (λ n. a.offset + n) e) l.invariant.1,
     )
 
 pub returns : goal.returns
 returns c =
     let a = c.args in
     let l = c.loop-a in
-    links_counted a.sheet.now a.places.now a.e a.offset l.from l.invariant.1
-    (λ (d : ℕ) (h : d < LINKS). l.invariant.2 d (omega arith))
+    links_counted a.sheet.now a.places.now a.e a.offset l.from l.invariant.0
+    (λ (d : ℕ) (h : d < LINKS). l.invariant.1 d (omega arith))

@@ -1,5 +1,5 @@
--- The invariant and the measure of the loop of `count_entry::entry::links_from`.
-use Prim.Native.Nat.{ℕ, ◌+◌, ◌-◌, ◌≤◌, ◌<◌}
+-- The invariant of the loop of `count_entry::entry::links_from`.
+use Prim.Native.Nat.{ℕ, ◌+◌, ◌<◌}
 use mathlib.Core.Path.{◌≡◌}
 use lib.ListN.{length, get_or}
 use Rattle.word.specs.Ceilings.{LINKS}
@@ -8,8 +8,5 @@ use Rattle.count_entry.proofs.entry.links_from.Given as goal
 
 abbrev pub invariant-loop-a : goal.invariant-loop-a
 invariant-loop-a l =
-    (l.a ≤ LINKS) × (length l.from ≡ LINKS) ×
+    (length l.from ≡ LINKS) ×
     ((d : ℕ) → d < l.a → get_or l.from d 0 ≡ l.offset + link_at l.sheet l.places l.e d)
-
-abbrev pub decreases-loop-a : goal.decreases-loop-a
-decreases-loop-a l = LINKS - l.a

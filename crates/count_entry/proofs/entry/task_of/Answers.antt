@@ -1,10 +1,9 @@
 -- `count_entry::entry::task_of` meets its contract.
 -- Assumes nothing.
 use native.Mathlib.Omega.{arith}
-use Prim.Native.Nat.{ℕ, ◌+◌, ◌-◌, ◌*◌, ◌%◌, ◌<◌}
+use Prim.Native.Nat.{ℕ, ◌+◌, ◌-◌, ◌*◌, ◌%◌}
 use mathlib.Core.Path.{◌≡◌, refl, ap, ◌∙◌}
 use mathlib.Core.List.{List, map}
-use Rattle.word.specs.Ceilings.{ENTRIES}
 use Rattle.count_step.specs.declared.cells.Task.{Task}
 use Rattle.count_plan.specs.Plan.{Item}
 use Rattle.count_plan.specs.SheetRows.{field_of, flags_at, links_at, item_of}
@@ -21,33 +20,23 @@ task-made f t flags n j k d gone a m links p q g r s u = rw (p, q, g, r, s, u) r
 
 pub field-k-requires : goal.field-k-requires
 field-k-requires c =
-    let index-fits : c.args.c.entry < ENTRIES =
-    let a = c.args in index_small a.sheet.now a.places.now a.f a.c c.requires in
-    (index-fits, omega arith, c.requires.framed.of.long)
+    (index_small _ _ _ _ c.requires, omega arith, c.requires.framed.of.long)
 
 pub field-deleted-requires : goal.field-deleted-requires
 field-deleted-requires c =
-    let index-fits : c.args.c.entry < ENTRIES =
-    let a = c.args in index_small a.sheet.now a.places.now a.f a.c c.requires in
-    (index-fits, omega arith, c.requires.framed.of.long)
+    (index_small _ _ _ _ c.requires, omega arith, c.requires.framed.of.long)
 
 pub gone_of-gone-requires : goal.gone_of-gone-requires
 gone_of-gone-requires c =
-    let index-fits : c.args.c.entry < ENTRIES =
-    let a = c.args in index_small a.sheet.now a.places.now a.f a.c c.requires in
-    (index-fits, c.requires.framed.of.long)
+    (index_small _ _ _ _ c.requires, c.requires.framed.of.long)
 
-pub field-requires : goal.field-requires
-field-requires c =
-    let index-fits : c.args.c.entry < ENTRIES =
-    let a = c.args in index_small a.sheet.now a.places.now a.f a.c c.requires in
-    (index-fits, omega arith, c.requires.framed.of.long)
+pub field-alone-requires : goal.field-alone-requires
+field-alone-requires c =
+    (index_small _ _ _ _ c.requires, omega arith, c.requires.framed.of.long)
 
 pub field-count-requires : goal.field-count-requires
 field-count-requires c =
-    let index-fits : c.args.c.entry < ENTRIES =
-    let a = c.args in index_small a.sheet.now a.places.now a.f a.c c.requires in
-    (index-fits, omega arith, c.requires.framed.of.long)
+    (index_small _ _ _ _ c.requires, omega arith, c.requires.framed.of.long)
 
 pub block_of-offset-requires : goal.block_of-offset-requires
 block_of-offset-requires c =
@@ -59,11 +48,9 @@ block_of-offset-requires c =
 
 pub links_from-links-requires : goal.links_from-links-requires
 links_from-links-requires c =
-    let index-fits : c.args.c.entry < ENTRIES =
-    let a = c.args in index_small a.sheet.now a.places.now a.f a.c c.requires in
     let a = c.args in
     let q = c.requires in
-    (index-fits, q.framed.of.long, c.block_of-offset.ensures.1, links_near a.sheet.now a.places.now a.f a.c q)
+    (index_small _ _ _ _ q, q.framed.of.long, c.block_of-offset.ensures.1, links_near _ _ _ _ q)
 
 pub overflow_sub-result : goal.overflow_sub-result
 overflow_sub-result c =
@@ -78,7 +65,7 @@ returns c =
     let offset : c.block_of-offset.result ≡ offset_of a.f (item_of a.sheet.now a.places.now a.c.entry) a.c.row =
     c.block_of-offset.ensures.0 ∙ ap (λ m. (a.c.row - m) % a.f.rows * a.f.width) c.field-deleted.ensures in
     task-made a.f (item_of sheet places a.c.entry) (flags_at sheet a.c.entry) (field_of sheet a.c.entry 3) a.c.row
-    c.field-k.result c.field-deleted.result c.gone_of-gone.result c.long-alone.result
+    c.field-k.result c.field-deleted.result c.gone_of-gone.result c.field-alone.result
     c.field-count.result c.links_from-links.result c.field-k.ensures c.field-deleted.ensures
-    c.gone_of-gone.ensures (c.long-alone.ensures ∙ c.field.ensures) c.field-count.ensures
+    c.gone_of-gone.ensures c.field-alone.ensures c.field-count.ensures
     (c.links_from-links.ensures ∙ ap (λ o. map (λ x. o + x) (links_at sheet places a.c.entry)) offset)

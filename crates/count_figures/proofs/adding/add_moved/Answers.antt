@@ -12,15 +12,14 @@ use Rattle.count_figures.proofs.adding.add_moved.Goals as goal
 pub loop-i-init : goal.loop-i-init
 loop-i-init c =
     let a = c.args in
-    (refl, omega arith, adds_none a.figures.now a.d a.from a.table.now)
+    (refl, adds_none a.figures.now a.d a.from a.table.now)
 
 pub loop-i-preserved : goal.loop-i-preserved
 loop-i-preserved c =
     let a = c.args in
     let l = c.loop-i in (
       length-set l.figures (a.d + l.i) c.capped_sum-x.result ∙ l.invariant.0,
-      omega arith,
-      adds_more a.figures.now l.figures a.table.now a.from a.d l.i c.capped_sum-x.result l.invariant.2
+      adds_more a.figures.now l.figures a.table.now a.from a.d l.i c.capped_sum-x.result l.invariant.1
           (omega (arith, c.in_reach-count.ensures, c.requires, l.invariant.0)) c.capped_sum-x.ensures,
     )
 
@@ -36,4 +35,4 @@ returns c =
     (moved_at a.d (take a.n (drop a.from a.table.now)))
     (λ q. ap (λ (x : List ℕ). moved_at a.d x q)
     (ap (λ m. take m (drop a.from a.table.now)) (e ∙ c.in_reach-count.ensures) ∙ take_within a.n a.from a.table.now))
-    l.invariant.2
+    l.invariant.1

@@ -1,5 +1,4 @@
--- The invariant and the measure of the loop of `count_figures::adding::add_moved`.
-use Prim.Native.Nat.{◌-◌, ◌≤◌}
+-- The invariant of the loop of `count_figures::adding::add_moved`.
 use mathlib.Core.Path.{◌≡◌}
 use lib.ListN.{length, take, drop}
 use Rattle.count_figures.specs.Figures.{moved_at}
@@ -8,8 +7,5 @@ use Rattle.count_figures.proofs.adding.add_moved.Given as goal
 
 abbrev pub invariant-loop-i : goal.invariant-loop-i
 invariant-loop-i l =
-    (length l.figures ≡ length l.initial.figures) × (l.i ≤ l.count) ×
+    (length l.figures ≡ length l.initial.figures) ×
     Adds l.initial.figures l.figures (moved_at l.d (take l.i (drop l.from l.table)))
-
-abbrev pub decreases-loop-i : goal.decreases-loop-i
-decreases-loop-i l = l.count - l.i

@@ -12,7 +12,7 @@ use Rattle.count_figures.proofs.adding.put_figures.Goals as goal
 pub loop-i-init : goal.loop-i-init
 loop-i-init c =
     let a = c.args in
-    (refl, omega arith, put_none a.at a.figures.now a.table.now)
+    (refl, put_none a.at a.figures.now a.table.now)
 
 pub offset_bounds-figures-i : goal.offset_bounds-figures-i
 offset_bounds-figures-i c = omega (arith, c.requires)
@@ -29,9 +29,8 @@ loop-i-preserved c =
     let l = c.loop-i in
     let len : length c.store.new.table ≡ length l.table = search rules in (
       len ∙ l.invariant.0,
-      omega arith,
       c.store.ensures ∙
-          put_more a.at l.i _ a.figures.now a.table.now l.table (omega (arith, c.requires)) refl l.invariant.2,
+          put_more a.at l.i _ a.figures.now a.table.now l.table (omega (arith, c.requires)) refl l.invariant.1,
     )
 
 pub shape_of-table : goal.shape_of-table
@@ -42,4 +41,4 @@ returns c =
     let a = c.args in
     let l = c.loop-i in
     let e : l.i ≡ a.n = omega arith in
-    l.invariant.2 ∙ ap (λ (m : ℕ). overlay a.at (take m a.figures.now) a.table.now) e
+    l.invariant.1 ∙ ap (λ (m : ℕ). overlay a.at (take m a.figures.now) a.table.now) e

@@ -128,8 +128,8 @@ add_part-requires c =
     let l = c.loop-i in
     let seven : length a.g ≡ COMPONENTS = (let o = c.well_formed in search rules) in
     let size = spacing_size a.task.length a.g seven p.0.fits.short in
-    let e = component a.task.length l.i c.wide-x.result a.g c.wide-x.ensures.0 l.invariant.coming.reach in (
-      part_fits size l.invariant c.wide-x.result _ _ e
+    let e = component a.task.length l.i c.from-x.result a.g c.from-x.ensures l.invariant.coming.reach in (
+      part_fits size l.invariant c.from-x.result _ _ e
           (omega (
             arith,
             p.0.fits.short,
@@ -148,8 +148,8 @@ overflow_add-moved c =
     let l = c.loop-i in
     let seven : length a.g ≡ COMPONENTS = (let o = c.well_formed in search rules) in
     let size = spacing_size a.task.length a.g seven c.requires.0.fits.short in
-    let e = component a.task.length l.i c.wide-x.result a.g c.wide-x.ensures.0 l.invariant.coming.reach in
-    omega (arith, moved_low size l.invariant c.wide-x.result e, c.requires.0.whole, c.requires.0.fits.sum)
+    let e = component a.task.length l.i c.from-x.result a.g c.from-x.ensures l.invariant.coming.reach in
+    omega (arith, moved_low size l.invariant c.from-x.result e, c.requires.0.whole, c.requires.0.fits.sum)
 
 pub overflow_add-z : goal.overflow_add-z
 overflow_add-z c =
@@ -157,8 +157,8 @@ overflow_add-z c =
     let l = c.loop-i in
     let seven : length a.g ≡ COMPONENTS = (let o = c.well_formed in search rules) in
     let size = spacing_size a.task.length a.g seven c.requires.0.fits.short in
-    let e = component a.task.length l.i c.wide-x.result a.g c.wide-x.ensures.0 l.invariant.coming.reach in
-    omega (arith, component_fits size l.invariant c.wide-x.result e)
+    let e = component a.task.length l.i c.from-x.result a.g c.from-x.ensures l.invariant.coming.reach in
+    omega (arith, component_fits size l.invariant c.from-x.result e)
 
 pub choose-below-requires : goal.choose-below-requires
 choose-below-requires c =
@@ -166,8 +166,8 @@ choose-below-requires c =
     let l = c.loop-i in
     let seven : length a.g ≡ COMPONENTS = (let o = c.well_formed in search rules) in
     let size = spacing_size a.task.length a.g seven c.requires.0.fits.short in
-    let e = component a.task.length l.i c.wide-x.result a.g c.wide-x.ensures.0 l.invariant.coming.reach in (
-      omega (arith, component_fits size l.invariant c.wide-x.result e),
+    let e = component a.task.length l.i c.from-x.result a.g c.from-x.ensures l.invariant.coming.reach in (
+      omega (arith, component_fits size l.invariant c.from-x.result e),
       omega (arith, c.requires.0.fits.short),
       c.requires.1,
     )
@@ -178,14 +178,14 @@ overflow_add-below c =
     let l = c.loop-i in
     let seven : length a.g ≡ COMPONENTS = (let o = c.well_formed in search rules) in
     let size = spacing_size a.task.length a.g seven c.requires.0.fits.short in
-    let e = component a.task.length l.i c.wide-x.result a.g c.wide-x.ensures.0 l.invariant.coming.reach in
+    let e = component a.task.length l.i c.from-x.result a.g c.from-x.ensures l.invariant.coming.reach in
     omega (
       arith,
       c.requires.0.fits.short,
       l.invariant.coming.low,
       l.invariant.coming.reach,
       c.choose-below.ensures,
-      binomial_small (l.z + c.wide-x.result) (l.i + 1) (component_fits size l.invariant c.wide-x.result e),
+      binomial_small (l.z + c.from-x.result) (l.i + 1) (component_fits size l.invariant c.from-x.result e),
     )
 
 pub choose-above-requires : goal.choose-above-requires
@@ -194,8 +194,8 @@ choose-above-requires c =
     let l = c.loop-i in
     let seven : length a.g ≡ COMPONENTS = (let o = c.well_formed in search rules) in
     let size = spacing_size a.task.length a.g seven c.requires.0.fits.short in
-    let e = component a.task.length l.i c.wide-x.result a.g c.wide-x.ensures.0 l.invariant.coming.reach in (
-      omega (arith, component_fits size l.invariant c.wide-x.result e),
+    let e = component a.task.length l.i c.from-x.result a.g c.from-x.ensures l.invariant.coming.reach in (
+      omega (arith, component_fits size l.invariant c.from-x.result e),
       omega (arith, c.requires.0.fits.short),
       c.requires.1,
     )
@@ -207,10 +207,10 @@ overflow_sub-above c =
     let seven : length a.g ≡ COMPONENTS = (let o = c.well_formed in search rules) in
     let size = spacing_size a.task.length a.g seven c.requires.0.fits.short in
     let G = take (a.task.length + 1) a.g in
-    let e = component a.task.length l.i c.wide-x.result a.g c.wide-x.ensures.0 l.invariant.coming.reach in
+    let e = component a.task.length l.i c.from-x.result a.g c.from-x.ensures l.invariant.coming.reach in
     above_enough a.task.links G a.task.length size
     (Kept a.shape a.table.now a.task.links G a.figures.now l.figures l.moved) l.above
-    l.below l.z l.i l.invariant.coming c.wide-x.result e (omega arith)
+    l.below l.z l.i l.invariant.coming c.from-x.result e (omega arith)
     c.choose-above.result c.choose-above.ensures
 
 pub overflow_add-z-in-loop-i : goal.overflow_add-z-in-loop-i
@@ -219,8 +219,8 @@ overflow_add-z-in-loop-i c =
     let l = c.loop-i in
     let seven : length a.g ≡ COMPONENTS = (let o = c.well_formed in search rules) in
     let size = spacing_size a.task.length a.g seven c.requires.0.fits.short in
-    let e = component a.task.length l.i c.wide-x.result a.g c.wide-x.ensures.0 l.invariant.coming.reach in
-    omega (arith, component_fits size l.invariant c.wide-x.result e)
+    let e = component a.task.length l.i c.from-x.result a.g c.from-x.ensures l.invariant.coming.reach in
+    omega (arith, component_fits size l.invariant c.from-x.result e)
 
 pub loop-i-preserved : goal.loop-i-preserved
 loop-i-preserved c =
@@ -229,8 +229,8 @@ loop-i-preserved c =
     let seven : length a.g ≡ COMPONENTS = (let o = c.well_formed in search rules) in
     let size = spacing_size a.task.length a.g seven c.requires.0.fits.short in
     let G = take (a.task.length + 1) a.g in
-    let x = c.wide-x.result in
-    let e = component a.task.length l.i x a.g c.wide-x.ensures.0 l.invariant.coming.reach in
+    let x = c.from-x.result in
+    let e = component a.task.length l.i x a.g c.from-x.ensures l.invariant.coming.reach in
     let next = c.add_part.new.figures in
     let len : length next ≡ length l.figures = search rules in
     record {
@@ -265,8 +265,8 @@ add_part-requires-2 c =
     let seven : length a.g ≡ COMPONENTS = (let o = c.well_formed in search rules) in
     let size = spacing_size a.task.length a.g seven p.0.fits.short in
     let q : a.task.length ≡ l.i = omega (arith, l.invariant.coming.reach) in
-    let e = last_component a.task.length l.i c.wide-last.result a.g c.wide-last.ensures.0 q in (
-      part_fits size l.invariant c.wide-last.result _ _ e
+    let e = last_component a.task.length l.i c.from-last.result a.g c.from-last.ensures q in (
+      part_fits size l.invariant c.from-last.result _ _ e
           (omega (
             arith,
             p.0.fits.short,
@@ -292,9 +292,9 @@ returns c =
     let size = spacing_size a.task.length a.g seven c.requires.0.fits.short in
     let G = take (a.task.length + 1) a.g in
     let next = c.add_part-2.new.figures in
-    let x = c.wide-last.result in
+    let x = c.from-last.result in
     let q : a.task.length ≡ l.i = omega (arith, l.invariant.coming.reach) in
-    let e = last_component a.task.length l.i x a.g c.wide-last.ensures.0 q in
+    let e = last_component a.task.length l.i x a.g c.from-last.ensures q in
     left_end (numbers_from a.shape a.table.now) a.figures.now (whole a.shape a.table.now a.task.links G) next
     (l.moved + x)
     (more a.shape a.table.now a.task.links G a.figures.now l.figures next l.moved

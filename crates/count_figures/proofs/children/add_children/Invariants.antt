@@ -1,5 +1,5 @@
--- The invariant and the measure of the loop of `count_figures::children::add_children`.
-use Prim.Native.Nat.{ℕ, ◌+◌, ◌-◌}
+-- The invariant of the loop of `count_figures::children::add_children`.
+use Prim.Native.Nat.{ℕ, ◌+◌}
 use mathlib.Core.Path.{◌≡◌}
 use mathlib.Core.List.{List, map}
 use lib.ListN.{length, take, drop}
@@ -27,6 +27,3 @@ pub record Going (s : Shape) (T links G : List ℕ) (k : ℕ) (before now : List
 abbrev pub invariant-loop-i : goal.invariant-loop-i
 invariant-loop-i l =
     Going l.shape l.table l.links (take (l.k + 1) l.g) l.k l.initial.figures l.figures l.above l.below l.moved l.z l.i
-
-abbrev pub decreases-loop-i : goal.decreases-loop-i
-decreases-loop-i l = l.k - l.i

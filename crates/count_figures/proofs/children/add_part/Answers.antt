@@ -22,8 +22,8 @@ use Rattle.count_figures.proofs.AddLaws.{Left, left_cell, left_end}
 use Rattle.count_figures.proofs.children.add_part.Invariants.{whole}
 use Rattle.count_figures.proofs.children.add_part.Goals as goal
 
-pub overflow_add-end : goal.overflow_add-end
-overflow_add-end c = omega (arith, c.requires.0.sum)
+pub overflow_add-z-end : goal.overflow_add-z-end
+overflow_add-z-end c = omega (arith, c.requires.0.sum)
 
 pub loop-z-init : goal.loop-z-init
 loop-z-init c =
@@ -33,7 +33,6 @@ loop-z-init c =
       size = refl;
       low = omega arith;
       high = omega arith;
-      last = refl;
       moved = omega arith;
       left = λ F h. subst (λ (n : ℕ). Adds a.figures.now F (spread_at a.part.moved
           (map (numbers_from a.shape a.table.now) (part_places a.part.at a.part.col a.part.first n)))) e h;
@@ -42,37 +41,30 @@ loop-z-init c =
 pub choose-requires : goal.choose-requires
 choose-requires c =
     let l = c.loop-z in
-    (omega (arith, c.requires.0.sum, l.invariant.last), c.requires.0.col, c.requires.1)
+    (omega (arith, c.requires.0.sum), c.requires.0.col, c.requires.1)
 
 pub overflow_add-cell : goal.overflow_add-cell
 overflow_add-cell c =
-    let binomial-low : let p = c.args.part in c.loop-z.z < p.first + p.values → binomial c.loop-z.z p.col ≤ CHOICES =
-    λ turn. binomial_small c.loop-z.z c.args.part.col (omega (arith, c.requires.0.sum)) in
-    omega (arith, c.requires.0.near, c.choose.ensures, binomial-low (omega (arith, c.loop-z.invariant.last)))
+    omega (arith, c.requires.0.near, c.choose.ensures, binomial_small c.loop-z.z c.args.part.col (omega (arith, c.requires.0.sum)))
 
 pub overflow_mul-shape : goal.overflow_mul-shape
 overflow_mul-shape c =
-    let binomial-low : let p = c.args.part in c.loop-z.z < p.first + p.values → binomial c.loop-z.z p.col ≤ CHOICES =
-    λ turn. binomial_small c.loop-z.z c.args.part.col (omega (arith, c.requires.0.sum)) in
     let a = c.args in
     let cell : ℕ = a.part.at + c.choose.result in
     let low : cell ≤ REACH + CHOICES =
-    omega (arith, c.requires.0.near, c.choose.ensures, binomial-low (omega (arith, c.loop-z.invariant.last))) in
+    omega (arith, c.requires.0.near, c.choose.ensures, binomial_small c.loop-z.z c.args.part.col (omega (arith, c.requires.0.sum))) in
     omega (arith, mul-le-mul_right {m = a.shape.numbers} {n = FIGURES} cell c.requires.0.few, low)
 
 pub add_moved-requires : goal.add_moved-requires
 add_moved-requires c =
     let l = c.loop-z in
-    omega (arith, c.requires.0.room, l.invariant.size, l.invariant.moved, l.invariant.last)
+    omega (arith, c.requires.0.room, l.invariant.size, l.invariant.moved)
 
 pub overflow_add-d : goal.overflow_add-d
 overflow_add-d c =
     let l = c.loop-z in
     let few : length l.figures ≤ 9223372036854775807 = (search rules) in
-    omega (arith, c.requires.0.room, l.invariant.size, l.invariant.moved, l.invariant.last)
-
-pub overflow_add-z : goal.overflow_add-z
-overflow_add-z c = omega (arith, c.requires.0.sum, c.loop-z.invariant.last)
+    omega (arith, c.requires.0.room, l.invariant.size, l.invariant.moved)
 
 pub loop-z-preserved : goal.loop-z-preserved
 loop-z-preserved c =
@@ -84,7 +76,6 @@ loop-z-preserved c =
       size = len ∙ l.invariant.size;
       low = omega (arith, l.invariant.low);
       high = omega arith;
-      last = refl;
       moved = omega (arith, l.invariant.low, l.invariant.moved);
       left = rw (add-one l.d) (left_cell (numbers_from a.shape a.table.now) a.figures.now
           (whole a.part a.shape a.table.now) l.figures l.d c.add_moved.new.figures

@@ -1,4 +1,4 @@
--- The invariant and the measure of the loop of `count_figures::children::add_part`.
+-- The invariant of the loop of `count_figures::children::add_part`.
 use Prim.Native.Nat.{ℕ, ◌+◌, ◌-◌, ◌≤◌}
 use mathlib.Core.Path.{◌≡◌}
 use mathlib.Core.List.{List, map}
@@ -20,12 +20,8 @@ pub record Going (p : Part) (s : Shape) (T before now : List ℕ) (end d z : ℕ
   pub size : length now ≡ length before
   pub low : p.first ≤ z
   pub high : z ≤ end
-  pub last : end ≡ p.first + p.values
   pub moved : d ≡ p.moved + (z - p.first)
   pub left : Left (numbers_from s T) before (whole p s T) now d (part_places p.at p.col z (end - z))
 
 abbrev pub invariant-loop-z : goal.invariant-loop-z
-invariant-loop-z l = Going l.part l.shape l.table l.initial.figures l.figures l.end l.d l.z
-
-abbrev pub decreases-loop-z : goal.decreases-loop-z
-decreases-loop-z l = l.end - l.z
+invariant-loop-z l = Going l.part l.shape l.table l.initial.figures l.figures (l.part.first + l.part.values) l.d l.z

@@ -3,10 +3,9 @@
 use borrow.Author.Rules.{rules}
 use native.Mathlib.Omega.{arith}
 use Prim.Native.Nat.{◌+◌}
-use mathlib.Core.Path.{◌≡◌, ap, ◌∙◌}
+use mathlib.Core.Path.{◌≡◌, ◌∙◌}
 use lib.ListN.{length}
 use Rattle.word.specs.Ceilings.{COMPONENTS}
-use Rattle.spacing.specs.Following.{first_vector}
 use Rattle.spacing.specs.PascalLaws.{binomial_small}
 use Rattle.count_step.specs.Task.{spacing_in}
 use Rattle.count_step.proofs.FillLaws.{filling_start, filling_more, filling_end}
@@ -22,7 +21,7 @@ loop-p-init c =
     let seven : length c.first_spacing-next.result ≡ COMPONENTS = search rules in (
       filling_start (put_figures a.work.numbers) (several_sound a.work.numbers).size (figure_step a.work a.gaps.now)
           t.length t.total a.at a.size c.requires.2 a.table.now (spacing_in t.length c.first_spacing-next.result)
-          (c.first_spacing-next.ensures ∙ ap (first_vector t.length) c.narrow.ensures),
+          c.first_spacing-next.ensures,
       seven,
     )
 
@@ -88,8 +87,8 @@ returns c =
     l.invariant.0
     (omega arith)
 
-pub narrow-requires : goal.narrow-requires
-narrow-requires c = omega (arith, c.requires.0.fits.sum)
+pub overflow_cast-task : goal.overflow_cast-task
+overflow_cast-task c = omega (arith, c.requires.0.fits.sum)
 
 pub first_spacing-next-requires : goal.first_spacing-next-requires
 first_spacing-next-requires c = search rules

@@ -1,5 +1,4 @@
--- The invariant and the measure of the loop of `count_figures::filling::fill_figures`.
-use Prim.Native.Nat.{◌-◌}
+-- The invariant of the loop of `count_figures::filling::fill_figures`.
 use mathlib.Core.Path.{◌≡◌}
 use lib.ListN.{length}
 use Rattle.word.specs.Ceilings.{COMPONENTS}
@@ -14,6 +13,3 @@ invariant-loop-p l =
     Filling (put_figures l.work.numbers) (figure_step l.work l.gaps) l.work.task.length l.work.task.total l.at l.size l.p
     l.initial.table l.table
     (spacing_in l.work.task.length l.next) × (length l.next ≡ COMPONENTS)
-
-abbrev pub decreases-loop-p : goal.decreases-loop-p
-decreases-loop-p l = l.size - l.p

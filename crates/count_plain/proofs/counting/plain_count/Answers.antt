@@ -1,7 +1,7 @@
 -- `count_plain::counting::plain_count` meets its contract.
 -- Assumes nothing.
 use mathlib.Core.Path.{refl}
-use Rattle.word.specs.Patterns.{patterns_of}
+use Rattle.forms.specs.SetMemory.{held_in}
 use Rattle.forms.specs.SchemeMemory.{scheme_in}
 use Rattle.scheme.specs.ProperLaws.{proper}
 use Rattle.count_plain.specs.ReadingLaws.{counted_cell, counted_value}
@@ -16,7 +16,7 @@ cell-requires c =
     let a = c.args in
     let p = c.requires in
     let sheet = c.fill_sheet-root in
-    counted_cell (patterns_of a.set a.lengths a.count) a.s sheet.new.sheet
+    counted_cell (held_in a.patterns.now) a.s sheet.new.sheet
     (proper (scheme_in a.s) p.1.scheme) sheet.ensures.sheet sheet.result a.n _
     sheet.ensures.root
     p.0 refl refl
@@ -26,7 +26,7 @@ returns c =
     let a = c.args in
     let p = c.requires in
     let sheet = c.fill_sheet-root in
-    counted_value (patterns_of a.set a.lengths a.count) a.s sheet.new.sheet
+    counted_value (held_in a.patterns.now) a.s sheet.new.sheet
     (proper (scheme_in a.s) p.1.scheme) sheet.ensures.sheet sheet.result a.n _
     sheet.ensures.root
     p.0 refl refl p.1 p.2 c.cell.result c.cell.ensures

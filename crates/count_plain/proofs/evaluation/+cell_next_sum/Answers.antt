@@ -112,7 +112,7 @@ cell-returns-then-t-eq0 t c =
     let f : free (gaps_at a.sheet.now a.e k) (take (k + 1) a.g) ≡ true =
     sym c.is_free_at.ensures ∙ c.if-not-is_free_at.false in
     λ o v solved. alone_value a.sheet.now a.e a.g a.t o k c.field-k.ensures v solved
-    (sym c.field-n.ensures ∙ c.if-n-ne0.false) f c.long.result (c.long.ensures ∙ c.field.ensures) c.if-t-eq0.true
+    (sym c.field-n.ensures ∙ c.if-n-ne0.false) f c.field.result c.field.ensures c.if-t-eq0.true
 
 pub cell-returns : goal.cell-returns
 cell-returns t c =
@@ -128,7 +128,7 @@ pub next_sum-loop-q-init : goal.next_sum-loop-q-init
 next_sum-loop-q-init t c =
     let a = c.args in
     let p = c.requires in
-    (omega arith, omega arith, omega arith, sum_start a.sheet.now a.e a.g a.t)
+    (omega arith, sum_start a.sheet.now a.e a.g a.t)
 
 pub next_sum-held-at-requires : goal.next_sum-held-at-requires
 next_sum-held-at-requires t c =
@@ -137,7 +137,7 @@ next_sum-held-at-requires t c =
     let p = c.requires in
     let l = c.loop-q in (
       omega (arith, p.1, length_small a.sheet.now a.e a.g a.t q),
-      l.invariant.0,
+      (omega arith),
       omega (arith, total_is a.sheet.now a.e a.g a.t q a.k p.1),
     )
 
@@ -148,7 +148,7 @@ next_sum-split_spacing-h-requires t c =
     let p = c.requires in
     let l = c.loop-q in
     let at = c.held-at in (
-      length_less a.sheet.now a.e a.g a.t q a.k p.1 p.2 l.q at.result.index at.result.left l.invariant.0 (omega arith)
+      length_less a.sheet.now a.e a.g a.t q a.k p.1 p.2 l.q at.result.index at.result.left (omega arith) (omega arith)
           at.ensures,
       at.ensures.reach,
       at.ensures.low,
@@ -181,9 +181,9 @@ next_sum-cell-x-requires t c =
     let at = c.held-at in
     let h = c.split_spacing-h in
     let seven : length h.result ≡ COMPONENTS = search rules in
-    let fall = child_falls a.sheet.now a.e a.g a.t q a.k p.1 p.2 l.q at.result.index at.result.left l.invariant.0
+    let fall = child_falls a.sheet.now a.e a.g a.t q a.k p.1 p.2 l.q at.result.index at.result.left (omega arith)
     (omega arith) at.ensures h.result seven h.ensures in
-    let given = child_at_lem a.sheet.now a.e a.g a.t q a.k p.1 p.2 l.q at.result.index at.result.left l.invariant.0
+    let given = child_at_lem a.sheet.now a.e a.g a.t q a.k p.1 p.2 l.q at.result.index at.result.left (omega arith)
     (omega arith) at.ensures h.result seven h.ensures in
     subst (λ (d : ℕ). (measure_of a.sheet.now d (a.t - 1) < t) × CellAt a.sheet.now d h.result (a.t - 1))
     (sym c.field-child.ensures) (
@@ -205,16 +205,14 @@ next_sum-loop-q-preserved t c =
     let ev : Evaluates a.sheet.now (field_of a.sheet.now a.e (FIELDS + at.result.index)) h.result (a.t - 1) x.result =
     subst (λ (d : ℕ). Evaluates a.sheet.now d h.result (a.t - 1) x.result) c.field-child.ensures x.ensures in
     let low : l.q ≤ a.t = omega arith in (
-      omega arith,
-      omega arith,
       cap_high sum.result (l.sum + x.result) sum.ensures,
-      sum_more a.sheet.now a.e a.g a.t l.q l.sum sum.result x.result low l.invariant.3 sum.ensures
+      sum_more a.sheet.now a.e a.g a.t l.q l.sum sum.result x.result low l.invariant.1 sum.ensures
           (λ o v solved z. child_evaluates a.sheet.now a.e a.g a.t o a.k p.1 z l.q at.result.index at.result.left
-          l.invariant.0 low at.ensures h.result seven h.ensures v solved x.result ev),
+          (omega arith) low at.ensures h.result seven h.ensures v solved x.result ev),
     )
 
 pub next_sum-returns : goal.next_sum-returns
 next_sum-returns t c =
     let a = c.args in
     let l = c.loop-q in
-    sum_end a.sheet.now a.e a.g a.t l.q l.sum (omega arith) l.invariant.2 l.invariant.3
+    sum_end a.sheet.now a.e a.g a.t l.q l.sum (omega arith) l.invariant.0 l.invariant.1

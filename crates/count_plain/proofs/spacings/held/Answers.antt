@@ -22,8 +22,8 @@ returns-then-left-x c =
     let l = c.loop-i in
     let seven : length a.g ≡ COMPONENTS = (search rules) in
     let size : length (take (a.k + 1) a.g) ≡ suc a.k = length-take-le (a.k + 1) a.g (omega arith) ∙ add-one a.k in
-    walk_end (take (a.k + 1) a.g) a.k a.s l.i l.left size l.invariant c.wide-x.result
-    (c.wide-x.ensures.0 ∙ sym (get_or-take (a.k + 1) a.g l.i 0 (omega arith))) c.if-left-x.true
+    walk_end (take (a.k + 1) a.g) a.k a.s l.i l.left size l.invariant c.from-x.result
+    (c.from-x.ensures ∙ sym (get_or-take (a.k + 1) a.g l.i 0 (omega arith))) c.if-left-x.true
 
 pub loop-i-preserved : goal.loop-i-preserved
 loop-i-preserved c =
@@ -31,8 +31,8 @@ loop-i-preserved c =
     let l = c.loop-i in
     let seven : length a.g ≡ COMPONENTS = (search rules) in
     let size : length (take (a.k + 1) a.g) ≡ suc a.k = length-take-le (a.k + 1) a.g (omega arith) ∙ add-one a.k in
-    walk_more (take (a.k + 1) a.g) a.k a.s l.i l.left size l.invariant c.wide-x.result
-    (c.wide-x.ensures.0 ∙ sym (get_or-take (a.k + 1) a.g l.i 0 (omega arith))) (omega arith) (omega arith)
+    walk_more (take (a.k + 1) a.g) a.k a.s l.i l.left size l.invariant c.from-x.result
+    (c.from-x.ensures ∙ sym (get_or-take (a.k + 1) a.g l.i 0 (omega arith))) (omega arith) (omega arith)
 
 pub returns : goal.returns
 returns c =

@@ -1,11 +1,8 @@
--- The invariant and the measure of the loop of `count_plain::spacings::held`.
-use Prim.Native.Nat.{◌+◌, ◌-◌}
+-- The invariant of the loop of `count_plain::spacings::held`.
+use Prim.Native.Nat.{◌+◌}
 use lib.ListN.{take}
 use Rattle.count_plain.specs.PieceLaws.{Walk}
 use Rattle.count_plain.proofs.spacings.held.Given as goal
 
 abbrev pub invariant-loop-i : goal.invariant-loop-i
 invariant-loop-i l = Walk (take (l.k + 1) l.g) l.k l.s l.i l.left
-
-abbrev pub decreases-loop-i : goal.decreases-loop-i
-decreases-loop-i l = l.k - l.i

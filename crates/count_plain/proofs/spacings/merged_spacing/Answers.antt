@@ -16,7 +16,7 @@ pub loop-v-init : goal.loop-v-init
 loop-v-init c =
     let a = c.args in
     let seven : length a.g ≡ COMPONENTS = search rules in
-    (omega arith, omega arith, omega arith, search rules, merging_start (flagged a.gone a.k) a.g a.k (omega arith))
+    (omega arith, search rules, merging_start (flagged a.gone a.k) a.g a.k (omega arith))
 
 pub overflow_sub-at : goal.overflow_sub-at
 overflow_sub-at c =
@@ -26,7 +26,7 @@ overflow_sub-at c =
     let x = get_or a.g l.v 0 in
     let seven : length a.g ≡ COMPONENTS = search rules in
     let inside : l.v < length (take (a.k + 1) a.g) = omega (arith, spacing_size a.k a.g seven c.requires.0) in
-    turn_low a.gone (take (a.k + 1) a.g) l.r a.k l.v l.n n x l.invariant.4 l.invariant.0 (omega arith) l.invariant.2 inside (omega arith)
+    turn_low a.gone (take (a.k + 1) a.g) l.r a.k l.v l.n n x l.invariant.2 (omega arith) (omega arith) l.invariant.0 inside (omega arith)
     c.flagged_with-n.ensures (component a.k l.v x a.g refl (omega arith))
 
 pub bounds-r-at : goal.bounds-r-at
@@ -40,8 +40,8 @@ overflow_add-r c =
     let x = get_or a.g l.v 0 in
     let seven : length a.g ≡ COMPONENTS = search rules in
     let inside : l.v < length (take (a.k + 1) a.g) = omega (arith, spacing_size a.k a.g seven c.requires.0) in
-    let room = turn_room a.gone (take (a.k + 1) a.g) l.r a.k l.v l.n n x l.invariant.4 l.invariant.0 (omega arith)
-    l.invariant.2 inside (omega arith)
+    let room = turn_room a.gone (take (a.k + 1) a.g) l.r a.k l.v l.n n x l.invariant.2 (omega arith) (omega arith)
+    l.invariant.0 inside (omega arith)
     c.flagged_with-n.ensures (component a.k l.v x a.g refl (omega arith)) in
     omega (arith, room, c.requires.1)
 
@@ -56,18 +56,18 @@ loop-v-preserved c =
     let x = get_or a.g l.v 0 in
     let seven : length a.g ≡ COMPONENTS = search rules in
     let inside : l.v < length (take (a.k + 1) a.g) = omega (arith, spacing_size a.k a.g seven c.requires.0) in
-    let low = turn_low a.gone (take (a.k + 1) a.g) l.r a.k l.v l.n n x l.invariant.4 l.invariant.0 (omega arith)
-    l.invariant.2 inside (omega arith)
+    let low = turn_low a.gone (take (a.k + 1) a.g) l.r a.k l.v l.n n x l.invariant.2 (omega arith) (omega arith)
+    l.invariant.0 inside (omega arith)
     c.flagged_with-n.ensures (component a.k l.v x a.g refl (omega arith)) in
-    let more = turn_more a.gone (take (a.k + 1) a.g) l.r a.k l.v l.n n x l.invariant.4 l.invariant.0 (omega arith)
-    l.invariant.2 inside (omega arith)
+    let more = turn_more a.gone (take (a.k + 1) a.g) l.r a.k l.v l.n n x l.invariant.2 (omega arith) (omega arith)
+    l.invariant.0 inside (omega arith)
     c.flagged_with-n.ensures (component a.k l.v x a.g refl (omega arith)) in
-    (omega arith, omega arith, omega arith, more.size, more)
+    (omega arith, more.size, more)
 
 pub returns : goal.returns
 returns c =
     let a = c.args in
     let l = c.loop-v in
     let seven : length a.g ≡ COMPONENTS = (search rules) in
-    merging_end (flagged a.gone a.k) (take (a.k + 1) a.g) l.r l.v (l.v - 1 - l.n) l.invariant.4
+    merging_end (flagged a.gone a.k) (take (a.k + 1) a.g) l.r l.v (l.v - 1 - l.n) l.invariant.2
     (omega (arith, length-take-le (a.k + 1) a.g (omega arith))) (omega arith)

@@ -1,5 +1,5 @@
--- The invariant and the measure of the loop of `count_plain::spacings::merged_spacing`.
-use Prim.Native.Nat.{◌+◌, ◌-◌, ◌≤◌, ◌<◌}
+-- The invariant of the loop of `count_plain::spacings::merged_spacing`.
+use Prim.Native.Nat.{◌+◌, ◌-◌, ◌<◌}
 use mathlib.Core.Path.{◌≡◌}
 use lib.ListN.{length, take}
 use Rattle.word.specs.Ceilings.{COMPONENTS}
@@ -9,8 +9,5 @@ use Rattle.count_plain.proofs.spacings.merged_spacing.Given as goal
 
 abbrev pub invariant-loop-v : goal.invariant-loop-v
 invariant-loop-v l =
-    (1 ≤ l.v) × (l.v ≤ l.k + 1) × (l.n < l.v) × (length l.r ≡ COMPONENTS) ×
+    (l.n < l.v) × (length l.r ≡ COMPONENTS) ×
     Merging (flagged l.gone l.k) (take (l.k + 1) l.g) l.r l.v (l.v - 1 - l.n)
-
-abbrev pub decreases-loop-v : goal.decreases-loop-v
-decreases-loop-v l = l.k + 1 - l.v

@@ -1,10 +1,9 @@
 -- `count_plain::spacings::split_piece` meets its contract.
 -- Assumes nothing.
 use native.Mathlib.Omega.{arith}
-use Prim.Native.Nat.{◌-◌}
 use native.Mathlib.Numerals.{add-one}
-use mathlib.Core.Path.{◌≡◌, sym, ap, ◌∙◌}
-use lib.ListN.{length, get_or}
+use mathlib.Core.Path.{◌≡◌, sym, ◌∙◌}
+use lib.ListN.{length}
 use Rattle.word.specs.Ceilings.{COMPONENTS}
 use Rattle.count_plain.specs.PieceLaws.{split_before, split_low, split_high, split_after}
 use borrow.Author.Rules.{rules}
@@ -16,23 +15,16 @@ returns-then-j-i c =
     let seven : length a.g ≡ COMPONENTS = (search rules) in
     sym (split_before a.g a.i a.left (omega arith) a.j c.if-j-i.true)
 
-pub narrow-requires : goal.narrow-requires
-narrow-requires c = omega (arith, c.requires.3, c.requires.4)
-
 pub returns-then-j-i-2 : goal.returns-then-j-i-2
 returns-then-j-i-2 c =
     let a = c.args in
     let seven : length a.g ≡ COMPONENTS = (search rules) in
-    c.narrow.ensures ∙ sym (split_low a.g a.i a.left (omega arith) a.j c.if-j-i-2.true)
-
-pub narrow-requires-then-j-i-3 : goal.narrow-requires-then-j-i-3
-narrow-requires-then-j-i-3 c = omega (arith, c.requires.3, c.requires.4)
+    sym (split_low a.g a.i a.left (omega arith) a.j c.if-j-i-2.true)
 
 pub returns-then-j-i-3 : goal.returns-then-j-i-3
 returns-then-j-i-3 c =
     let a = c.args in
     let seven : length a.g ≡ COMPONENTS = (search rules) in
-    ap (λ n. get_or a.g a.i 0 - n) c.narrow-then-j-i-3.ensures ∙
     sym (split_high a.g a.i a.left (omega arith) a.j (c.if-j-i-3.true ∙ add-one a.i))
 
 pub returns : goal.returns

@@ -30,12 +30,11 @@ loop-j-preserved c =
     let l = c.loop-j in
     let seven : length a.g ≡ COMPONENTS = (search rules) in
     let size = length-take-le (a.k + 1) a.g (omega arith) in (
-      omega arith,
-      length-set l.r l.j c.split_piece-x.result ∙ l.invariant.1,
-      more l.r (split_at (take (a.k + 1) a.g) a.i a.left) l.j c.split_piece-x.result (omega (arith, l.invariant.1))
+      length-set l.r l.j c.split_piece-x.result ∙ l.invariant.0,
+      more l.r (split_at (take (a.k + 1) a.g) a.i a.left) l.j c.split_piece-x.result (omega (arith, l.invariant.0))
           (omega (arith, split_length (take (a.k + 1) a.g) a.i a.left (omega arith)))
           (c.split_piece-x.ensures ∙ split_take a.g a.k (omega arith) a.i a.left l.j c.requires.1
-          (omega arith)) l.invariant.2,
+          (omega arith)) l.invariant.1,
     )
 
 pub returns : goal.returns
@@ -46,4 +45,4 @@ returns c =
     let size = length-take-le (a.k + 1) a.g (omega arith) in
     let e : a.k + 2 ≡ l.j = omega arith in
     let len = split_length (take (a.k + 1) a.g) a.i a.left (omega arith) in
-    ap (λ n. take n l.r) e ∙ l.invariant.2 ∙ take_all l.j (split_at (take (a.k + 1) a.g) a.i a.left) (omega arith)
+    ap (λ n. take n l.r) e ∙ l.invariant.1 ∙ take_all l.j (split_at (take (a.k + 1) a.g) a.i a.left) (omega arith)

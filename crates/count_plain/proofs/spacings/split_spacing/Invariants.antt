@@ -1,5 +1,5 @@
--- The invariant and the measure of the loop of `count_plain::spacings::split_spacing`.
-use Prim.Native.Nat.{◌+◌, ◌-◌, ◌≤◌}
+-- The invariant of the loop of `count_plain::spacings::split_spacing`.
+use Prim.Native.Nat.{◌+◌}
 use mathlib.Core.Path.{◌≡◌}
 use lib.ListN.{length, take}
 use Rattle.word.specs.Ceilings.{COMPONENTS}
@@ -7,7 +7,4 @@ use Rattle.count_plain.specs.Pieces.{split_at}
 use Rattle.count_plain.proofs.spacings.split_spacing.Given as goal
 
 abbrev pub invariant-loop-j : goal.invariant-loop-j
-invariant-loop-j l = (l.j ≤ l.k + 2) × (length l.r ≡ COMPONENTS) × (take l.j l.r ≡ take l.j (split_at (take (l.k + 1) l.g) l.i l.left))
-
-abbrev pub decreases-loop-j : goal.decreases-loop-j
-decreases-loop-j l = l.k + 2 - l.j
+invariant-loop-j l = (length l.r ≡ COMPONENTS) × (take l.j l.r ≡ take l.j (split_at (take (l.k + 1) l.g) l.i l.left))

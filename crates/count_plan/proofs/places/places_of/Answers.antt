@@ -7,7 +7,7 @@ use Rattle.count_plan.specs.LayoutLaws.{count_few, entry_short, place_small, pla
 use Rattle.count_plan.proofs.places.places_of.Goals as goal
 
 pub loop-i-init : goal.loop-i-init
-loop-i-init c = (omega arith, places_start c.args.n c.args.s)
+loop-i-init c = places_start c.args.n c.args.s
 
 pub offset_bounds-s-i : goal.offset_bounds-s-i
 offset_bounds-s-i c = omega (arith, count_few c.args.s c.requires.0)
@@ -24,7 +24,7 @@ overflow_add-at c =
     let l = c.loop-i in
     omega (
       arith,
-      l.invariant.1.here,
+      l.invariant.here,
       place_small c.args.n c.args.s l.i c.requires.1,
       count_few c.args.s
           c.requires.0,
@@ -40,14 +40,12 @@ bounds-places-i c = omega (arith, count_few c.args.s c.requires.0)
 
 pub loop-i-preserved : goal.loop-i-preserved
 loop-i-preserved c =
-    let l = c.loop-i in (
-      omega arith,
-      places_more c.args.n c.args.s l.i l.places l.at c.choose-at.result l.invariant.1
-          (omega (arith, count_few c.args.s c.requires.0)) c.requires.1 c.choose-at.ensures,
-    )
+    let l = c.loop-i in
+    places_more c.args.n c.args.s l.i l.places l.at c.choose-at.result l.invariant
+    (omega (arith, count_few c.args.s c.requires.0)) c.requires.1 c.choose-at.ensures
 
 pub returns : goal.returns
 returns c =
     let a = c.args in
     let l = c.loop-i in
-    places_end a.n a.s l.i l.places l.at l.invariant.1 (omega arith)
+    places_end a.n a.s l.i l.places l.at l.invariant (omega arith)

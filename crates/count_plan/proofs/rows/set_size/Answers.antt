@@ -10,4 +10,4 @@ use Rattle.count_plan.proofs.rows.set_size.Goals as goal
 pub returns-in-Delete : goal.returns-in-Delete
 returns-in-Delete c =
     let d = c.in-Delete.d in
-    c.wide.ensures.0 ∙ sym (length_padded d.count (six_of d)) ∙ sym (ap (λ (r : Rule). deleted_by (does_of r)) c.in-Delete.is)
+    c.from.ensures ∙ sym (length_padded d.count (six_of d)) ∙ sym (ap (λ (r : Rule). deleted_by (does_of r)) c.in-Delete.is)

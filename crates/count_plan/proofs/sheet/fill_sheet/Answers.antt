@@ -5,7 +5,7 @@ use Prim.Native.Nat.{ℕ, ◌<◌}
 use mathlib.Core.Path.{◌≡◌, sym, subst}
 use mathlib.Core.List.{[]}
 use lib.Seq.{length-take-le}
-use Rattle.word.specs.Patterns.{patterns_of}
+use Rattle.forms.specs.SetMemory.{held_in}
 use Rattle.scheme.specs.Links.{prefixes_in}
 use Rattle.count_plan.specs.LayoutLaws.{count_few, entry_short}
 use Rattle.count_plan.specs.SheetForm.{SheetTo}
@@ -22,7 +22,7 @@ codes_of-codes-requires c =
 
 pub loop-i-init : goal.loop-i-init
 loop-i-init c =
-    (omega arith, record { long = c.requires.1; cards = λ (i : ℕ) (h : i < 0). absurd (omega arith) })
+    record { long = c.requires.1; cards = λ (i : ℕ) (h : i < 0). absurd (omega arith) }
 
 pub offset_bounds-s-i : goal.offset_bounds-s-i
 offset_bounds-s-i c = omega (arith, count_few c.args.s c.requires.0)
@@ -31,10 +31,10 @@ pub bounds-s-i : goal.bounds-s-i
 bounds-s-i c = omega (arith, count_few c.args.s c.requires.0)
 
 pub slice_bounds-codes-end : goal.slice_bounds-codes-end
-slice_bounds-codes-end c = omega (arith, count_few c.args.s c.requires.0)
+slice_bounds-codes-end c = omega (arith, count_few c.args.s c.requires.0, c.codes_of-codes.ensures.0)
 
-pub slice_bounds-entry_card-end : goal.slice_bounds-entry_card-end
-slice_bounds-entry_card-end c =
+pub slice_bounds-codes-end-2 : goal.slice_bounds-codes-end-2
+slice_bounds-codes-end-2 c =
     let codes = c.codes_of-codes in
     sym (length-take-le c.args.s.count codes.result (omega (arith, count_few c.args.s c.requires.0, codes.ensures.0)))
 
@@ -48,28 +48,15 @@ overflow_mul-i c = omega (arith, count_few c.args.s c.requires.0)
 
 pub put_card-requires : goal.put_card-requires
 put_card-requires c =
-    let long = c.loop-i.invariant.1.long in
+    let long = c.loop-i.invariant.long in
     (omega (arith, count_few c.args.s c.requires.0, long), omega (arith, long))
 
 pub loop-i-preserved : goal.loop-i-preserved
 loop-i-preserved c =
     let a = c.args in
-    let l = c.loop-i in (
-      omega arith,
-      sheet_more (patterns_of a.set a.lengths a.count) a.s l.i l.sheet c.put_card.new.sheet
-          c.entry_card-card.result
-          l.invariant.1 (c.entry_card-card.ensures (prefixes_in a.s) c.codes_of-codes.ensures.1)
-          c.put_card.ensures,
-    )
-
-pub slice_bounds-codes-end-2 : goal.slice_bounds-codes-end-2
-slice_bounds-codes-end-2 c = omega (arith, count_few c.args.s c.requires.0)
-
-pub slice_bounds-index_in-end : goal.slice_bounds-index_in-end
-slice_bounds-index_in-end c =
-    let codes = c.codes_of-codes in
-    sym (length-take-le c.args.s.count codes.result
-    (omega (arith, count_few c.args.s c.requires.0, codes.ensures.0)))
+    let l = c.loop-i in
+    sheet_more (held_in a.patterns.now) a.s l.i l.sheet c.put_card.new.sheet c.entry_card-card.result
+    l.invariant (c.entry_card-card.ensures (prefixes_in a.s) c.codes_of-codes.ensures.1) c.put_card.ensures
 
 pub returns : goal.returns
 returns c =
@@ -78,6 +65,6 @@ returns c =
     let e : l.i ≡ a.s.count = omega arith in
     let root = c.index_in.ensures (prefixes_in a.s) c.codes_of-codes.ensures.1 in
     record {
-      sheet = subst (λ (m : ℕ). SheetTo (patterns_of a.set a.lengths a.count) a.s m l.sheet) e l.invariant.1;
+      sheet = subst (λ (m : ℕ). SheetTo (held_in a.patterns.now) a.s m l.sheet) e l.invariant;
       root = subst (λ (x : ℕ). Names a.s [] x) (sym root) (root_names a.s c.requires.0);
     }

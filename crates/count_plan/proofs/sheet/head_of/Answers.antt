@@ -8,21 +8,20 @@ pub returns : goal.returns
 returns c =
     (ap₂ ◌∷◌ c.low.ensures
     (ap₂ ◌∷◌ c.low-2.ensures
-    (ap₂ ◌∷◌ c.low_long.ensures
     (ap₂ ◌∷◌ c.low-3.ensures
-    (ap₂ ◌∷◌ refl
-    (ap₂ ◌∷◌ refl
-    (ap₂ ◌∷◌ refl
-    (ap₂ ◌∷◌ refl
-    (ap₂ ◌∷◌ refl
-    (ap₂ ◌∷◌ refl
-    (ap₂ ◌∷◌ refl
-    (ap₂ ◌∷◌ refl
-    (ap₂ ◌∷◌ refl
-    (ap₂ ◌∷◌ refl
-    (ap₂ ◌∷◌ refl
-    (ap₂ ◌∷◌ refl
     (ap₂ ◌∷◌ c.low-4.ensures
+    (ap₂ ◌∷◌ refl
+    (ap₂ ◌∷◌ refl
+    (ap₂ ◌∷◌ refl
+    (ap₂ ◌∷◌ refl
+    (ap₂ ◌∷◌ refl
+    (ap₂ ◌∷◌ refl
+    (ap₂ ◌∷◌ refl
+    (ap₂ ◌∷◌ refl
+    (ap₂ ◌∷◌ refl
+    (ap₂ ◌∷◌ refl
+    (ap₂ ◌∷◌ refl
+    (ap₂ ◌∷◌ refl
     (ap₂ ◌∷◌ c.low-5.ensures
     (ap₂ ◌∷◌ c.low-6.ensures
     (ap₂ ◌∷◌ c.low-7.ensures
@@ -30,4 +29,5 @@ returns c =
     (ap₂ ◌∷◌ c.low-9.ensures
     (ap₂ ◌∷◌ c.low-10.ensures
     (ap₂ ◌∷◌ c.low-11.ensures
+    (ap₂ ◌∷◌ c.low-12.ensures
     refl))))))))))))))))))))))))

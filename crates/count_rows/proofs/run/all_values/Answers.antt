@@ -22,13 +22,12 @@ pub loop-j-init : goal.loop-j-init
 loop-j-init c =
     let a = c.args in (
       refl,
-      omega arith,
       λ o. rows_none single single_sound (count_makes o.of.P) (rows_of (scheme_in o.of.s)) a.f.last o.of.s a.table.now,
       λ o. values_start o.framed.of.P a.f.last o.framed.of.s a.root a.table.now,
     )
 
 pub fill_row-requires : goal.fill_row-requires
-fill_row-requires c = (c.requires.0.framed, omega arith, c.requires.2)
+fill_row-requires c = (c.requires.0.framed, c.requires.0.framed.small, omega arith, c.requires.2)
 
 pub root_cell-cell-requires : goal.root_cell-cell-requires
 root_cell-cell-requires c = omega (arith, c.requires.0.framed.small)
@@ -54,8 +53,8 @@ offset_bounds-counts-j c = omega (arith, c.requires.0.framed.small)
 pub bounds-counts-j : goal.bounds-counts-j
 bounds-counts-j c = omega (arith, c.requires.0.framed.small)
 
-pub overflow_add-j : goal.overflow_add-j
-overflow_add-j c = omega (arith, c.requires.0.framed.small)
+pub overflow_add-j-end : goal.overflow_add-j-end
+overflow_add-j-end c = omega (arith, c.requires.0.framed.small)
 
 pub loop-j-preserved : goal.loop-j-preserved
 loop-j-preserved c =
@@ -66,15 +65,14 @@ loop-j-preserved c =
     let len : length c.fill_row.new.table ≡ length l.table = search rules in
     let low : l.j ≤ a.f.last = omega arith in (
       len ∙ l.invariant.0,
-      omega arith,
       λ o. rows_more single single_sound (count_makes o.of.P) (rows_of (scheme_in o.of.s)) a.f.last o.of.s l.j
-          a.table.now l.table U (l.invariant.2 o)
+          a.table.now l.table U (l.invariant.1 o)
           (c.fill_row.ensures o),
       λ o.
           let filled = rows_end single single_sound (count_makes o.framed.of.P) (rows_of (scheme_in o.framed.of.s)) a.f.last
           o.framed.of.s (l.j + 1) l.j a.table.now U refl
           (rows_more single single_sound (count_makes o.framed.of.P) (rows_of (scheme_in o.framed.of.s)) a.f.last
-          o.framed.of.s l.j a.table.now l.table U (l.invariant.2 o.framed)
+          o.framed.of.s l.j a.table.now l.table U (l.invariant.1 o.framed)
           (c.fill_row.ensures o.framed)) in
           values_more o.framed.of.P a.f.last o.framed.of.s a.root a.table.now l.j c.value_in-x.result l.counts
           (omega (arith, o.framed.small))
@@ -84,7 +82,7 @@ loop-j-preserved c =
             framed = o.framed;
             cell = root_has o.framed.of.P a.f.last o.framed.of.s a.root l.j o.root_is r.result r.ensures.0
                 r.ensures.1 r.ensures.2 low;
-          }))) (l.invariant.3 o),
+          }))) (l.invariant.2 o),
     )
 
 pub need-requires : goal.need-requires
@@ -108,11 +106,11 @@ returns c =
     let o = c.requires.0.framed in
     let end : l.j ≡ a.f.last + 1 = omega arith in record {
       values = λ q. subst (λ m. ValuesTo q.framed.of.P a.f.last q.framed.of.s a.root a.table.now m l.counts)
-          (end ∙ add-one a.f.last) (l.invariant.3 q);
+          (end ∙ add-one a.f.last) (l.invariant.2 q);
       table = c.clear.ensures ∙ ap (λ m. cleared m l.table) c.need.ensures ∙
           ap (cleared (a.f.rows * a.f.width))
           (rows_end single single_sound (count_makes o.of.P) (rows_of (scheme_in o.of.s)) a.f.last o.of.s l.j
-          a.f.last a.table.now l.table end (l.invariant.2 o)) ∙
+          a.f.last a.table.now l.table end (l.invariant.1 o)) ∙
           walked_cleared single single_sound (count_makes o.of.P) (rows_of (scheme_in o.of.s)) a.f.last o.of.s a.f.last
           (a.f.rows * a.f.width) a.table.now (omega arith) (omega arith) (omega (arith, ap₂ ◌*◌ o.rows_are o.width_is));
     }

@@ -1,5 +1,4 @@
--- The invariant and the measure of the loop of `count_rows::run::all_values`.
-use Prim.Native.Nat.{◌+◌, ◌-◌, ◌≤◌}
+-- The invariant of the loop of `count_rows::run::all_values`.
 use mathlib.Core.Path.{◌≡◌}
 use lib.ListN.{length}
 use Rattle.count_walk.specs.Cells.{rows_from}
@@ -11,9 +10,6 @@ use Rattle.count_rows.proofs.run.all_values.Given as goal
 
 abbrev pub invariant-loop-j : goal.invariant-loop-j
 invariant-loop-j l =
-    (length l.table ≡ length l.initial.table) × (l.j ≤ l.f.last + 1) ×
+    (length l.table ≡ length l.initial.table) ×
     ((o : Framed l.sheet l.places l.f) → l.table ≡ count_walked o.of.P l.f.last o.of.s (rows_from o.of.s 0 l.j) l.initial.table) ×
     ((o : RootGiven l.sheet l.places l.f l.root) → ValuesTo o.framed.of.P l.f.last o.framed.of.s l.root l.initial.table l.j l.counts)
-
-abbrev pub decreases-loop-j : goal.decreases-loop-j
-decreases-loop-j l = l.f.last + 1 - l.j

@@ -12,7 +12,7 @@ use Rattle.count_step.proofs.cells.part_sum.Goals as goal
 pub loop-z-init : goal.loop-z-init
 loop-z-init c =
     let a = c.args in
-    (omega arith, part_start LARGEST a.table.now a.at a.col a.first a.n)
+    part_start LARGEST a.table.now a.at a.col a.first a.n
 
 pub overflow_add-at : goal.overflow_add-at
 overflow_add-at c =
@@ -22,16 +22,13 @@ overflow_add-at c =
 pub loop-z-preserved : goal.loop-z-preserved
 loop-z-preserved c =
     let a = c.args in
-    let l = c.loop-z in (
-      l.invariant.0,
-      part_more LARGEST a.table.now a.at a.col a.first a.n (a.first + a.n) l.sum l.z l.invariant.1
-          c.read-x.result c.capped_sum-sum.result (omega arith)
-          (c.read-x.ensures ∙ ap (λ i. get_or a.table.now (a.at + i) 0)
-          c.choose.ensures) c.capped_sum-sum.ensures,
-    )
+    let l = c.loop-z in
+    part_more LARGEST a.table.now a.at a.col a.first a.n (a.first + a.n) l.sum l.z l.invariant
+    c.read-x.result c.capped_sum-sum.result (omega arith)
+    (c.read-x.ensures ∙ ap (λ i. get_or a.table.now (a.at + i) 0) c.choose.ensures) c.capped_sum-sum.ensures
 
 pub returns : goal.returns
 returns c =
     let a = c.args in
     let l = c.loop-z in
-    part_end LARGEST a.table.now a.at a.col a.first a.n (a.first + a.n) l.sum l.z l.invariant.1 (omega arith)
+    part_end LARGEST a.table.now a.at a.col a.first a.n (a.first + a.n) l.sum l.z l.invariant (omega arith)

@@ -1,12 +1,8 @@
--- The invariant and the measure of the loop of `count_step::cells::part_sum`.
-use Prim.Native.Nat.{◌-◌, ◌≤◌}
-use Rattle.word.specs.Ceilings.{COUNTS}
+-- The invariant of the loop of `count_step::cells::part_sum`.
+use Prim.Native.Nat.{◌+◌}
 use Rattle.count_step.proofs.SumLaws.{Part}
 use Rattle.count_step.specs.Step.{LARGEST}
 use Rattle.count_step.proofs.cells.part_sum.Given as goal
 
 abbrev pub invariant-loop-z : goal.invariant-loop-z
-invariant-loop-z l = (l.end ≤ COUNTS) × Part LARGEST l.table l.at l.col l.first l.n l.end l.sum l.z
-
-abbrev pub decreases-loop-z : goal.decreases-loop-z
-decreases-loop-z l = l.end - l.z
+invariant-loop-z l = Part LARGEST l.table l.at l.col l.first l.n (l.first + l.n) l.sum l.z

@@ -3,10 +3,9 @@
 use borrow.Author.Rules.{rules}
 use native.Mathlib.Omega.{arith}
 use Prim.Native.Nat.{◌+◌}
-use mathlib.Core.Path.{◌≡◌, ap, ◌∙◌}
+use mathlib.Core.Path.{◌≡◌, ◌∙◌}
 use lib.ListN.{length, set, length-set}
 use Rattle.word.specs.Ceilings.{COMPONENTS}
-use Rattle.spacing.specs.Following.{first_vector}
 use Rattle.spacing.specs.PascalLaws.{binomial_small}
 use Rattle.count_step.specs.Task.{spacing_in, task_step}
 use Rattle.count_step.proofs.FillLaws.{filling_start, filling_more, filling_end}
@@ -19,7 +18,7 @@ loop-p-init c =
     let seven : length c.first_spacing-next.result ≡ COMPONENTS = search rules in (
       filling_start set length-set (task_step t a.gaps.now) t.length t.total a.at a.size c.requires.2
           a.table.now (spacing_in t.length c.first_spacing-next.result)
-          (c.first_spacing-next.ensures ∙ ap (first_vector t.length) c.narrow.ensures),
+          c.first_spacing-next.ensures,
       seven,
     )
 

@@ -1,5 +1,4 @@
--- The invariant and the measure of the loop of `count_step::filling::fill_cells`.
-use Prim.Native.Nat.{◌-◌}
+-- The invariant of the loop of `count_step::filling::fill_cells`.
 use mathlib.Core.Path.{◌≡◌}
 use lib.ListN.{length, set}
 use Rattle.word.specs.Ceilings.{COMPONENTS}
@@ -12,6 +11,3 @@ invariant-loop-p l =
     Filling set (task_step l.task l.gaps) l.task.length l.task.total l.at l.size l.p l.initial.table l.table
     (spacing_in l.task.length l.next) ×
     (length l.next ≡ COMPONENTS)
-
-abbrev pub decreases-loop-p : goal.decreases-loop-p
-decreases-loop-p l = l.size - l.p

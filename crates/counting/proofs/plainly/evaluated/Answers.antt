@@ -1,34 +1,30 @@
--- `counting::plainly::evaluated` meets its contract: the arrays hold the patterns.
+-- `counting::plainly::evaluated` meets its contract: the slice holds the patterns.
 -- Assumes nothing.
-use Prim.Native.Nat.{ℕ}
 use mathlib.Core.Path.{◌≡◌, ap, ◌∙◌}
 use mathlib.Core.List.{List}
+use Prim.Native.Nat.{ℕ}
 use lib.ListN.{length}
 use Rattle.word.specs.Ceilings.{PATTERNS}
-use Rattle.forms.specs.SchemeMemory.{scheme_in}
-use Rattle.scheme.specs.SetLaws.{set_holds}
+use Rattle.forms.specs.SchemeMemory.{patterns_in, scheme_in}
+use Rattle.forms.specs.SetMemory.{held_in}
+use Rattle.scheme.specs.SetLaws.{slice_holds}
 use Rattle.verdict.specs.Value.{count_of}
 use borrow.Author.Rules.{rules}
 use Rattle.counting.proofs.plainly.evaluated.Goals as goal
+use Rattle.counting.proofs.plainly.evaluated.Goals.{After-as_slice}
+
+holds : (c : After-as_slice) → held_in c.as_slice.result.now ≡ patterns_in c.args.patterns
+holds c =
+    let room : length c.args.patterns.items ≡ PATTERNS = (let o = c.well_formed in search rules) in
+    ap held_in c.as_slice.ensures ∙ slice_holds c.args.patterns c.requires.1.patterns room
 
 pub plain_count-requires : goal.plain_count-requires
 plain_count-requires c =
-    let a = c.args in
     let q = c.requires in
-    let r = c.rows_of-rows in
-    let k = c.lengths_of-lengths in
-    let hr : length r.result ≡ PATTERNS = search rules in
-    let hk : length k.result ≡ PATTERNS = search rules in
-    let holds = set_holds a.patterns q.1.patterns r.result k.result hr hk r.ensures k.ensures in
-    (q.0, rw holds q.1, rw holds q.2)
+    let h = holds (goal.at.plain_count-requires c).After-as_slice in
+    (q.0, rw h q.1, rw h q.2)
 
 pub returns : goal.returns
 returns c =
     let a = c.args in
-    let q = c.requires in
-    let r = c.rows_of-rows in
-    let k = c.lengths_of-lengths in
-    let hr : length r.result ≡ PATTERNS = search rules in
-    let hk : length k.result ≡ PATTERNS = search rules in
-    let holds = set_holds a.patterns q.1.patterns r.result k.result hr hk r.ensures k.ensures in
-    c.plain_count.ensures ∙ ap (λ (P : List (List ℕ)). count_of P (scheme_in a.scheme) a.n) holds
+    c.plain_count.ensures ∙ ap (λ (P : List (List ℕ)). count_of P (scheme_in a.scheme) a.n) (holds (goal.at.returns c).After-as_slice)
