@@ -1,26 +1,24 @@
 -- The avoiders as they are listed one after the other (02, order 2). Definitions only.
-use Rattle.std.specs.Prelude.{ℕ, ◌≤◌, ◌≡◌, Bool, true, false, cond, List, [], length, take}
-use Rattle.std.proofs.Math.Option.{Option, none, some}
+use Rattle.std.specs.Prelude.{ℕ, ◌≤◌, ◌≡◌, Bool, true, false, List, [], length, take, Option, Some, None, Ok, Err}
+use Rattle.std.proofs.Math.Option.{Option as Maybe, none, some}
 use Rattle.word.specs.Ceilings.{WORD}
 use Rattle.word.specs.Word.{avoiders}
 use Rattle.word.specs.Finding.{Finding, clean, fault, first_fault}
-use Rattle.lexicographic.specs.Answers.{first_tests}
-use Rattle.lexicographic.specs.declared.answer.Listed.{Listed}
-use Rattle.lexicographic.specs.declared.answer.Listed.TheVariants.{Given, Nothing, Refused}
-use Rattle.avoider_lines.specs.declared.listing.Found.{Found}
+use Rattle.lexicographic.specs.Answers.{Listed, first_tests}
 use Rattle.avoider_lines.specs.declared.writing.Printed.{Printed}
 
 abbrev pub is_given : Listed → Bool
-is_given Given = true
-is_given Nothing = false
-is_given (Refused r i) = false
+is_given (Ok true) = true
+is_given (Ok false) = false
+is_given (Err e) = false
 
 -- the avoider of length n in memory, or none
-abbrev pub shown : ℕ → Found → Option (List ℕ)
-shown n r = cond r.there (some (take n r.word)) none
+abbrev pub shown : ℕ → Option (List ℕ) → Maybe (List ℕ)
+shown n (Some w) = some (take n w)
+shown n None = none
 
 -- the avoider, and none where the tests find a fault
-abbrev pub unless_fault : Finding → Option (List ℕ) → Option (List ℕ)
+abbrev pub unless_fault : Finding → Maybe (List ℕ) → Maybe (List ℕ)
 unless_fault clean o = o
 unless_fault (fault r i) o = none
 

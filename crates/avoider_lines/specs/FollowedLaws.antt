@@ -16,14 +16,13 @@ use Rattle.word.specs.ListingLaws.{next_behind}
 use Rattle.word.specs.AscendLaws.{ascends, avoiders_are, avoiders_ascend}
 use Rattle.word.specs.PermLaws.{length_perms}
 use Rattle.word.specs.Finding.{Finding, clean, fault, first_fault}
-use Rattle.forms.specs.declared.memory.Fault.TheVariants.{Clean}
+use Rattle.std.specs.Prelude.{Ok}
 use Rattle.scheme.specs.FindingLaws.{clean_finding}
 use Rattle.verdict.specs.Size.{VALUES}
 use Rattle.verdict.specs.ValueLaws.{factorial_fits}
 use Rattle.table_lines.specs.CallerLaws.{take_least}
-use Rattle.lexicographic.specs.Answers.{first_tests, next_tests, Lists, ListsFirst, ListsNext}
+use Rattle.lexicographic.specs.Answers.{Listed, first_tests, next_tests, Lists, ListsFirst, ListsNext}
 use Rattle.lexicographic.proofs.TestLaws.{next_clean, first_passed}
-use Rattle.lexicographic.specs.declared.answer.Listed.{Listed}
 use Rattle.avoider_lines.specs.Followed.{is_given, unless_fault, listed_if, listed}
 
 -- what stands on the page where it was given is the avoider
@@ -166,7 +165,7 @@ module _ (P : List (List ℕ)) (n : ℕ) where
     next_passed =
         let first = first_passed P n WORD passed in
         let short : length w ≤ WORD = omega (arith, is.1, first.small) in
-        clean_finding (first_fault (next_tests P w WORD)) Clean (next_clean P first.formed w WORD short is.0 is.2 short) refl
+        clean_finding (first_fault (next_tests P w WORD)) (Ok tt) (next_clean P first.formed w WORD short is.0 is.2 short) refl
 
     -- one line more, and the next at hand
     follow_more : Follow P n (unless_fault (first_fault (next_tests P w WORD)) (next_avoider P w)) (k + 1)

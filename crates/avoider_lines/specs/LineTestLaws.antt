@@ -1,46 +1,44 @@
 -- Laws of what two lines ask for: the kept part of a line decides, and where nothing is wrong the
 -- set passes its tests.
-use Rattle.std.specs.Prelude.{ℕ, suc, ◌≤◌, ◌<◌, ◌≡◌, refl, Bool, true, false, cond, List, [], ◌∷◌, length, take, ltb}
+use Rattle.std.specs.Prelude.{ℕ, suc, ◌≤◌, ◌<◌, ◌≡◌, refl, Bool, true, false, cond, List, [], ◌∷◌, length, take, ltb, Option}
+use Rattle.std.specs.Prelude.{Some, None, Result, Ok, Err, IfOk}
 use Rattle.std.proofs.Common.{sym, ap, ap₂, subst, ◌∙◌, ltb-false, lt-ltb, le-ltb}
-use Rattle.std.proofs.Math.Option.{Option, none, some}
+use Rattle.std.proofs.Math.Option.{Option as Maybe, none, some}
 use Rattle.word.specs.Ceilings.{PATTERN_TEXT, WORD}
-use Rattle.word.specs.Finding.{Finding, fault, test, first_fault}
-use Rattle.word.specs.declared.refusal.Refusal.{Refusal}
+use Rattle.word.specs.Finding.{Finding, clean, fault, test, first_fault}
 use Rattle.word.specs.declared.refusal.Refusal.TheVariants.{Misspelt, Oversize}
 use Rattle.word.specs.ListLaws.{true_not_false}
 use Rattle.scheme.specs.WellFormed.{pattern_tests}
-use Rattle.forms.specs.SchemeMemory.{patterns_in, fault_of, or_else, faulty}
+use Rattle.forms.specs.SchemeMemory.{Fault, patterns_in, fault_of, or_else, faulty}
 use Rattle.forms.specs.declared.memory.Patterns.{Patterns}
-use Rattle.forms.specs.declared.memory.Fault.{Fault}
-use Rattle.forms.specs.declared.memory.Fault.TheVariants.{Clean, At}
+use Rattle.word.specs.Refusal.{refused_at}
+use Rattle.word.specs.declared.refusal.Refused.{Refused}
 use Rattle.text_grammar.specs.Grammar.{read_patterns}
 use Rattle.text_grammar.specs.Tokens.{tokens}
 use Rattle.text_patterns.specs.PatternMemory.{loaded_patterns}
-use Rattle.notation.specs.Answers.{found_from, answer_from, answer_to}
-use Rattle.notation.specs.PatternAnswers.{refused_patterns, tested_patterns, read_or, patterns_answer}
-use Rattle.notation.specs.declared.patterns.PatternsRead.{PatternsRead}
+use Rattle.notation.specs.Answers.{found_from, answer_from, answer_to, read_fault, read_list}
+use Rattle.notation.specs.PatternAnswers.{PatternsRead, refused_patterns, tested_patterns, read_or, patterns_answer}
 use Rattle.notation.proofs.AnswerLaws.{answer_cut}
 use Rattle.notation.proofs.PatternAnswerLaws.{answered}
 use Rattle.wellformed.proofs.OrderLaws.{two_faults}
 use Rattle.table_lines.specs.Lines.{number_in}
 use Rattle.table_lines.specs.Kept.{set_room, Memory, kept_of, as_number}
-use Rattle.table_lines.specs.declared.input.Number.{Number}
-use Rattle.table_lines.specs.declared.input.Number.TheVariants.{Is, Misspelt as NoNumber}
 use Rattle.avoider_lines.specs.TwoLines.{Two, two_lines, is_two, held_two, two_in}
 use Rattle.avoider_lines.specs.TwoLineLaws.{fronts_if, kept_two}
-use Rattle.avoider_lines.specs.LineTests.{set_found, length_found, value_of, Asks, AsksFor}
+use Rattle.avoider_lines.specs.LineTests.{set_found, length_found, value_of, patterns_or, line_tests, set_asked, length_asked}
+use Rattle.avoider_lines.specs.LineTests.{Asks, AsksFor, AsksBy}
 use Rattle.avoider_lines.specs.declared.judging.Asked.{Asked}
 
 -- the fault in the answer to a text is what the tests of the first line find
-pub set_found_lem : (s : List ℕ) → (patterns_answer s).fault ≡ fault_of (set_found s)
+pub set_found_lem : (s : List ℕ) → read_fault (patterns_answer s) ≡ fault_of (set_found s)
 set_found_lem s = split (ltb PATTERN_TEXT (length s)) (read_patterns (tokens s))
   where
-    or_fault : (f : Fault) (m : Patterns) → (read_or f m).fault ≡ f
-    or_fault Clean m = refl
-    or_fault (At r i) m = refl
+    or_fault : (f : Fault) (m : Patterns) → read_fault (read_or f m) ≡ f
+    or_fault (Ok u) m = refl
+    or_fault (Err e) m = refl
 
-    split : (b : Bool) (o : Option (List (List ℕ))) →
-        (cond b (refused_patterns Oversize 0) (answer_from refused_patterns tested_patterns o)).fault ≡
+    split : (b : Bool) (o : Maybe (List (List ℕ))) →
+        read_fault (cond b (refused_patterns Oversize 0) (answer_from refused_patterns tested_patterns o)) ≡
         fault_of (cond b (fault Oversize 0) (found_from pattern_tests o))
     split true o = refl
     split false none = refl
@@ -61,7 +59,7 @@ set_cut s = answer_cut refused_patterns tested_patterns PATTERN_TEXT read_patter
 found_answer : (s : List ℕ) → set_found s ≡ answer_to fault (λ P. first_fault (pattern_tests P)) PATTERN_TEXT read_patterns s
 found_answer s = split (read_patterns (tokens s))
   where
-    split : (o : Option (List (List ℕ))) → cond (ltb PATTERN_TEXT (length s)) (fault Oversize 0) (found_from pattern_tests o) ≡
+    split : (o : Maybe (List (List ℕ))) → cond (ltb PATTERN_TEXT (length s)) (fault Oversize 0) (found_from pattern_tests o) ≡
         cond (ltb PATTERN_TEXT (length s)) (fault Oversize 0) (answer_from fault (λ P. first_fault (pattern_tests P)) o)
     split none = refl
     split (some P) = refl
@@ -71,87 +69,109 @@ found_cut s =
     found_answer (take set_room s) ∙ answer_cut fault (λ (P : List (List ℕ)). first_fault (pattern_tests P)) PATTERN_TEXT read_patterns s ∙
     sym (found_answer s)
 
-asks_fronts : (o : Option Two) (r : Asked) → Asks (fronts_if o) r → Asks o r
+asks_fronts : (o : Maybe Two) (r : Result Asked Refused) → Asks (fronts_if o) r → Asks o r
 asks_fronts none r a = a
-asks_fronts (some t) r a =
-    let number = ap as_number (number_cut 32766 t.last) in
-    record {
-      fault = a.fault ∙
-          ap₂ (λ (x : Finding) (m : Number). fault_of (first_fault (x ∷ length_found m ∷ []))) (found_cut t.set) number;
-      patterns = a.patterns ∙ ap (λ (p : PatternsRead). p.patterns) (set_cut t.set);
-      length = a.length ∙ ap value_of number;
-    }
+asks_fronts (some t) r a = by r a.fault a.patterns a.length
+  where
+    number : as_number (number_in (take (suc (suc (suc 32766))) t.last)) ≡ as_number (number_in t.last)
+    number = ap as_number (number_cut 32766 t.last)
 
--- r is what a set that was read and a number ask for
-abbrev pub AsksBy : PatternsRead → Number → Asked → Type 0
-AsksBy p m r = (r.fault ≡ or_else p.fault (fault_of (length_found m))) × (r.patterns ≡ p.patterns) × (r.length ≡ value_of m)
+    same : (f : Fault) → f ≡ fault_of (first_fault (set_found (take set_room t.set) ∷ length_found
+        (as_number (number_in (take (suc (suc (suc 32766))) t.last))) ∷ []))
+        → f ≡ fault_of (first_fault (set_found t.set ∷ length_found (as_number (number_in t.last)) ∷ []))
+    same f e = e ∙ ap₂ (λ (x : Finding) (m : Option ℕ). fault_of (first_fault (x ∷ length_found m ∷ []))) (found_cut t.set) number
 
-asks_lines : (t : Two) (r : Asked) → AsksBy (patterns_answer t.set) (as_number (number_in t.last)) r → Asks (some t) r
-asks_lines t r a =
-    let m = as_number (number_in t.last) in
-    record {
-      fault = a.0 ∙ ap (λ (f : Fault). or_else f (fault_of (length_found m))) (set_found_lem t.set) ∙
-          sym (two_faults (set_found t.set) (length_found m));
-      patterns = a.1;
-      length = a.2;
-    }
+    by : (q : Result Asked Refused) → read_fault q ≡ fault_of (first_fault (line_tests (fronts_if (some t))))
+        → IfOk q (λ x. x.patterns ≡ set_asked (fronts_if (some t))) → IfOk q (λ x. x.length ≡ length_asked (fronts_if (some t)))
+        → Asks (some t) q
+    by (Ok x) e f g =
+        record { fault = same _ e; patterns = f ∙ ap patterns_or (set_cut t.set); length = g ∙ ap value_of number }
+    by (Err x) e f g = record { fault = same _ e; patterns = tt; length = tt }
+
+asks_lines : (t : Two) (r : Result Asked Refused) → AsksBy (patterns_answer t.set) (as_number (number_in t.last)) r → Asks (some t) r
+asks_lines t r a = by r a
+  where
+    m : Option ℕ
+    m = as_number (number_in t.last)
+
+    same : (f : Fault) → f ≡ or_else (read_fault (patterns_answer t.set)) (fault_of (length_found m))
+        → f ≡ fault_of (first_fault (set_found t.set ∷ length_found m ∷ []))
+    same f e = e ∙ ap (λ (g : Fault). or_else g (fault_of (length_found m))) (set_found_lem t.set) ∙
+        sym (two_faults (set_found t.set) (length_found m))
+
+    by : (q : Result Asked Refused) → AsksBy (patterns_answer t.set) m q → Asks (some t) q
+    by (Ok x) b = record { fault = same _ b.0; patterns = b.1.0; length = b.1.1 }
+    by (Err x) b = record { fault = same _ b.0; patterns = tt; length = tt }
 
 -- what is asked for by the lines in memory is asked for by those of the input
-held_kept : (memory : Memory) (r : Asked) → Asks (two_in memory) r → (input : List ℕ) → memory ≡ kept_of input → Asks (two_lines input) r
+held_kept : (memory : Memory) (r : Result Asked Refused) → Asks (two_in memory) r → (input : List ℕ) → memory ≡ kept_of input →
+    Asks (two_lines input) r
 held_kept memory r a input e =
-    asks_fronts (two_lines input) r (subst (λ (o : Option Two). Asks o r) (ap two_in e ∙ kept_two input) a)
+    asks_fronts (two_lines input) r (subst (λ (o : Maybe Two). Asks o r) (ap two_in e ∙ kept_two input) a)
 
-fault_ne_clean : (r : Refusal) (i : ℕ) → At r i ≡ Clean → ⊥
-fault_ne_clean r i e = true_not_false (ap faulty e)
+err_ne_ok : (e : Refused) → ◌≡◌ {A = Fault} (Err e) (Ok tt) → ⊥
+err_ne_ok e h = true_not_false (ap faulty h)
 
 -- a length that passes its tests is within the ceiling
-length_within : (m : Number) → fault_of (length_found m) ≡ Clean → value_of m ≤ WORD
-length_within NoNumber e = absurd (fault_ne_clean Misspelt 0 e)
-length_within (Is n) e = split (ltb WORD n) refl e
+length_within : (m : Option ℕ) → fault_of (length_found m) ≡ Ok tt → value_of m ≤ WORD
+length_within None e = absurd (err_ne_ok (refused_at Misspelt 0) e)
+length_within (Some n) e = split (ltb WORD n) refl e
   where
-    split : (b : Bool) → ltb WORD n ≡ b → fault_of (test Oversize b) ≡ Clean → n ≤ WORD
-    split true h k = absurd (fault_ne_clean Oversize 0 k)
+    split : (b : Bool) → ltb WORD n ≡ b → fault_of (test Oversize b) ≡ Ok tt → n ≤ WORD
+    split true h k = absurd (err_ne_ok (refused_at Oversize 0) k)
     split false h k = ltb-false WORD n h
 
-both_clean : (a b : Fault) → or_else a b ≡ Clean → (a ≡ Clean) × (b ≡ Clean)
-both_clean Clean b e = (refl, e)
-both_clean (At r i) b e = absurd (fault_ne_clean r i e)
+both_clean : (a b : Fault) → or_else a b ≡ Ok tt → (a ≡ Ok tt) × (b ≡ Ok tt)
+both_clean (Ok u) b e = (refl, e)
+both_clean (Err x) b e = absurd (err_ne_ok x e)
 
-module _ (memory : Memory) (r : Asked) where
+read_same : (p : PatternsRead) → read_fault p ≡ Ok tt → read_list patterns_in p ≡ patterns_in (patterns_or p)
+read_same (Ok m) e = refl
+read_same (Err x) e = absurd (err_ne_ok x e)
+
+module _ (memory : Memory) where
   -- a line is missing, or there is a third
-  pub asks_missing : is_two memory.lines ≡ false → Asks none r → AsksFor memory r
-  asks_missing e a =
-      let held : Asks (two_in memory) r =
-      subst (λ (b : Bool). Asks (cond b (some (held_two memory)) none) r) (sym e) a in
-      record {
-        held = held;
-        kept = held_kept memory r held;
-        passes = λ c. absurd (fault_ne_clean Misspelt 0 (sym a.fault ∙ c));
-      }
+  pub asks_missing : is_two memory.lines ≡ false → (x : Refused) → x ≡ refused_at Misspelt 0 → AsksFor memory (Err x)
+  asks_missing e x f =
+      let none_asked : Asks none (Err x) = record { fault = ap refusal f; patterns = tt; length = tt } in
+      let held : Asks (two_in memory) (Err x) =
+      subst (λ (b : Bool). Asks (cond b (some (held_two memory)) none) (Err x)) (sym e) none_asked in
+      record { held = held; kept = held_kept memory (Err x) held; passes = tt }
+    where
+      refusal : Refused → Fault
+      refusal y = Err y
 
   -- both lines are there
   pub asks_both : is_two memory.lines ≡ true → (p : PatternsRead) →
-      p ≡ patterns_answer (held_two memory).set → (m : Number) → m ≡ as_number (number_in (held_two memory).last) →
-      AsksBy p m r → AsksFor memory r
-  asks_both e p answers m number a =
-      let t = held_two memory in
-      let reads = (answered t.set p answers).1 in
-      let lines : Asks (some t) r =
-      asks_lines t r (subst (λ (q : PatternsRead). AsksBy q (as_number (number_in t.last)) r) answers
-      (subst (λ (k : Number). AsksBy p k r) number a)) in
-      let held : Asks (two_in memory) r = subst (λ (b : Bool). Asks (cond b (some t) none) r) (sym e) lines in
-      record {
-        held = held;
-        kept = held_kept memory r held;
-        passes = λ c. let both = both_clean p.fault (fault_of (length_found m)) (sym a.0 ∙ c) in (
-          ap (λ (q : Patterns). first_fault (pattern_tests (patterns_in q))) a.1 ∙ reads.passes both.0,
-          subst (λ (k : ℕ). k ≤ WORD) (sym a.2) (length_within m both.1),
-        );
-      }
+      p ≡ patterns_answer (held_two memory).set → (m : Option ℕ) → m ≡ as_number (number_in (held_two memory).last) →
+      (r : Result Asked Refused) → AsksBy p m r → AsksFor memory r
+  asks_both e p answers m number r a =
+      record { held = held; kept = held_kept memory r held; passes = by r a }
+    where
+      t : Two
+      t = held_two memory
+
+      lines : Asks (some t) r
+      lines = asks_lines t r (subst (λ (q : PatternsRead). AsksBy q (as_number (number_in t.last)) r) answers
+          (subst (λ (k : Option ℕ). AsksBy p k r) number a))
+
+      held : Asks (two_in memory) r
+      held = subst (λ (b : Bool). Asks (cond b (some t) none) r) (sym e) lines
+
+      by : (q : Result Asked Refused) → AsksBy p m q
+          → IfOk q (λ x. (first_fault (pattern_tests (patterns_in x.patterns)) ≡ clean) × (x.length ≤ WORD))
+      by (Err x) b = tt
+      by (Ok x) b =
+          let both = both_clean (read_fault p) (fault_of (length_found m)) (sym b.0) in (
+            ap (λ (q : Patterns). first_fault (pattern_tests (patterns_in q))) b.1.0
+                ∙ sym (ap (λ (l : List (List ℕ)). first_fault (pattern_tests l)) (read_same p both.0))
+                ∙ (answered t.set p answers).1.passes both.0,
+            subst (λ (k : ℕ). k ≤ WORD) (sym b.1.1) (length_within m both.1),
+          )
 
 -- the length, as the code tests it
-pub length_large : (n : ℕ) → WORD < n → At Oversize 0 ≡ fault_of (length_found (Is n))
+pub length_large : (n : ℕ) → WORD < n → Err (refused_at Oversize 0) ≡ fault_of (length_found (Some n))
 length_large n h = rw (lt-ltb WORD n h) refl
 
-pub length_small : (n : ℕ) → n ≤ WORD → Clean ≡ fault_of (length_found (Is n))
+pub length_small : (n : ℕ) → n ≤ WORD → Ok tt ≡ fault_of (length_found (Some n))
 length_small n h = rw (le-ltb WORD n h) refl

@@ -4,9 +4,7 @@ ghost use Rattle.text_page.specs.Page.{Writes};
 ghost use Rattle.text_page.specs.Decimal.{NUMERAL, decimal};
 ghost use Rattle.avoider_lines.specs.LineText.{LINE, line_of};
 
-use table_lines::input::least;
 use text_page::bytes::{put, put_decimal};
-use word::bytes::long;
 use word::limits::WORD;
 
 // A page of so many bytes is always enough (specs/LineText.antt).
@@ -16,15 +14,13 @@ pub const LINE: usize = WORD * 21 + 1;
 pub fn put_line(page: &mut [u8], word: [u8; WORD], n: usize) -> usize
     ensures { Writes (line_of (take n word)) 0 page.old page.new result × (result ≤ LINE) }
 {
-    let count = least(n, WORD);
+    let count = n.min(WORD);
     if count == 0 {
         return put(page, 0, b'\n');
     }
-    let mut next = put_decimal(page, 0, long(word[0]));
-    let mut i: usize = 1;
-    while i < count {
+    let mut next = put_decimal(page, 0, u64::from(word[0]));
+    for i in 1..count {
         next = put_entry(page, next, word[i]);
-        i += 1;
     }
     put(page, next, b'\n')
 }
@@ -35,5 +31,5 @@ fn put_entry(page: &mut [u8], at: usize, entry: u8) -> usize
     ensures { Writes (0x20 ∷ decimal entry) at page.old page.new result × (result ≤ at + (NUMERAL + 1)) }
 {
     let next = put(page, at, b' ');
-    put_decimal(page, next, long(entry))
+    put_decimal(page, next, u64::from(entry))
 }

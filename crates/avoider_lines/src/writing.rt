@@ -27,8 +27,7 @@ pub fn write_avoiders(output: Stdout, patterns: Patterns, n: usize) -> Printed
 {
     let mut found = first_word(patterns, n);
     let mut lines: u64 = 0;
-    while found.there {
-        let word = found.word;
+    while let Some(word) = found {
         if let Err(e) = write_line(output, word, patterns, n, lines) {
             return Printed {
                 lines,
@@ -37,8 +36,7 @@ pub fn write_avoiders(output: Stdout, patterns: Patterns, n: usize) -> Printed
             };
         }
         lines += 1;
-        let next = next_word(patterns, word, n);
-        found = next;
+        found = next_word(patterns, word, n);
     }
     Printed {
         lines,

@@ -5,12 +5,12 @@
 
 use avoider_lines::judging::asked_for;
 use avoider_lines::writing::write_avoiders;
-use forms::memory::{Fault, Patterns};
+use forms::memory::Patterns;
 use std::io::{Error, Write};
 use table_lines::input::{Lines, SCHEME, SET};
 use table_reading::{State, read_all};
 use table_text::printing::{PAGE, put_refusal};
-use word::refusal::Refusal;
+use word::refusal::Refused;
 
 fn main(rt: HostRuntime) -> std::io::Result<()> {
     // the texts of the two lines stand here and are lent
@@ -34,13 +34,9 @@ fn read_failed(rt: HostRuntime, error: i32) -> std::io::Result<()> {
 
 // Prints the avoiders that the lines ask for, or the line of a refusal.
 fn answer(rt: HostRuntime, lines: Lines, set: &[u8], second: &[u8]) -> std::io::Result<()> {
-    let asked = asked_for(lines, set, second);
-    let fault = asked.fault;
-    let patterns = asked.patterns;
-    let length = asked.length;
-    match fault {
-        Fault::Clean => print_avoiders(rt, patterns, length),
-        Fault::At(refusal, index) => print_refusal(rt, refusal, index),
+    match asked_for(lines, set, second) {
+        Ok(asked) => print_avoiders(rt, asked.patterns, asked.length),
+        Err(refused) => print_refusal(rt, refused),
     }
 }
 
@@ -55,9 +51,9 @@ fn print_avoiders(rt: HostRuntime, patterns: Patterns, length: usize) -> std::io
 }
 
 // Prints the line of a refusal.
-fn print_refusal(rt: HostRuntime, refusal: Refusal, index: usize) -> std::io::Result<()> {
+fn print_refusal(rt: HostRuntime, refused: Refused) -> std::io::Result<()> {
     let mut page = [0u8; PAGE];
-    let n = put_refusal(&mut page, refusal, index);
+    let n = put_refusal(&mut page, refused.refusal, refused.index);
     let mut output = rt.stdout();
     if let Err(why) = output.write_all(&page[..n]) {
         eprintln!(rt; "avoiders: writing standard output: {why}")?;

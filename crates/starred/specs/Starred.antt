@@ -1,6 +1,8 @@
 -- The starred examples of document 01, and examples of orders 1, 3, 4 and 5 of document 02: one
 -- table, and one theorem for all of it.
-use Rattle.std.specs.Prelude.{ℕ, suc, ◌≡◌, refl, Bool, true, List, [], ◌∷◌, ◌++◌, map, length, replicate, eqb}
+use Rattle.std.specs.Prelude.{ℕ, suc, ◌≡◌, refl, Bool, true, false, List, [], ◌∷◌, ◌++◌, map, length, replicate, eqb, is_some, Ok}
+use Rattle.std.specs.Prelude.{Err, Result}
+use Rattle.std.specs.Prelude.{Option as Maybe}
 use Prim.Native.String.{String}
 use Rattle.std.proofs.Math.Option.{Option, none, some}
 use Rattle.word.specs.Lists.{all, keep, each, row}
@@ -8,27 +10,24 @@ use Rattle.word.specs.Word.{first_copy, reduce, is_perm}
 use Rattle.word.specs.Inversions.{figures}
 use Rattle.word.specs.Told.{Told}
 use Rattle.word.specs.Earliest.{earliest, positions_of}
+use Rattle.word.specs.Refusal.{refused_at}
+use Rattle.word.specs.declared.refusal.Refused.{Refused}
 use Rattle.containment.specs.Containment.{containment}
-use Rattle.containment.specs.declared.Contained.{Contained}
-use Rattle.containment.specs.declared.Contained.TheVariants.{Yes, No}
 use Rattle.word.specs.declared.refusal.Refusal.TheVariants.{Rootless, NoPosition, LiveGap, Irreversible}
 use Rattle.cell.specs.Basis.{same, basis}
 use Rattle.cell.specs.Cell.{spacing, cell, deleted, merged, vectors, free, total, children, m_of, compared_to}
 use Rattle.forms.specs.SchemeList.{Does, expands, deletes, EntryList}
-use Rattle.forms.specs.SchemeMemory.{patterns_in, scheme_in}
-use Rattle.forms.specs.declared.memory.Fault.{Fault}
-use Rattle.forms.specs.declared.memory.Fault.TheVariants.{At}
+use Rattle.forms.specs.SchemeMemory.{Fault, patterns_in, scheme_in}
 use Rattle.text_grammar.specs.Tokens.{tokens, tokens_after, token_at}
 use Rattle.text_grammar.specs.Grammar.{items_of, read_patterns, read_entries}
 use Rattle.text_patterns.specs.PatternMemory.{loaded_patterns}
 use Rattle.text_gaps.specs.GapMemory.{parts_of_all, widths_of}
 use Rattle.text_schemes.specs.SchemeLoaded.{loaded_scheme}
+use Rattle.notation.specs.Answers.{read_fault, read_list}
 use Rattle.notation.specs.PatternAnswers.{patterns_answer}
 use Rattle.notation.specs.SchemeAnswers.{scheme_answer}
-use Rattle.verdict.specs.Verdict.{verdict_of, told_verdict, compared_cells_under, live_gap, differs_under, sizes_differ}
+use Rattle.verdict.specs.Verdict.{Verdict, verdict_of, told_verdict, compared_cells_under, live_gap, differs_under, sizes_differ}
 use Rattle.verdict.specs.Verdict.{compared_with_under}
-use Rattle.verdict.specs.declared.answer.Verdict.{Verdict}
-use Rattle.verdict.specs.declared.answer.Verdict.TheVariants.{Accepted, Refused}
 use Rattle.judge_texts.specs.TextJudgement.{verdict_of_texts, verdict_read_on, page_read}
 use Rattle.verdict.specs.Witness.{shown_word_under, shown_word}
 use Rattle.verdict.specs.Value.{count_of}
@@ -66,7 +65,7 @@ pub data Question : Type 0 where
 
 -- the answer of the engine to a question
 pub data Answer : Type 0 where
-  contained : Contained → Answer
+  contained : Bool → Answer
   prefix_and_spacing : List ℕ → List ℕ → Answer
   sizes_are : ℕ → ℕ → Answer
   holds : Bool → Answer
@@ -90,6 +89,11 @@ unfoldable pub shorter_size : List (List ℕ) → List ℕ → List ℕ → List
 unfolding cell deleted merged
 shorter_size P p R g = length (cell P (deleted R p) (merged R p g))
 
+-- whether there is a copy, or the refusal
+abbrev contained_as : Result (Maybe (List ℕ)) Refused → Answer
+contained_as (Ok copy) = contained (is_some copy)
+contained_as (Err r) = refused_as (Err r)
+
 -- an answer in the numbers of document 01
 abbrev told_as : Told → Answer
 told_as t = tells t.number t.values
@@ -108,13 +112,13 @@ unfolding shown_word_under earliest count_of first_copy is_perm reduce spacing s
     basis m_of compared_to compared_cells_under live_gap differs_under sizes_differ compared_with_under tokens tokens_after token_at
     read_patterns
     read_entries items_of same loaded_patterns loaded_scheme bytes parts_of_all widths_of figures
-answer (contains_pattern w β) = contained (containment β w).contained
+answer (contains_pattern w β) = contained_as (containment β w)
 answer (first_entries n u) = prefix_and_spacing (reduce u) (spacing n u)
 answer (deletion R p g) = prefix_and_spacing (deleted R p) (merged R p g)
 answer (sizes P p R g) = sizes_are (length (cell P p g)) (shorter_size P p R g)
 answer (agree_to P p B R t) =
     holds (all (λ g. eqb (length (cell P p g)) (shorter_size P p R g)) (keep (free B) (each (vectors (suc (length p))) (row 0 (suc t)))))
-answer (reading s) = refused_as (scheme_answer s).fault
+answer (reading s) = refused_as (read_fault (scheme_answer s))
 answer (judging P E) = verdict_is (verdict_of P E)
 answer (counting P E n) = count_is (count_of P E n)
 answer (showing P p B R) = shown_in P (shown_word P p B R)
@@ -123,8 +127,8 @@ answer (judging_page s t n) =
     (page_read (patterns_answer (bytes s)) (scheme_answer (bytes t)) (sevens n))
 answer (comparing_under m E) = count_is (compared_cells_under m E)
 answer (judging_texts s t) = told_as (told_verdict (verdict_of_texts (bytes s) (bytes t)))
-answer (counting_texts s t n) = count_is (count_of (patterns_in (patterns_answer (bytes s)).patterns)
-    (scheme_in (scheme_answer (bytes t)).scheme) n)
+answer (counting_texts s t n) =
+    count_is (count_of (read_list patterns_in (patterns_answer (bytes s))) (read_list scheme_in (scheme_answer (bytes t))) n)
 answer (by_inversions P n) = figures_are (figures P n)
 
 -- an entry of a scheme
@@ -160,11 +164,11 @@ scheme132 R =
 unfoldable pub starred : List Example
 starred =
     -- 239145678 contains 312 (000)
-    record { asked = contains_pattern (2 ∷ 3 ∷ 9 ∷ 1 ∷ 4 ∷ 5 ∷ 6 ∷ 7 ∷ 8 ∷ []) (3 ∷ 1 ∷ 2 ∷ []); told = contained Yes } ∷
+    record { asked = contains_pattern (2 ∷ 3 ∷ 9 ∷ 1 ∷ 4 ∷ 5 ∷ 6 ∷ 7 ∷ 8 ∷ []) (3 ∷ 1 ∷ 2 ∷ []); told = contained true } ∷
     -- it avoids 321 (000)
-    record { asked = contains_pattern (2 ∷ 3 ∷ 9 ∷ 1 ∷ 4 ∷ 5 ∷ 6 ∷ 7 ∷ 8 ∷ []) (3 ∷ 2 ∷ 1 ∷ []); told = contained No } ∷
+    record { asked = contains_pattern (2 ∷ 3 ∷ 9 ∷ 1 ∷ 4 ∷ 5 ∷ 6 ∷ 7 ∷ 8 ∷ []) (3 ∷ 2 ∷ 1 ∷ []); told = contained false } ∷
     -- 391867452 contains 51342 (001)
-    record { asked = contains_pattern (3 ∷ 9 ∷ 1 ∷ 8 ∷ 6 ∷ 7 ∷ 4 ∷ 5 ∷ 2 ∷ []) (5 ∷ 1 ∷ 3 ∷ 4 ∷ 2 ∷ []); told = contained Yes } ∷
+    record { asked = contains_pattern (3 ∷ 9 ∷ 1 ∷ 8 ∷ 6 ∷ 7 ∷ 4 ∷ 5 ∷ 2 ∷ []) (5 ∷ 1 ∷ 3 ∷ 4 ∷ 2 ∷ []); told = contained true } ∷
     -- first entries 7, 2, 3 of length 9: prefix 312, spacing (1,0,3,2)
     record { asked = first_entries 9 (7 ∷ 2 ∷ 3 ∷ []); told = prefix_and_spacing (3 ∷ 1 ∷ 2 ∷ []) (1 ∷ 0 ∷ 3 ∷ 2 ∷ []) } ∷
     -- deleting position 1: prefix 12, spacing (1,0,5)
@@ -177,19 +181,19 @@ starred =
     -- at (0,2,0) they are 1 and 2
     record { asked = sizes ((1 ∷ 2 ∷ 3 ∷ []) ∷ []) (1 ∷ 2 ∷ []) (1 ∷ []) (0 ∷ 2 ∷ 0 ∷ []); told = sizes_are 1 2 } ∷
     -- {123}, `{(ε,∅,∅),(1,∅,∅),(12,{⟨0,0,1⟩},{2}),(21,∅,{1})}`: accepted, 16 compared cells
-    record { asked = judging set123 (scheme123 2); told = verdict_is (Accepted 16) } ∷
+    record { asked = judging set123 (scheme123 2); told = verdict_is (Ok 16) } ∷
     record { asked = judging_texts "{123}" "{(ε,∅,∅),(1,∅,∅),(12,{⟨0,0,1⟩},{2}),(21,∅,{1})}"; told = tells 0 (16 ∷ []) } ∷
     -- the same with 12 deleting 1: refused 11, index 2
-    record { asked = judging set123 (scheme123 1); told = verdict_is (Refused Irreversible 2) } ∷
+    record { asked = judging set123 (scheme123 1); told = verdict_is (Err (refused_at Irreversible 2)) } ∷
     record { asked = judging_texts "{123}" "{(ε,∅,∅),(1,∅,∅),(12,{⟨0,0,1⟩},{1}),(21,∅,{1})}"; told = tells 11 (2 ∷ []) } ∷
     -- ∅ with `{(ε,∅,∅),(1,∅,{1})}`: 0 compared cells
-    record { asked = judging [] (scheme1 [] []); told = verdict_is (Accepted 0) } ∷
+    record { asked = judging [] (scheme1 [] []); told = verdict_is (Ok 0) } ∷
     record { asked = judging_texts "∅" "{(ε,∅,∅),(1,∅,{1})}"; told = tells 0 (0 ∷ []) } ∷
     -- n = 4 gives 24
     record { asked = counting [] (scheme1 [] []) 4; told = count_is 24 } ∷
     record { asked = counting_texts "∅" "{(ε,∅,∅),(1,∅,{1})}" 4; told = count_is 24 } ∷
     -- {1} with `{(ε,∅,∅),(1,{⟨0,0⟩},{1})}`: accepted, with no compared cell
-    record { asked = judging ((1 ∷ []) ∷ []) (scheme1 [] ((0 ∷ 0 ∷ []) ∷ [])); told = verdict_is (Accepted 0) } ∷
+    record { asked = judging ((1 ∷ []) ∷ []) (scheme1 [] ((0 ∷ 0 ∷ []) ∷ [])); told = verdict_is (Ok 0) } ∷
     record { asked = judging_texts "{1}" "{(ε,∅,∅),(1,{⟨0,0⟩},{1})}"; told = tells 0 (0 ∷ []) } ∷
     -- n = 0 gives 1, n = 1 gives 0
     record { asked = counting ((1 ∷ []) ∷ []) (scheme1 [] ((0 ∷ 0 ∷ []) ∷ [])) 0; told = count_is 1 } ∷
@@ -197,10 +201,14 @@ starred =
     record { asked = counting_texts "{1}" "{(ε,∅,∅),(1,{⟨0,0⟩},{1})}" 0; told = count_is 1 } ∷
     record { asked = counting_texts "{1}" "{(ε,∅,∅),(1,{⟨0,0⟩},{1})}" 1; told = count_is 0 } ∷
     -- {1} with ⟨0⟩ on ε and entry 1 as before: 10, index 0
-    record { asked = judging ((1 ∷ []) ∷ []) (scheme1 ((0 ∷ []) ∷ []) ((0 ∷ 0 ∷ []) ∷ [])); told = verdict_is (Refused LiveGap 0) } ∷
+    record {
+      asked = judging ((1 ∷ []) ∷ []) (scheme1 ((0 ∷ []) ∷ []) ((0 ∷ 0 ∷ []) ∷ []));
+      told =
+          verdict_is (Err (refused_at LiveGap 0));
+    } ∷
     record { asked = judging_texts "{1}" "{(ε,{⟨0⟩},∅),(1,{⟨0,0⟩},{1})}"; told = tells 10 (0 ∷ []) } ∷
     -- the scheme ∅: 5
-    record { asked = reading (0xE2 ∷ 0x88 ∷ 0x85 ∷ []); told = refused_as (At Rootless 0) } ∷
+    record { asked = reading (0xE2 ∷ 0x88 ∷ 0x85 ∷ []); told = refused_as (Err (refused_at Rootless 0)) } ∷
     record { asked = judging_texts "{1}" "∅"; told = tells 5 (0 ∷ []) } ∷
     -- order 1 of document 02: {123} with 12 deleting 1 shows 1423 and the copy at 1, 3, 4
     record { asked = showing set123 (1 ∷ 2 ∷ []) ((0 ∷ 0 ∷ 1 ∷ []) ∷ []) (1 ∷ []); told = shows (1 ∷ 4 ∷ 2 ∷ 3 ∷ []) (1 ∷ 3 ∷ 4 ∷ []) } ∷
@@ -229,16 +237,16 @@ starred =
     record { asked = judging_page "{123" "{(ε,∅,∅)}" 32; told = holds_page 1 (sevens 32) } ∷
     -- order 3 of document 02: {123,12345} and {12345,123} with the scheme of {123}, "and our m is 5
     -- where the literature has 3": accepted, 16 compared cells; under 5 there are 50
-    record { asked = judging (set123 ++ set12345) (scheme123 2); told = verdict_is (Accepted 16) } ∷
-    record { asked = judging (set12345 ++ set123) (scheme123 2); told = verdict_is (Accepted 16) } ∷
+    record { asked = judging (set123 ++ set12345) (scheme123 2); told = verdict_is (Ok 16) } ∷
+    record { asked = judging (set12345 ++ set123) (scheme123 2); told = verdict_is (Ok 16) } ∷
     record { asked = judging_texts "{123,12345}" "{(ε,∅,∅),(1,∅,∅),(12,{⟨0,0,1⟩},{2}),(21,∅,{1})}"; told = tells 0 (16 ∷ []) } ∷
     record { asked = judging_texts "{12345,123}" "{(ε,∅,∅),(1,∅,∅),(12,{⟨0,0,1⟩},{2}),(21,∅,{1})}"; told = tells 0 (16 ∷ []) } ∷
     record { asked = comparing_under 5 (scheme123 2); told = count_is 50 } ∷
     -- order 4 of document 02: {132} with 12 and ⟨0,1,0⟩ deletes {1}, and deletes {2}, 16 compared
     -- cells each, but not {1,2}: 1243 is shown, and the copy at 1, 3, 4
-    record { asked = judging set132 (scheme132 (1 ∷ [])); told = verdict_is (Accepted 16) } ∷
-    record { asked = judging set132 (scheme132 (2 ∷ [])); told = verdict_is (Accepted 16) } ∷
-    record { asked = judging set132 (scheme132 (1 ∷ 2 ∷ [])); told = verdict_is (Refused Irreversible 2) } ∷
+    record { asked = judging set132 (scheme132 (1 ∷ [])); told = verdict_is (Ok 16) } ∷
+    record { asked = judging set132 (scheme132 (2 ∷ [])); told = verdict_is (Ok 16) } ∷
+    record { asked = judging set132 (scheme132 (1 ∷ 2 ∷ [])); told = verdict_is (Err (refused_at Irreversible 2)) } ∷
     record {
       asked = showing set132 (1 ∷ 2 ∷ []) ((0 ∷ 1 ∷ 0 ∷ []) ∷ []) (1 ∷ 2 ∷ []);
       told = shows (1 ∷ 2 ∷ 4 ∷ 3 ∷ []) (1 ∷ 3 ∷ 4 ∷ []);
@@ -249,8 +257,8 @@ starred =
     -- a deletion of two positions, and the spacing with both runs of components merged
     record { asked = deletion (1 ∷ 2 ∷ []) (3 ∷ 1 ∷ 2 ∷ []) (1 ∷ 0 ∷ 3 ∷ 2 ∷ []); told = prefix_and_spacing (1 ∷ []) (1 ∷ 5 ∷ []) } ∷
     -- "an empty set, or a repeated, falling or outside position, is refused 7"
-    record { asked = judging set132 (scheme132 []); told = verdict_is (Refused NoPosition 2) } ∷
-    record { asked = judging set132 (scheme132 (1 ∷ 1 ∷ [])); told = verdict_is (Refused NoPosition 2) } ∷
+    record { asked = judging set132 (scheme132 []); told = verdict_is (Err (refused_at NoPosition 2)) } ∷
+    record { asked = judging set132 (scheme132 (1 ∷ 1 ∷ [])); told = verdict_is (Err (refused_at NoPosition 2)) } ∷
     record { asked = judging_texts "{132}" "{(ε,∅,∅),(1,∅,∅),(12,{⟨0,1,0⟩},{2,1}),(21,∅,{1})}"; told = tells 7 (2 ∷ []) } ∷
     record { asked = judging_texts "{132}" "{(ε,∅,∅),(1,∅,∅),(12,{⟨0,1,0⟩},{1,3}),(21,∅,{1})}"; told = tells 7 (2 ∷ []) } ∷
     record { asked = judging_texts "{132}" "{(ε,∅,∅),(1,∅,∅),(12,{⟨0,1,0⟩},{1,}),(21,∅,{1})}"; told = tells 1 (0 ∷ []) } ∷

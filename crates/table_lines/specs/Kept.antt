@@ -1,11 +1,9 @@
 -- What is kept of an input, as a function of all of it, and the three lines as the memory holds
 -- them. Definitions only.
-use Rattle.std.specs.Prelude.{ℕ, zero, suc, ◌+◌, Bool, true, false, not, ◌&&◌, cond, List, [], ◌∷◌, length, take, eqb}
-use Rattle.std.proofs.Math.Option.{Option, none, some}
+use Rattle.std.specs.Prelude.{ℕ, zero, suc, ◌+◌, Bool, true, false, not, ◌&&◌, cond, List, [], ◌∷◌, length, take, eqb, Option, Some, None}
+use Rattle.std.proofs.Math.Option.{Option as Maybe, none, some}
 use Rattle.word.specs.Ceilings.{PATTERN_TEXT, SCHEME_TEXT}
 use Rattle.table_lines.specs.declared.input.Lines.{Lines}
-use Rattle.table_lines.specs.declared.input.Number.{Number}
-use Rattle.table_lines.specs.declared.input.Number.TheVariants.{Is, Misspelt}
 use Rattle.table_lines.specs.Lines.{is_end, line, behind, Three}
 
 -- one byte more than each line may have, the third "one or two digits" (01); input::SET, SCHEME
@@ -84,9 +82,10 @@ held_lines m =
     }
 
 -- the three lines as the memory holds them, where none is missing and there is no fourth
-abbrev pub three_in : Memory → Option Three
+abbrev pub three_in : Memory → Maybe Three
 three_in m = cond (is_complete m.lines) (some (held_lines m)) none
 
-abbrev pub as_number : Option ℕ → Number
-as_number none = Misspelt
-as_number (some n) = Is n
+-- the number in a line, or that it spells none, as the code has it
+abbrev pub as_number : Maybe ℕ → Option ℕ
+as_number none = None
+as_number (some n) = Some n

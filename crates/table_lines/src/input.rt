@@ -1,11 +1,10 @@
 // What is kept of an input of three lines, as far as a line may be long; the number in the third
 // line.
-ghost use Rattle.std.specs.Prelude.{◌≡◌, [], ◌∷◌, ◌≤◌, min, take};
+ghost use Rattle.std.specs.Prelude.{◌≡◌, [], ◌∷◌, take};
 ghost use Rattle.table_lines.specs.Lines.{number_in};
 ghost use Rattle.table_lines.specs.Kept.{memory_of, kept_of, is_complete, as_number};
 ghost use Rattle.table_lines.specs.KeptWalk.{kept_on};
 
-use word::bytes::wide;
 use word::limits::{PATTERN_TEXT, SCHEME_TEXT};
 
 // One byte more than a set's text may have.
@@ -16,6 +15,9 @@ pub const SCHEME: usize = SCHEME_TEXT + 1;
 
 // One byte more than the number in the third line may have: "one or two digits" (01).
 pub const LAST: usize = 3;
+
+// The lines of an input.
+const LINES: usize = 3;
 
 // How many bytes of the first two lines were kept, in buffers of the caller; the first bytes of the
 // third, with zeros behind them, and how many they are; the number of line ends, up to three;
@@ -28,13 +30,6 @@ pub struct Lines {
     pub last_length: usize,
     pub ends: usize,
     pub fourth: bool,
-}
-
-// The number in a line, or that it spells none.
-#[derive(Clone, Copy)]
-pub enum Number {
-    Is(usize),
-    Misspelt,
 }
 
 // What is kept of no bytes, beside two buffers of zeros.
@@ -57,18 +52,16 @@ pub fn keep(lines: Lines, set: &mut [u8], scheme: &mut [u8], chunk: &[u8]) -> Li
     ensures { memory_of result set.new scheme.new ≡ kept_on
         (memory_of lines set.old scheme.old) chunk.now }
 {
-    let set_room = least(set.len(), SET);
-    let scheme_room = least(scheme.len(), SCHEME);
+    let set_room = set.len().min(SET);
+    let scheme_room = scheme.len().min(SCHEME);
     let mut kept = lines;
-    let mut i: usize = 0;
-    while i < chunk.len() {
+    for i in 0..chunk.len() {
         let b = chunk[i];
         let ends = kept.ends;
         let set_at = kept.set_length;
         let scheme_at = kept.scheme_length;
         let last_at = kept.last_length;
-        i += 1;
-        if 3 <= ends {
+        if LINES <= ends {
             kept.fourth = true;
         } else if b == b'\n' {
             kept.ends = ends + 1;
@@ -101,39 +94,39 @@ pub fn complete(lines: Lines) -> bool
 }
 
 // The number that one byte spells.
-fn one_digit(a: u8) -> Number
+fn one_digit(a: u8) -> Option<usize>
     ensures { result ≡ as_number (number_in (a ∷ [])) }
 {
     if a < b'0' {
-        return Number::Misspelt;
+        return None;
     }
     if b'9' < a {
-        return Number::Misspelt;
+        return None;
     }
-    Number::Is(wide(a - b'0'))
+    Some(usize::from(a - b'0'))
 }
 
 // The number that two bytes spell: "no leading zero" (01).
-fn two_digits(a: u8, b: u8) -> Number
+fn two_digits(a: u8, b: u8) -> Option<usize>
     ensures { result ≡ as_number (number_in (a ∷ b ∷ [])) }
 {
     if a <= b'0' {
-        return Number::Misspelt;
+        return None;
     }
     if b'9' < a {
-        return Number::Misspelt;
+        return None;
     }
     if b < b'0' {
-        return Number::Misspelt;
+        return None;
     }
     if b'9' < b {
-        return Number::Misspelt;
+        return None;
     }
-    Number::Is(wide(a - b'0') * 10 + wide(b - b'0'))
+    Some(usize::from(a - b'0') * 10 + usize::from(b - b'0'))
 }
 
 // The number that a line spells.
-pub fn number_in(text: &[u8]) -> Number
+pub fn number_in(text: &[u8]) -> Option<usize>
     ensures { result ≡ as_number (number_in text.now) }
 {
     if text.len() == 1 {
@@ -142,21 +135,14 @@ pub fn number_in(text: &[u8]) -> Number
     if text.len() == 2 {
         return two_digits(text[0], text[1]);
     }
-    Number::Misspelt
+    None
 }
 
 // The number that the third line spells.
-pub fn last_number(lines: Lines) -> Number
+pub fn last_number(lines: Lines) -> Option<usize>
     ensures { result ≡ as_number (number_in (take lines.last_length lines.last)) }
 {
     let last = lines.last;
-    let n = least(lines.last_length, LAST);
+    let n = lines.last_length.min(LAST);
     number_in(&last[..n])
-}
-
-// The smaller of two numbers.
-pub fn least(a: usize, b: usize) -> usize
-    ensures { (result ≡ min a b) × (result ≤ b) }
-{
-    if a < b { a } else { b }
 }

@@ -1,31 +1,28 @@
 -- Laws of what the table program prints: the kept part of a line decides, and the printed counts
 -- are the numbers of avoiders.
-use Rattle.std.specs.Prelude.{ℕ, suc, ◌+◌, ◌≤◌, ◌≡◌, refl, Bool, true, false, cond, length, get_or, take}
+use Rattle.std.specs.Prelude.{ℕ, suc, ◌+◌, ◌≤◌, ◌≡◌, refl, Bool, true, false, cond, length, get_or, take, Option, Ok, Err}
 use Rattle.std.proofs.Common.{add-one, arith, sym, ap, ap₂, ◌∙◌}
 use mathlib.Core.List.{List, [], map, Memᴰ}
-use Rattle.std.proofs.Math.Option.{Option, none, some}
+use Rattle.std.proofs.Math.Option.{Option as Maybe, none, some}
 use Rattle.word.specs.Lists.{row}
 use Rattle.word.specs.Word.{avoiders}
 use Rattle.word.specs.ListLaws.{true_not_false, map_same, row_out}
 use Rattle.word.specs.Ceilings.{LENGTH, PATTERN_TEXT, SCHEME_TEXT, CELLS}
 use Rattle.word.specs.Finding.{first_fault}
 use Rattle.forms.specs.SchemeList.{EntryList}
-use Rattle.forms.specs.SchemeMemory.{patterns_in, scheme_in, fault_of, or_else, faulty}
+use Rattle.forms.specs.SchemeMemory.{Fault, patterns_in, scheme_in, fault_of, or_else, faulty}
 use Rattle.forms.specs.declared.memory.Patterns.{Patterns}
 use Rattle.forms.specs.declared.memory.Scheme.{Scheme}
-use Rattle.forms.specs.declared.memory.Fault.{Fault}
-use Rattle.forms.specs.declared.memory.Fault.TheVariants.{Clean, At}
 use Rattle.text_grammar.specs.Grammar.{read_patterns, read_entries}
 use Rattle.text_page.specs.Page.{Writes}
 use Rattle.text_page.specs.PageLaws.{writes_as}
-use Rattle.notation.specs.PatternAnswers.{refused_patterns, tested_patterns, patterns_answer, ReadsPatterns}
-use Rattle.notation.specs.SchemeAnswers.{refused_scheme, tested_scheme, scheme_answer, ReadsScheme}
-use Rattle.notation.specs.declared.patterns.PatternsRead.{PatternsRead}
-use Rattle.notation.specs.declared.schemes.SchemeRead.{SchemeRead}
+use Rattle.notation.specs.Answers.{read_list}
+use Rattle.notation.specs.PatternAnswers.{PatternsRead, refused_patterns, tested_patterns, patterns_answer, ReadsPatterns}
+use Rattle.notation.specs.SchemeAnswers.{SchemeRead, refused_scheme, tested_scheme, scheme_answer, ReadsScheme}
 use Rattle.notation.proofs.AnswerLaws.{answer_cut}
 use Rattle.notation.proofs.PatternAnswerLaws as pattern-answers
 use Rattle.notation.proofs.SchemeAnswerLaws as scheme-answers
-use Rattle.verdict.specs.Verdict.{claim_tests, compared_cells, answered}
+use Rattle.verdict.specs.Verdict.{Verdict, claim_tests, compared_cells, answered}
 use Rattle.verdict.specs.VerdictLaws.{claims_clean}
 use Rattle.verdict.specs.Value.{count_of}
 use Rattle.verdict.specs.ValueLaws.{count_avoiders}
@@ -36,12 +33,12 @@ use Rattle.judge_texts.specs.TextJudgement.{verdict_read, verdict_of_texts, Text
 use Rattle.judge_texts.specs.TextVerdictLaws.{set_clean, set_list, scheme_clean, scheme_list}
 use Rattle.judge_texts.specs.declared.TextsJudged.{TextsJudged}
 use Rattle.count_answer.specs.Counting.{fault_in}
-use Rattle.count_answer.proofs.CountLaws.{clean_accepts, table_serves}
+use Rattle.count_answer.proofs.CountLaws.{clean_accepts, table_serves, table_good}
+use Rattle.counting.specs.AllCounts.{AllCounted}
 use Rattle.table_lines.specs.Lines.{Three, three_lines, number_in}
 use Rattle.table_lines.specs.Kept.{set_room, scheme_room, last_room, Memory, kept_of, is_complete, held_lines, three_in, as_number}
 use Rattle.table_lines.specs.LastNumberLaws.{number_front}
 use Rattle.table_lines.specs.CallerLaws.{fronts, fronts_if, kept_three}
-use Rattle.table_lines.specs.declared.input.Number.{Number}
 use Rattle.table_text.specs.Printed.{PAGE, bfile_text}
 use Rattle.table_print.specs.TableText.{printed_or, length_text, misspelt_line, number_text, lines_text}
 use Rattle.table_print.specs.TableText.{table_text, avoiders_text, Prints, AcceptedLists}
@@ -54,17 +51,17 @@ pub scheme_cut : (s : List ℕ) → scheme_answer (take scheme_room s) ≡ schem
 scheme_cut s = answer_cut refused_scheme tested_scheme SCHEME_TEXT read_entries s
 
 -- the text by what was read of the set and of the scheme, and the number
-abbrev read_text : PatternsRead → SchemeRead → Number → List ℕ
-read_text p q n = printed_or (fault_in (verdict_read p q)) (number_text (patterns_in p.patterns) (scheme_in q.scheme) n)
+abbrev read_text : PatternsRead → SchemeRead → Option ℕ → List ℕ
+read_text p q n = printed_or (fault_in (verdict_read p q)) (number_text (read_list patterns_in p) (read_list scheme_in q) n)
 
 -- so the first bytes of the three lines are enough
 pub fronts_text : (t : Three) → lines_text (fronts t) ≡ lines_text t
 fronts_text t =
     ap₂ (λ (p : PatternsRead) (q : SchemeRead). read_text p q (as_number (number_in (take last_room t.last))))
     (patterns_cut t.set) (scheme_cut t.scheme) ∙
-    ap (λ (n : Option ℕ). read_text (patterns_answer t.set) (scheme_answer t.scheme) (as_number n)) (number_front t.last)
+    ap (λ (n : Maybe ℕ). read_text (patterns_answer t.set) (scheme_answer t.scheme) (as_number n)) (number_front t.last)
 
-fronts_table : (o : Option Three) → table_text (fronts_if o) ≡ table_text o
+fronts_table : (o : Maybe Three) → table_text (fronts_if o) ≡ table_text o
 fronts_table none = refl
 fronts_table (some t) = fronts_text t
 
@@ -80,9 +77,16 @@ counts_taken P E n counts h c =
     map_same (λ i. get_or counts i 0) (count_of P E) (row 0 (suc n))
     (λ (i : ℕ) (m : Memᴰ i (row 0 (suc n))). c.upto i (omega (arith, row_out 0 (suc n) m)))
 
+-- the text of all counts
+pub counted_text : (P : List (List ℕ)) (E : List EntryList) (n : ℕ) (counts : List ℕ) → AllCounted P E n CELLS (Ok counts) →
+    bfile_text (take (n + 1) counts) ≡ length_text P E n
+counted_text P E n counts (found, c) =
+    ap bfile_text (counts_taken P E n counts (table_good E n CELLS (sym found)).0 c) ∙
+    ap (λ (f : Fault). printed_or f (bfile_text (map (count_of P E) (row 0 (suc n))))) found
+
 -- the lists of an accepted verdict
 pub accepted_lists : (s t : List ℕ) (j : TextsJudged) → JudgesAndReads s t j → (f : Fault) → f ≡
-    fault_in j.verdict → f ≡ Clean → AcceptedLists j.patterns j.scheme
+    fault_in j.verdict → f ≡ Ok tt → AcceptedLists j.patterns j.scheme
 accepted_lists s t j judges f is found =
     let a = clean_accepts j.verdict (sym is ∙ found) in
     record { formed = judges.formed a; claims = judges.claims a }
@@ -101,19 +105,19 @@ module _ (t : Three) (w : TextsTrue t.set t.scheme) where
   reads_scheme : ReadsScheme t.scheme q
   reads_scheme = (scheme-answers.answered t.scheme q refl).1
 
-  claims_so : fault_of (first_fault (claim_tests (patterns_in p.patterns) (scheme_in q.scheme))) ≡ Clean
+  claims_so : fault_of (first_fault (claim_tests (read_list patterns_in p) (read_list scheme_in q))) ≡ Ok tt
   claims_so = ap₂ (λ (P : List (List ℕ)) (E : List EntryList). fault_of (first_fault (claim_tests P E)))
       (set_list t.set t.scheme w p reads) (scheme_list t.set t.scheme w q reads_scheme) ∙
       ap fault_of (claims_clean w.patterns w.scheme w.formed.patterns w.formed.scheme w.claims)
 
-  accepted_so : fault_in (verdict_of_texts t.set t.scheme) ≡ Clean
+  accepted_so : fault_in (verdict_of_texts t.set t.scheme) ≡ Ok tt
   accepted_so =
       ap₂ (λ (x y : Fault). fault_in
       (answered (or_else x
-      (or_else y (fault_of (first_fault (claim_tests (patterns_in p.patterns) (scheme_in q.scheme))))))
-      (compared_cells (patterns_in p.patterns) (scheme_in q.scheme))))
+      (or_else y (fault_of (first_fault (claim_tests (read_list patterns_in p) (read_list scheme_in q))))))
+      (compared_cells (read_list patterns_in p) (read_list scheme_in q))))
       (set_clean t.set t.scheme w p reads) (scheme_clean t.set t.scheme w q reads_scheme) ∙
-      ap (λ (x : Fault). fault_in (answered x (compared_cells (patterns_in p.patterns) (scheme_in q.scheme)))) claims_so
+      ap (λ (x : Fault). fault_in (answered x (compared_cells (read_list patterns_in p) (read_list scheme_in q)))) claims_so
 
   -- the counts of 01 are the numbers of avoiders
   counts_so : (n : ℕ) → map (count_of w.patterns w.scheme) (row 0 (suc n)) ≡
@@ -125,7 +129,7 @@ module _ (t : Three) (w : TextsTrue t.set t.scheme) where
   pub counts_text : (n : ℕ) → number_in t.last ≡ some n → n ≤ LENGTH → need_of n w.scheme ≤ CELLS →
       lines_text t ≡ avoiders_text w.patterns n
   counts_text n e h k =
-      ap₂ (λ (f : Fault) (o : Option ℕ). printed_or f (number_text (patterns_in p.patterns) (scheme_in q.scheme)
+      ap₂ (λ (f : Fault) (o : Maybe ℕ). printed_or f (number_text (read_list patterns_in p) (read_list scheme_in q)
       (as_number o))) accepted_so e ∙
       ap₂ (λ (P : List (List ℕ)) (E : List EntryList). length_text P E n) (set_list t.set t.scheme w p reads)
       (scheme_list t.set t.scheme w q reads_scheme) ∙
@@ -146,8 +150,8 @@ prints memory before after r w few =
 
 -- the line of a refusal asks for no text
 pub only_line : (g : Fault) (text : List ℕ) → faulty g ≡ true → printed_or g [] ≡ printed_or g text
-only_line Clean text h = absurd (true_not_false (sym h))
-only_line (At r i) text h = refl
+only_line (Ok u) text h = absurd (true_not_false (sym h))
+only_line (Err e) text h = refl
 
 -- The text for the lines in memory, as the code comes to it.
 module _ (k : Memory) where
@@ -155,8 +159,8 @@ module _ (k : Memory) where
   missing_text e = sym (ap (λ (b : Bool). table_text (cond b (some (held_lines k)) none)) e)
 
   abbrev given : List ℕ
-  given = number_text (patterns_in (patterns_answer (held_lines k).set).patterns)
-      (scheme_in (scheme_answer (held_lines k).scheme).scheme) (as_number (number_in (held_lines k).last))
+  given = number_text (read_list patterns_in (patterns_answer (held_lines k).set))
+      (read_list scheme_in (scheme_answer (held_lines k).scheme)) (as_number (number_in (held_lines k).last))
 
   there_text : is_complete k.lines ≡ true → table_text (three_in k) ≡ lines_text (held_lines k)
   there_text e = ap (λ (b : Bool). table_text (cond b (some (held_lines k)) none)) e
@@ -171,10 +175,21 @@ module _ (k : Memory) where
     refused_text h = only_line f given h ∙ ap (λ (x : Fault). printed_or x given) fault_so ∙ sym (there_text there)
 
     -- accepted lines: the number decides
-    pub accepted_text : f ≡ Clean → (m : Number) → m ≡ as_number (number_in (held_lines k).last) →
-        number_text (patterns_in j.patterns) (scheme_in j.scheme) m ≡ table_text (three_in k)
+    pub accepted_text : f ≡ Ok tt → (m : Option ℕ) → m ≡ as_number (number_in (held_lines k).last) →
+        number_text (read_list patterns_in j.patterns) (read_list scheme_in j.scheme) m ≡ table_text (three_in k)
     accepted_text found m number =
-        ap (number_text (patterns_in j.patterns) (scheme_in j.scheme)) number ∙
-        ap₂ (λ (x : Patterns) (y : Scheme). number_text (patterns_in x) (scheme_in y)
+        ap (number_text (read_list patterns_in j.patterns) (read_list scheme_in j.scheme)) number ∙
+        ap₂ (λ (x : PatternsRead) (y : SchemeRead). number_text (read_list patterns_in x) (read_list scheme_in y)
         (as_number (number_in (held_lines k).last))) judges.patterns judges.scheme ∙
         ap (λ (x : Fault). printed_or x given) (sym found ∙ fault_so) ∙ sym (there_text there)
+
+  -- what was read of accepted lines: the number decides
+  pub read_accepted : is_complete k.lines ≡ true → (j : TextsJudged) → JudgesAndReads (held_lines k).set (held_lines k).scheme j →
+      (n : ℕ) → j.verdict ≡ Ok n → (P : Patterns) → j.patterns ≡ Ok P → (E : Scheme) → j.scheme ≡ Ok E →
+      (m : Option ℕ) → m ≡ as_number (number_in (held_lines k).last) →
+      number_text (patterns_in P) (scheme_in E) m ≡ table_text (three_in k)
+  read_accepted there j judges n accepted P set E entries m number =
+      ap (number_text (patterns_in P) (scheme_in E)) number ∙
+      ap₂ (λ (x : PatternsRead) (y : SchemeRead). number_text (read_list patterns_in x) (read_list scheme_in y)
+      (as_number (number_in (held_lines k).last))) (sym set ∙ judges.patterns) (sym entries ∙ judges.scheme) ∙
+      ap (λ (v : Verdict). printed_or (fault_in v) given) (sym accepted ∙ judges.judges.verdict) ∙ sym (there_text there)

@@ -7,7 +7,7 @@ ghost use Rattle.std.specs.Result.{ForOk};
 ghost use Rattle.std.specs.IoError.{raw_os_error};
 ghost use Rattle.table_reading.specs.declared.State.TheVariants.{End};
 ghost use Rattle.table_lines.specs.Kept.{memory_of, kept_of};
-ghost use Rattle.table_reading.specs.Reads.{state_after, after_of, taken_of, has_more, ReadsSome, ReadsAll};
+ghost use Rattle.table_reading.specs.Reads.{state_after, after_of, taken_of, ReadsSome, ReadsAll};
 
 use std::io::{Read, Result, Stdin};
 use table_lines::input::{Lines, keep, nothing};
@@ -16,7 +16,7 @@ use table_lines::input::{Lines, keep, nothing};
 const EINTR: i32 = 4;
 
 // Whether there may be more of the input, it has ended, or a read failed.
-#[derive(Clone, Copy)]
+#[derive(Clone, Copy, PartialEq, Eq)]
 pub enum State {
     More,
     End,
@@ -33,7 +33,7 @@ pub struct Reading {
 }
 
 // Reads to the end of the input, or to a read that fails, into two buffers of zeros. A proved loop
-// has to end, so it counts its turns down from a number that no run uses up.
+// has to end, so it has as many turns as no run uses up.
 pub fn read_all(input: Stdin, set: &mut [u8], scheme: &mut [u8]) -> Reading
     requires { memory_of (kept_of []).lines set.old scheme.old ≡ kept_of [] }
     ensures kept { ReadsAll (after_of result set.new scheme.new) }
@@ -46,15 +46,12 @@ pub fn read_all(input: Stdin, set: &mut [u8], scheme: &mut [u8]) -> Reading
     };
     // one buffer for all reads
     let mut chunk = io::large_buffer();
-    let mut turns = u64::MAX;
-    while 0 < turns {
+    for _ in 0..u64::MAX {
         let next = read_some(input, reading.lines, set, scheme, &mut chunk);
         reading = next;
-        let state = reading.state;
-        if !has_more(state) {
+        if next.state != State::More {
             break;
         }
-        turns -= 1;
     }
     reading
 }
@@ -140,15 +137,4 @@ fn state_after(got: isize, error: i32) -> State
         return State::Failed;
     }
     State::More
-}
-
-// Whether there may be more of the input.
-fn has_more(state: State) -> bool
-    ensures { result ≡ has_more state }
-{
-    match state {
-        State::More => true,
-        State::End => false,
-        State::Failed => false,
-    }
 }

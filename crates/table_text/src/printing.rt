@@ -8,9 +8,8 @@ ghost use Rattle.text_page.specs.Page.{Writes};
 ghost use Rattle.table_text.specs.Printed.{LINE, PAGE, count_line, bfile_text, refusal_line};
 
 use text_page::bytes::{put, put_bytes, put_decimal};
-use word::bytes::long;
 use word::limits::COUNTS;
-use word::refusal::{Refusal, number};
+use word::refusal::Refusal;
 
 // A page of so many bytes is always enough: 21 lines of up to 24 bytes each (specs/Printed.antt).
 pub const PAGE: usize = 512;
@@ -35,10 +34,8 @@ pub fn put_counts(page: &mut [u8], counts: [u64; COUNTS], n: usize) -> usize
     ensures { Writes (bfile_text (take (n + 1) counts)) 0 page.old page.new result × (result ≤ PAGE) }
 {
     let mut next: usize = 0;
-    let mut i: usize = 0;
-    while i <= n {
+    for i in 0..n + 1 {
         next = put_line(page, next, i, counts[i]);
-        i += 1;
     }
     next
 }
@@ -49,7 +46,7 @@ pub fn put_refusal(page: &mut [u8], refusal: Refusal, index: usize) -> usize
 {
     let space = put_bytes(page, 0, &REFUSED);
     let second = put(page, space, b' ');
-    let next_space = put_decimal(page, second, long(number(refusal)));
+    let next_space = put_decimal(page, second, u64::from(u8::from(refusal)));
     let third = put(page, next_space, b' ');
     let end = put_decimal(page, third, index as u64);
     put(page, end, b'\n')

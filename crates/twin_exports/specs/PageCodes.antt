@@ -8,19 +8,12 @@ use Rattle.containment.specs.Containment.{containment_tests}
 use Rattle.notation.specs.PatternAnswers.{patterns_answer}
 use Rattle.notation.specs.SchemeAnswers.{scheme_answer}
 use Rattle.text_page.specs.Page.{overlay}
-use Rattle.verdict.specs.declared.answer.Verdict.{Verdict}
-use Rattle.verdict.specs.declared.answer.Verdict.TheVariants.{Accepted, Refused}
 use Rattle.judge_texts.specs.TextJudgement.{verdict_read_on, page_read}
-use Rattle.twin_exports.specs.TextCounts.{largest}
-
--- the compared cells, or the largest number less the number of the refusal
-abbrev pub verdict_code : Verdict → ℕ
-verdict_code (Accepted n) = n
-verdict_code (Refused r i) = largest - number_of r
+use Rattle.twin_exports.specs.TextCounts.{largest, code_of}
 
 -- the number r for the texts s and t, with a page that holds `before`, and then `after`
 pub record JudgesOnPage (s t before after : List ℕ) (r : ℕ) : Type 0 where
-  pub answer : r ≡ verdict_code (verdict_read_on (length before) (patterns_answer s) (scheme_answer t))
+  pub answer : r ≡ code_of (verdict_read_on (length before) (patterns_answer s) (scheme_answer t))
   pub page : after ≡ page_read (patterns_answer s) (scheme_answer t) before
 
 -- how many positions the first copy has, 0 for none, or the largest number less that of the refusal

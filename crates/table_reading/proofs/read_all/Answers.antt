@@ -9,8 +9,8 @@ use Rattle.table_reading.specs.ReadLaws.{reads_on}
 use borrow.Author.Rules.{rules}
 use Rattle.table_reading.proofs.read_all.Goals as goal
 
-pub loop-turns-init : goal.loop-turns-init
-loop-turns-init c =
+pub loop-init : goal.loop-init
+loop-init c =
     let a = c.args in
     record {
       reads =
@@ -25,12 +25,12 @@ loop-turns-init c =
     }
 
 pub slice_bounds-read_some-end : goal.slice_bounds-read_some-end
-slice_bounds-read_some-end c = sym c.loop-turns.invariant.chunk_size
+slice_bounds-read_some-end c = sym c.loop.invariant.chunk_size
 
-pub loop-turns-preserved : goal.loop-turns-preserved
-loop-turns-preserved c =
+pub loop-preserved : goal.loop-preserved
+loop-preserved c =
     let r = c.read_some-next in
-    let l = c.loop-turns in
+    let l = c.loop in
     record {
       reads = reads_on _ _ l.invariant.reads r.ensures.kept;
       clean = r.ensures.error;
@@ -39,29 +39,29 @@ loop-turns-preserved c =
       chunk_size = (let k = l.invariant.chunk_size in search rules);
     }
 
-pub shape_of-set-after-loop-turns : goal.shape_of-set-after-loop-turns
-shape_of-set-after-loop-turns c = c.loop-turns.invariant.set_size
+pub shape_of-set-after-loop : goal.shape_of-set-after-loop
+shape_of-set-after-loop c = c.loop.invariant.set_size
 
-pub shape_of-scheme-after-loop-turns : goal.shape_of-scheme-after-loop-turns
-shape_of-scheme-after-loop-turns c = c.loop-turns.invariant.scheme_size
+pub shape_of-scheme-after-loop : goal.shape_of-scheme-after-loop
+shape_of-scheme-after-loop c = c.loop.invariant.scheme_size
 
-pub returns-after-loop-turns : goal.returns-after-loop-turns
-returns-after-loop-turns c = record { kept = c.loop-turns.invariant.reads; error = c.loop-turns.invariant.clean }
+pub returns-after-loop : goal.returns-after-loop
+returns-after-loop c = record { kept = c.loop.invariant.reads; error = c.loop.invariant.clean }
 
-pub shape_of-set-then-not-has_more : goal.shape_of-set-then-not-has_more
-shape_of-set-then-not-has_more c =
-    let l = c.loop-turns in
+pub shape_of-set-then-ne : goal.shape_of-set-then-ne
+shape_of-set-then-ne c =
+    let l = c.loop in
     let k = l.invariant.set_size in
     search rules
 
-pub shape_of-scheme-then-not-has_more : goal.shape_of-scheme-then-not-has_more
-shape_of-scheme-then-not-has_more c =
-    let l = c.loop-turns in
+pub shape_of-scheme-then-ne : goal.shape_of-scheme-then-ne
+shape_of-scheme-then-ne c =
+    let l = c.loop in
     let k = l.invariant.scheme_size in
     search rules
 
-pub returns-then-not-has_more : goal.returns-then-not-has_more
-returns-then-not-has_more c =
+pub returns-then-ne : goal.returns-then-ne
+returns-then-ne c =
     let r = c.read_some-next in
-    let l = c.loop-turns in
+    let l = c.loop in
     record { kept = reads_on _ _ l.invariant.reads r.ensures.kept; error = r.ensures.error }

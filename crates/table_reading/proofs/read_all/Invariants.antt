@@ -1,4 +1,4 @@
--- The invariant and the measure of the loop of `table_reading::read_all`.
+-- The invariant of the loop of `table_reading::read_all`.
 use Prim.Native.Nat.{ℕ}
 use mathlib.Core.Path.{◌≡◌}
 use mathlib.Core.List.{List}
@@ -17,8 +17,5 @@ pub record ReadOn (set₀ scheme₀ set scheme : List ℕ) (r : Reading) (chunk 
   pub scheme_size : length scheme ≡ length scheme₀
   pub chunk_size : length chunk ≡ 65536
 
-abbrev pub invariant-loop-turns : goal.invariant-loop-turns
-invariant-loop-turns l = ReadOn l.initial.set l.initial.scheme l.set l.scheme l.reading l.chunk
-
-abbrev pub decreases-loop-turns : goal.decreases-loop-turns
-decreases-loop-turns l = l.turns
+abbrev pub invariant-loop : goal.invariant-loop
+invariant-loop l = ReadOn l.initial.set l.initial.scheme l.set l.scheme l.reading l.chunk

@@ -8,15 +8,10 @@ use Rattle.avoider_lines.proofs.judging.asked_for.Goals as goal
 pub returns-then-not-complete : goal.returns-then-not-complete
 returns-then-not-complete c =
     let a = c.args in
-    let t = c.complete in
-    asks_missing (memory_of a.lines a.set.now a.second.now) c.missing.result
-    (sym t.ensures ∙ c.if-not-complete.true) c.missing.ensures
+    asks_missing (memory_of a.lines a.set.now a.second.now) (sym c.complete.ensures ∙ c.if-not-complete.true) c.at.result c.at.ensures
 
 pub returns : goal.returns
 returns c =
     let a = c.args in
-    let t = c.complete in
-    let number = c.length_in-number in
-    asks_both (memory_of a.lines a.set.now a.second.now) c.asked_by.result
-    (sym t.ensures ∙ c.if-not-complete.false) c.set_in-read.result c.set_in-read.ensures
-    number.result number.ensures c.asked_by.ensures
+    asks_both (memory_of a.lines a.set.now a.second.now) (sym c.complete.ensures ∙ c.if-not-complete.false) c.set_in-read.result
+    c.set_in-read.ensures c.length_in-number.result c.length_in-number.ensures c.asked_by.result c.asked_by.ensures

@@ -15,5 +15,5 @@ pub returns : goal.returns
 returns c =
     let space = c.put-next.ensures in
     let number = c.put_decimal.ensures in
-    let same = writes_as number.0 (ap decimal c.long.ensures.0) in
+    let same = writes_as number.0 (ap decimal (search rules)) in
     (writes_join space same, omega (arith, space.moved, number.1))

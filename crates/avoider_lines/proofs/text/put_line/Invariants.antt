@@ -1,5 +1,5 @@
--- The invariant and the measure of the loop of `avoider_lines::text::put_line`.
-use Prim.Native.Nat.{◌+◌, ◌-◌, ◌*◌, ◌≤◌}
+-- The invariant of the loop of `avoider_lines::text::put_line`.
+use Prim.Native.Nat.{◌+◌, ◌*◌, ◌≤◌}
 use lib.ListN.{take, drop}
 use Rattle.text_page.specs.PageLaws.{ToCome}
 use Rattle.text_page.specs.Decimal.{NUMERAL}
@@ -11,6 +11,3 @@ invariant-loop-i l =
     (1 ≤ l.i) × (l.i ≤ l.count) × (l.next ≤ (NUMERAL + 1) * l.i) ×
     ToCome (further_text (drop 1 (take l.n l.word))) l.initial.next l.initial.page
     (further_text (drop l.i (take l.n l.word))) l.next l.page
-
-abbrev pub decreases-loop-i : goal.decreases-loop-i
-decreases-loop-i l = l.count - l.i

@@ -2,7 +2,7 @@
 -- Assumes nothing.
 use native.Mathlib.Omega.{arith}
 use mathlib.Core.Path.{sym, ap, ◌∙◌}
-use Rattle.table_lines.specs.declared.input.Number.TheVariants.{Is}
+use Rattle.std.specs.Prelude.{Some}
 use Rattle.table_lines.specs.Kept.{as_number}
 use Rattle.table_lines.specs.LastNumberLaws.{below_digits, above_digits, one_spelt, one_misspelt}
 use Rattle.table_lines.proofs.input.one_digit.Goals as goal
@@ -15,4 +15,4 @@ returns-then-a-gt57 c = sym (ap as_number (one_misspelt c.args.a (above_digits c
 
 pub returns : goal.returns
 returns c =
-    ap Is c.wide.ensures.0 ∙ sym (ap as_number (one_spelt c.args.a (omega arith) (omega arith)))
+    ap Some c.from.ensures ∙ sym (ap as_number (one_spelt c.args.a (omega arith) (omega arith)))

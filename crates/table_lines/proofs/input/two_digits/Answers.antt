@@ -4,13 +4,10 @@
 use Prim.Native.Nat.{ℕ, ◌+◌, ◌*◌}
 use native.Mathlib.Omega.{arith}
 use mathlib.Core.Path.{sym, ap, ap₂, ◌∙◌}
-use Rattle.table_lines.specs.declared.input.Number.TheVariants.{Is}
+use Rattle.std.specs.Prelude.{Some}
 use Rattle.table_lines.specs.Kept.{as_number}
-use Rattle.table_lines.specs.LastNumberLaws.{below_digits, above_digits, two_spelt, leading_zero, first_misspelt, second_misspelt}
+use Rattle.table_lines.specs.LastNumberLaws.{below_digits, above_digits, two_spelt, first_misspelt, second_misspelt}
 use Rattle.table_lines.proofs.input.two_digits.Goals as goal
-
-pub returns-then-a-le48 : goal.returns-then-a-le48
-returns-then-a-le48 c = sym (ap as_number (leading_zero c.args.a c.args.b (omega arith)))
 
 pub returns-then-a-gt57 : goal.returns-then-a-gt57
 returns-then-a-gt57 c =
@@ -31,5 +28,5 @@ returns-then-b-gt57 c =
 pub returns : goal.returns
 returns c =
     let a = c.args in
-    ap Is (ap₂ (λ (x y : ℕ). x * 10 + y) c.wide.ensures.0 c.wide-2.ensures.0)
+    ap Some (ap₂ (λ (x y : ℕ). x * 10 + y) c.from.ensures c.from-2.ensures)
     ∙ sym (ap as_number (two_spelt a.a a.b (omega arith) (omega arith) (omega arith) (omega arith)))

@@ -10,7 +10,7 @@ use Rattle.table_text.specs.PrintedLaws.{lines_step, lines_end}
 use Rattle.table_text.proofs.printing.put_counts.Goals as goal
 
 pub loop-i-init : goal.loop-i-init
-loop-i-init c = (omega arith, omega arith, start _ _ _)
+loop-i-init c = (omega arith, start _ _ _)
 
 pub loop-i-preserved : goal.loop-i-preserved
 loop-i-preserved c =
@@ -18,14 +18,14 @@ loop-i-preserved c =
     let l = c.loop-i in
     let inside : a.n < length a.counts = search rules in
     let w = c.put_line-next.ensures in
-    (omega arith, omega (arith, w.1), step (again l.invariant.2 (lines_step a.counts a.n inside l.i (omega arith))) w.0)
+    (omega (arith, w.1), step (again l.invariant.1 (lines_step a.counts a.n inside l.i (omega arith))) w.0)
 
 pub shape_of-page : goal.shape_of-page
-shape_of-page c = same_size c.loop-i.invariant.2
+shape_of-page c = same_size c.loop-i.invariant.1
 
 pub returns : goal.returns
 returns c =
     let a = c.args in
     let l = c.loop-i in
     let inside : a.n < length a.counts = search rules in
-    (finish (again l.invariant.2 (lines_end a.counts a.n inside l.i (omega arith))), omega arith)
+    (finish (again l.invariant.1 (lines_end a.counts a.n inside l.i (omega arith))), omega arith)

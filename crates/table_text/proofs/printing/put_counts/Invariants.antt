@@ -1,5 +1,5 @@
--- The invariant and the measure of the loop of `table_text::printing::put_counts`.
-use Prim.Native.Nat.{◌+◌, ◌-◌, ◌*◌, ◌≤◌}
+-- The invariant of the loop of `table_text::printing::put_counts`.
+use Prim.Native.Nat.{◌+◌, ◌*◌, ◌≤◌}
 use lib.ListN.{take, drop}
 use Rattle.text_page.specs.PageLaws.{ToCome}
 use Rattle.table_text.specs.Printed.{LINE, bfile_text, count_lines}
@@ -7,8 +7,5 @@ use Rattle.table_text.proofs.printing.put_counts.Given as goal
 
 abbrev pub invariant-loop-i : goal.invariant-loop-i
 invariant-loop-i l =
-    (l.i ≤ l.n + 1) × (l.next ≤ LINE * l.i) × ToCome (bfile_text (take (l.n + 1) l.counts)) 0 l.initial.page
+    (l.next ≤ LINE * l.i) × ToCome (bfile_text (take (l.n + 1) l.counts)) 0 l.initial.page
     (count_lines l.i (drop l.i (take (l.n + 1) l.counts))) l.next l.page
-
-abbrev pub decreases-loop-i : goal.decreases-loop-i
-decreases-loop-i l = l.n + 1 - l.i

@@ -2,7 +2,7 @@
 -- other.
 -- Assumes nothing.
 use native.Mathlib.Omega.{arith}
-use mathlib.Core.Path.{ap, ◌∙◌}
+use mathlib.Core.Path.{ap}
 use Rattle.text_page.specs.PageLaws.{writes_as, writes_join}
 use Rattle.text_page.specs.Decimal.{decimal}
 use Rattle.text_page.proofs.DecimalLaws.{room_decimal}
@@ -24,7 +24,7 @@ returns c =
     let second = c.put_decimal-end.ensures in
     let end = c.put.ensures in
     let number = writes_as first.0
-    (ap decimal (c.long.ensures.0 ∙ c.number.ensures)) in (
+    (ap decimal (search rules)) in (
       writes_join word (writes_join space (writes_join number (writes_join further (writes_join second.0 end)))),
       omega (arith, word.moved, space.moved, first.1, further.moved, second.1, end.moved),
     )
