@@ -2,65 +2,41 @@
 // its digits and a stop. A scheme: for each entry its digits and a stop; for each gap vector its
 // components and a stop; a stop; then the positions deleted, none for an entry that expands, and a
 // stop.
-use test_support::counts::wide;
-use test_support::parts::byte_at;
 
 // no digit, no component and no position: these are at most 999
 pub const STOP: u64 = 1000;
 // the most bytes of a text, which gives at most one number a byte
 pub const ROOM: usize = 160;
 
-// The first `count` numbers of an array.
-#[derive(Clone, Copy)]
+// The first `count` numbers of an array; those behind them are 0.
+#[derive(Clone, Copy, PartialEq, Eq)]
 pub struct Flat {
-    pub numbers: [u64; ROOM],
-    pub count: usize,
+    numbers: [u64; ROOM],
+    count: usize,
 }
 
-// No numbers.
-pub fn nothing() -> Flat {
-    Flat {
-        numbers: [0u64; ROOM],
-        count: 0,
-    }
-}
-
-// The numbers and one more.
-pub fn with(f: Flat, x: u64) -> Flat {
-    let at = f.count;
-    if ROOM <= at {
-        return f;
-    }
-    let mut numbers = f.numbers;
-    numbers[at] = x;
-    Flat {
-        numbers,
-        count: at + 1,
-    }
-}
-
-// Whether they are the same numbers.
-pub fn same(f: Flat, g: Flat) -> bool {
-    let a = f.numbers;
-    let b = g.numbers;
-    let mut i: usize = 0;
-    while i < ROOM {
-        if a[i] != b[i] {
-            return false;
+impl Flat {
+    // No numbers.
+    pub fn new() -> Flat {
+        Flat {
+            numbers: [0; ROOM],
+            count: 0,
         }
-        i += 1;
     }
-    f.count == g.count
-}
 
-// The numbers, then each byte and a stop.
-pub fn with_bytes(f: Flat, bytes: &[u8]) -> Flat {
-    let mut all = f;
-    let mut i: usize = 0;
-    while i < bytes.len() {
-        let more = with(all, wide(byte_at(bytes, i)));
-        all = more;
-        i += 1;
+    // One number more, where there is room.
+    pub fn push(&mut self, x: u64) {
+        if let Some(place) = self.numbers.get_mut(self.count) {
+            *place = x;
+            self.count = self.count.saturating_add(1);
+        }
     }
-    with(all, STOP)
+
+    // Each byte and then a stop.
+    pub fn push_bytes(&mut self, bytes: &[u8]) {
+        for x in bytes {
+            self.push(u64::from(*x));
+        }
+        self.push(STOP);
+    }
 }

@@ -1,6 +1,6 @@
 // The line of one call: its label, the answer, and whether the page is as it was. The patterns are
 // those that a text spells, with no test of them, so that the call has to refuse them itself.
-use crate::calls::{first, next, print_left};
+use crate::calls::{Left, first, next};
 use forms::memory::Patterns;
 use test_support::parts::{before, behind, byte_at, prefix};
 use test_support::print;
@@ -16,9 +16,7 @@ pub fn first_line(words: &[u8]) {
     let numbers = behind(given, b' ');
     let n = decimal(before(numbers, b' ')) as usize;
     let bytes = decimal(behind(numbers, b' ')) as usize;
-    print::text(before(words, b' '));
-    print_left(first(patterns_in(before(given, b' ')), n, bytes), n);
-    print::end();
+    line(words, n, |patterns| first(patterns, n, bytes));
 }
 
 // The line of a call for the next avoider: a label, patterns, entries, and the bytes of the page.
@@ -29,18 +27,19 @@ pub fn next_line(words: &[u8]) {
     let n = length(word);
     let all = entries(word);
     let bytes = decimal(behind(rest, b' ')) as usize;
-    print::text(before(words, b' '));
-    print_left(
-        next(patterns_in(before(given, b' ')), prefix(&all, n), bytes),
-        n,
-    );
-    print::end();
+    line(words, n, |patterns| next(patterns, prefix(&all, n), bytes));
 }
 
-// The patterns that a text spells.
-fn patterns_in(text: &[u8]) -> Patterns {
-    let r = load_patterns(text);
-    r.patterns
+// The line of a call with the patterns that the second word spells: the label and what is left.
+fn line<F: Fn(&Patterns) -> Left>(words: &[u8], n: usize, call: F)
+    requires { F.IsAlwaysCallable call }
+{
+    print::text(before(words, b' '));
+    match load_patterns(before(behind(words, b' '), b' ')) {
+        Some(patterns) => call(&patterns).print(n),
+        None => print::text(b" unread"),
+    }
+    print::end();
 }
 
 // The number of entries that a word spells; ε has none.

@@ -14,21 +14,14 @@ mod listed;
 mod twenty;
 mod walk;
 
-use test_support::lines::{input, line_after, line_at};
+use test_support::lines::{input, lines_of};
 use test_support::parts::{before, behind, byte_at, prefix};
 
 fn main() {
     let mut buffer = io::large_buffer();
     let n = input(&mut buffer);
-    tests(prefix(&buffer, n));
-}
-
-// A line for each line of the input.
-fn tests(text: &[u8]) {
-    let mut at: usize = 0;
-    while at < text.len() {
-        test(line_at(text, at));
-        at = line_after(text, at);
+    for line in lines_of(prefix(&buffer, n)) {
+        test(line);
     }
 }
 

@@ -1,12 +1,10 @@
 // Following next from the first avoider, against the list by brute force: all permutations of a
 // length in lexicographic order, less those that contain a pattern.
-use crate::calls::{
-    Left, PAGE, first, is_given, is_given_as, is_kept, is_nothing, next, print_entries, print_left,
-};
+use crate::calls::{Left, PAGE, first, next, print_entries};
 use forms::memory::Patterns;
-use test_listing::permutations::{LONGEST, count, ordered};
+use test_listing::permutations::{count, ordered};
 use test_listing::sets::avoids;
-use test_support::counts::one_more_if;
+use test_support::counts::count_if;
 use test_support::parts::prefix;
 use test_support::print;
 
@@ -19,73 +17,49 @@ struct Walk {
 }
 
 // How many avoiders of length n, at most LONGEST, are given. What differs from the list is printed.
-pub fn given(patterns: Patterns, n: usize) -> u64 {
-    let end = count(n);
-    let mut walk = started(patterns, n);
-    let mut i: usize = 0;
-    while i < end {
-        let more = with_permutation(walk, patterns, ordered(n, i), n);
-        walk = more;
-        i += 1;
-    }
-    ended(walk, n)
-}
-
-// The walk at the first avoider.
-fn started(patterns: Patterns, n: usize) -> Walk {
-    Walk {
+pub fn given(patterns: &Patterns, n: usize) -> u64 {
+    let mut walk = Walk {
         left: first(patterns, n, PAGE),
         given: 0,
         right: true,
+    };
+    for i in 0..count(n) {
+        walk.pass(patterns, prefix(&ordered(n, i), n));
     }
-}
-
-// The walk behind a permutation: where it avoids, it has to be what was given, and its next is
-// asked for.
-fn with_permutation(walk: Walk, patterns: Patterns, w: [u8; LONGEST], n: usize) -> Walk {
-    if !avoids(patterns, prefix(&w, n)) {
-        return walk;
-    }
-    let left = walk.left;
-    let right = is_right(walk.right, left, prefix(&w, n));
-    Walk {
-        left: next(patterns, prefix(&w, n), PAGE),
-        given: one_more_if(is_given(left), walk.given),
-        right,
-    }
-}
-
-// Whether all was right so far and is with what was given here. Only what differs first is printed.
-fn is_right(before: bool, left: Left, expected: &[u8]) -> bool {
-    if !before {
-        return false;
-    }
-    if is_given_as(left, expected) {
-        return true;
-    }
-    print::text(b" (expected");
-    print_entries(expected);
-    print_left(left, expected.len());
-    print::text(b")");
-    false
-}
-
-// The number of avoiders, at the end of the list: there is nothing more to give, and the page is
-// as it was.
-fn ended(walk: Walk, n: usize) -> u64 {
-    let left = walk.left;
-    if !is_end(left, n) {
-        print::text(b" (expected nothing");
-        print_left(left, n);
-        print::text(b")");
-    }
+    walk.end(n);
     walk.given
 }
 
-// Whether there was nothing to give, and the page is as it was.
-fn is_end(left: Left, n: usize) -> bool {
-    if !is_nothing(left) {
-        return false;
+impl Walk {
+    // Goes past a permutation: where it avoids, it has to be what was given, and its next is asked
+    // for.
+    fn pass(&mut self, patterns: &Patterns, w: &[u8]) {
+        if !avoids(patterns, w) {
+            return;
+        }
+        self.right = self.right && is_right(&self.left, w);
+        count_if(&mut self.given, self.left.is_given());
+        self.left = next(patterns, w, PAGE);
     }
-    is_kept(left, n)
+
+    // At the end of the list there is nothing more to give, and the page is as it was.
+    fn end(&self, n: usize) {
+        if !(self.left.is_nothing() && self.left.is_kept(n)) {
+            print::text(b" (expected nothing");
+            self.left.print(n);
+            print::text(b")");
+        }
+    }
+}
+
+// Whether a call left just these entries. What it left else is printed.
+fn is_right(left: &Left, expected: &[u8]) -> bool {
+    let right = left.is_given_as(expected);
+    if !right {
+        print::text(b" (expected");
+        print_entries(expected);
+        left.print(expected.len());
+        print::text(b")");
+    }
+    right
 }

@@ -10,16 +10,15 @@ mod spacings;
 
 use cells::compared;
 use judge_texts::judge_texts_without_page;
-use test_support::counts::one_more_if;
-use test_support::lines::{input, line_after, line_at};
+use test_support::counts::count_if;
+use test_support::lines::{input, pairs_of};
 use test_support::parts::prefix;
 use test_support::print;
 use test_witness::basis::{longest, longest_of_all};
-use verdict::answer::Verdict;
-use word::refusal::number;
+use word::refusal::Refused;
 
 // What was counted over the pairs.
-#[derive(Clone, Copy)]
+#[derive(Clone, Copy, Default)]
 struct Tally {
     pairs: u64,
     accepted: u64,
@@ -37,41 +36,61 @@ struct Listed {
 fn main() {
     let mut buffer = io::large_buffer();
     let n = input(&mut buffer);
-    print_tally(pairs(prefix(&buffer, n)));
+    let mut t = Tally::default();
+    for (set, scheme) in pairs_of(prefix(&buffer, n)) {
+        t.pair(set, scheme);
+    }
+    t.print();
 }
 
-// Judges each pair of lines.
-fn pairs(text: &[u8]) -> Tally {
-    let mut t = Tally {
-        pairs: 0,
-        accepted: 0,
-        wrong: 0,
-        different: 0,
-    };
-    let mut at: usize = 0;
-    while at < text.len() {
-        let next = line_after(text, at);
-        let more = with_pair(t, line_at(text, at), line_at(text, next));
-        t = more;
-        at = line_after(text, next);
+impl Tally {
+    // Prints the line of a pair, and counts it.
+    fn pair(&mut self, set: &[u8], scheme: &[u8]) {
+        count_if(&mut self.pairs, true);
+        match judge_texts_without_page(set, scheme) {
+            Ok(cells) => {
+                let by_order = cells_for(scheme, longest(set));
+                let of_all = cells_for(scheme, longest_of_all(set));
+                self.acceptance(cells as u64, by_order, of_all);
+            }
+            Err(refused) => print_refused(refused),
+        }
     }
-    t
+
+    // Prints and counts an acceptance.
+    fn acceptance(&mut self, cells: u64, by_order: Listed, of_all: Listed) {
+        let right = fit(cells, by_order, of_all);
+        print::text(b"accepted");
+        print::next_number(cells);
+        print::text(b", m");
+        print_listed(by_order);
+        print::text(b", of all");
+        print_listed(of_all);
+        print::either(right, b"\n", b" wrong\n");
+        count_if(&mut self.accepted, true);
+        count_if(&mut self.wrong, !right);
+        count_if(&mut self.different, by_order.m != of_all.m);
+    }
+
+    // Prints what was counted: the pairs, those that were accepted, of these how many numbers did
+    // not fit together, and how many sets had two different m.
+    fn print(&self) {
+        print::text(b"pairs");
+        print::next_number(self.pairs);
+        print::text(b" accepted");
+        print::next_number(self.accepted);
+        print::text(b" wrong");
+        print::next_number(self.wrong);
+        print::text(b" two different m");
+        print::next_number(self.different);
+        print::end();
+    }
 }
 
-// Prints the line of a pair, and counts it.
-fn with_pair(t: Tally, set: &[u8], scheme: &[u8]) -> Tally {
-    match judge_texts_without_page(set, scheme) {
-        Verdict::Accepted(cells) => {
-            let by_order = cells_for(scheme, longest(set));
-            let of_all = cells_for(scheme, longest_of_all(set));
-            with_acceptance(t, cells as u64, by_order, of_all)
-        }
-        Verdict::Refused(refusal, index) => {
-            print::refused(number(refusal), index);
-            print::end();
-            with_refusal(t)
-        }
-    }
+// Prints the line of a refusal.
+fn print_refused(refused: Refused) {
+    print::refused(u8::from(refused.refusal), refused.index);
+    print::end();
 }
 
 // The compared cells of a scheme for an m.
@@ -79,34 +98,6 @@ fn cells_for(scheme: &[u8], m: usize) -> Listed {
     Listed {
         m,
         cells: compared(scheme, m),
-    }
-}
-
-// Prints and counts an acceptance.
-fn with_acceptance(t: Tally, cells: u64, by_order: Listed, of_all: Listed) -> Tally {
-    let right = fit(cells, by_order, of_all);
-    print::text(b"accepted");
-    print::next_number(cells);
-    print::text(b", m");
-    print_listed(by_order);
-    print::text(b", of all");
-    print_listed(of_all);
-    print::either(right, b"\n", b" wrong\n");
-    Tally {
-        pairs: one_more_if(true, t.pairs),
-        accepted: one_more_if(true, t.accepted),
-        wrong: one_more_if(!right, t.wrong),
-        different: one_more_if(by_order.m != of_all.m, t.different),
-    }
-}
-
-// Counts a refusal.
-fn with_refusal(t: Tally) -> Tally {
-    Tally {
-        pairs: one_more_if(true, t.pairs),
-        accepted: t.accepted,
-        wrong: t.wrong,
-        different: t.different,
     }
 }
 
@@ -130,18 +121,4 @@ fn print_listed(one: Listed) {
     print::next_number(one.m as u64);
     print::text(b":");
     print::next_number(one.cells);
-}
-
-// Prints what was counted: the pairs, those that were accepted, of these how many numbers did not
-// fit together, and how many sets had two different m.
-fn print_tally(t: Tally) {
-    print::text(b"pairs");
-    print::next_number(t.pairs);
-    print::text(b" accepted");
-    print::next_number(t.accepted);
-    print::text(b" wrong");
-    print::next_number(t.wrong);
-    print::text(b" two different m");
-    print::next_number(t.different);
-    print::end();
 }

@@ -10,23 +10,15 @@ mod page;
 mod sets;
 mod tally;
 
-use test_support::lines::{input, line_after, line_at};
+use test_support::lines::{input, pairs_of};
 use test_support::parts::prefix;
 
 fn main() {
     let mut buffer = io::large_buffer();
     let n = input(&mut buffer);
-    pairs(prefix(&buffer, n));
+    for (set, scheme) in pairs_of(prefix(&buffer, n)) {
+        tally::line(set, scheme);
+    }
     examples::lines();
     sets::lines();
-}
-
-// Counts by each pair of lines.
-fn pairs(text: &[u8]) {
-    let mut at: usize = 0;
-    while at < text.len() {
-        let next = line_after(text, at);
-        tally::line(line_at(text, at), line_at(text, next));
-        at = line_after(text, next);
-    }
 }

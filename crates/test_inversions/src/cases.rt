@@ -1,44 +1,29 @@
 // The line of one call: its label, the figures or the refusal, and what became of both pages.
-use crate::calls::{Left, print_answer, print_pages, run};
+use crate::calls::{Left, run};
 use notation::patterns::read_patterns;
 use notation::schemes::read_scheme;
 use test_support::parts::{before, behind};
 use test_support::print;
 use test_support::spelt::decimal;
 
-// What a call is handed beside the set and the scheme.
-#[derive(Clone, Copy)]
-struct Numbers {
-    n: usize,
-    cells: usize,
-    results: usize,
-}
-
 // Prints the line of a call: a label, a length, the cells of both slices, and a set; a scheme.
 pub fn line(words: &[u8], text: &[u8]) {
-    let given = behind(words, b' ');
-    let p = read_patterns(fourth(given));
-    let s = read_scheme(text);
-    let patterns = p.patterns;
-    let scheme = s.scheme;
-    let x = numbers_of(given);
+    let length = behind(words, b' ');
+    let cells = behind(length, b' ');
+    let results = behind(cells, b' ');
+    let set = behind(results, b' ');
     print::text(before(words, b' '));
-    end_line(run(patterns, scheme, x.n, x.cells, x.results));
-}
-
-// The three numbers that the words begin with.
-fn numbers_of(words: &[u8]) -> Numbers {
-    let second = behind(words, b' ');
-    Numbers {
-        n: number(words),
-        cells: number(second),
-        results: number(behind(second, b' ')),
-    }
-}
-
-// What stands behind three words.
-fn fourth(words: &[u8]) -> &[u8] {
-    behind(behind(behind(words, b' '), b' '), b' ')
+    let (Ok(patterns), Ok(scheme)) = (read_patterns(set), read_scheme(text)) else {
+        print::text(b" unread\n");
+        return;
+    };
+    end_line(&run(
+        &patterns,
+        &scheme,
+        number(length),
+        number(cells),
+        number(results),
+    ));
 }
 
 // The number that the first word spells.
@@ -47,8 +32,8 @@ fn number(words: &[u8]) -> usize {
 }
 
 // Prints what a call left, and ends the line.
-pub fn end_line(left: Left) {
-    print_answer(left);
-    print_pages(left);
+pub fn end_line(left: &Left) {
+    left.print_answer();
+    left.print_pages();
     print::end();
 }

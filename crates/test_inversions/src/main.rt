@@ -17,29 +17,21 @@ mod sizes;
 mod sums;
 mod tally;
 
-use test_support::lines::{input, line_after, line_at};
+use test_support::lines::{input, pairs_of};
 use test_support::parts::{behind, prefix};
 
 fn main() {
     let mut buffer = io::large_buffer();
     let n = input(&mut buffer);
-    tests(prefix(&buffer, n));
-    lists::lines();
-}
-
-// A line for each pair of lines.
-fn tests(text: &[u8]) {
-    let mut at: usize = 0;
-    while at < text.len() {
-        let next = line_after(text, at);
-        test(line_at(text, at), line_at(text, next));
-        at = line_after(text, next);
+    for (first, scheme) in pairs_of(prefix(&buffer, n)) {
+        test(first, scheme);
     }
+    lists::lines();
 }
 
 // The line of one pair. A set alone has no space in it.
 fn test(first: &[u8], scheme: &[u8]) {
-    if behind(first, b' ').len() == 0 {
+    if behind(first, b' ').is_empty() {
         tally::line(first, scheme);
     } else {
         cases::line(first, scheme);

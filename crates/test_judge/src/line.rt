@@ -1,69 +1,51 @@
 // The parts of a line: a verdict, a witness, and what is wrong with it.
-use test_support::counts::wide;
 use test_support::print;
-use test_witness::check::Finding;
-use test_witness::rows::{ROW, number_at, row_at, size};
-use verdict::answer::Verdict;
-use word::refusal::number;
+use test_witness::check::Wrong;
+use test_witness::rows::{ROW, Row};
+use word::refusal::{Refusal, Refused};
 
 // Prints a verdict.
-pub fn answer(verdict: Verdict) {
+pub fn answer(verdict: Result<usize, Refused>) {
     match verdict {
-        Verdict::Accepted(cells) => {
+        Ok(cells) => {
             print::text(b"accepted");
             print::next_number(cells as u64);
         }
-        Verdict::Refused(refusal, index) => print::refused(number(refusal), index),
+        Err(refused) => print::refused(u8::from(refused.refusal), refused.index),
     }
 }
 
-// The number of a refusal, and 0 of an acceptance.
-pub fn refusal_of(verdict: Verdict) -> u8 {
+// The index of the entry that loses permutations, if a verdict comes with a witness: refusal 11.
+pub fn losing(verdict: Result<usize, Refused>) -> Option<usize> {
     match verdict {
-        Verdict::Accepted(_) => 0,
-        Verdict::Refused(refusal, _) => number(refusal),
-    }
-}
-
-// The index of a refusal, or the number of compared cells.
-pub fn index_of(verdict: Verdict) -> usize {
-    match verdict {
-        Verdict::Accepted(cells) => cells,
-        Verdict::Refused(_, index) => index,
+        Err(refused) if refused.refusal == Refusal::Irreversible => Some(refused.index),
+        _ => None,
     }
 }
 
 // Prints the permutation and the positions of a page, each with commas between its numbers.
 pub fn witness(page: &[u8]) {
-    numbers(row_at(page, 0));
-    numbers(row_at(page, ROW));
+    numbers(&Row::at(page, 0));
+    numbers(&Row::at(page, ROW));
 }
 
-// Prints the numbers of a row.
-fn numbers(row: [u8; ROW]) {
-    let n = size(row);
-    let mut i: usize = 0;
-    while i < n {
-        i += 1;
-        one_number(i, number_at(row, i));
+// Prints the numbers of a row, if it has any.
+fn numbers(row: &Row) {
+    if 0 < row.size() {
+        print::text(b" ");
     }
-}
-
-// Prints the number at a place, behind a comma if it is not the first.
-fn one_number(place: usize, x: u8) {
-    print::either(place == 1, b" ", b",");
-    print::number(wide(x));
+    print::list(row.numbers());
 }
 
 // Prints what is wrong with a witness, and nothing if all is right.
-pub fn fault(finding: Finding) {
-    match finding {
-        Finding::Right => print::text(b""),
-        Finding::Form => print::text(b" wrong: form"),
-        Finding::Prefix => print::text(b" wrong: prefix"),
-        Finding::Spacing => print::text(b" wrong: spacing"),
-        Finding::Deletion => print::text(b" wrong: deletion"),
-        Finding::Copy => print::text(b" wrong: copy"),
-        Finding::Least => print::text(b" wrong: least"),
-    }
+pub fn fault(finding: Result<(), Wrong>) {
+    print::text(match finding {
+        Ok(()) => b"",
+        Err(Wrong::Form) => b" wrong: form",
+        Err(Wrong::Prefix) => b" wrong: prefix",
+        Err(Wrong::Spacing) => b" wrong: spacing",
+        Err(Wrong::Deletion) => b" wrong: deletion",
+        Err(Wrong::Copy) => b" wrong: copy",
+        Err(Wrong::Least) => b" wrong: least",
+    });
 }

@@ -1,24 +1,14 @@
-// A page of cells: what each holds before a call, the part of it that is lent, and whether it holds
-// afterwards what it is to hold.
+// A page of cells: what each holds before a call, and whether it holds afterwards what it is to
+// hold.
 
 // what each cell holds before a call
 pub const OLD: u64 = 9876543210123456789;
 
-// The first n cells, or all of them where there are fewer.
-pub fn lent(page: &mut [u64], n: usize) -> &mut [u64] {
-    if n < page.len() { &mut page[..n] } else { page }
-}
-
 // Whether so many of the first cells hold 0 and all others what they held before.
 pub fn holds(page: &[u64], zeros: usize) -> bool {
-    let mut i: usize = 0;
-    while i < page.len() {
-        if page[i] != content(i, zeros) {
-            return false;
-        }
-        i += 1;
-    }
-    true
+    page.iter()
+        .enumerate()
+        .all(|(i, cell)| *cell == content(i, zeros))
 }
 
 // What the cell with the index i holds if so many of the first cells hold 0.

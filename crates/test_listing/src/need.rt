@@ -1,106 +1,52 @@
-// The cells that counting needs, found by addition: "(1 + the largest set) times the sum in 01"
-// (02, order 4), which is that of C(n, k) over all entries, k being the entry's length.
+// The cells that counting needs, as a formula: "(1 + the largest set) times the sum in 01"
+// (02, order 4), which is that of C(n, k) over all entries, k being the entry's length. No sum or
+// product here comes near the largest number.
 use forms::memory::{Rule, Scheme};
-use word::limits::{ENTRIES, PREFIX};
+use word::limits::PREFIX;
 
 // how many binomials of a row are kept: those for the lengths of prefixes, 0 to PREFIX
 const ROW: usize = PREFIX + 1;
 
 // The cells that a scheme needs at the length n.
-pub fn need(s: Scheme, n: usize) -> usize {
-    let once = over_entries(s, row_of(n));
-    sum(once, times(once, largest(s)))
-}
-
-// n times a, for a small n.
-pub fn times(a: usize, n: usize) -> usize {
-    let mut total: usize = 0;
-    let mut i: usize = 0;
-    while i < n {
-        let more = sum(total, a);
-        total = more;
-        i += 1;
-    }
-    total
+pub fn need(s: &Scheme, n: usize) -> usize {
+    over_entries(s, &row_of(n)).wrapping_mul(largest(s).wrapping_add(1))
 }
 
 // How many positions the entry deletes that deletes the most.
-fn largest(s: Scheme) -> usize {
-    let mut most: usize = 0;
-    let mut i: usize = 0;
-    while i < ENTRIES {
-        if s.count <= i {
-            return most;
-        }
-        let e = s.entries[i];
-        let rule = e.rule;
-        let more = larger(most, deleted_by(rule));
-        most = more;
-        i += 1;
-    }
-    most
+fn largest(s: &Scheme) -> usize {
+    s.as_slice()
+        .iter()
+        .map(|e| deleted_by(e.rule))
+        .max()
+        .unwrap_or(0)
 }
 
 // How many positions a rule deletes.
 fn deleted_by(rule: Rule) -> usize {
     match rule {
         Rule::Expand => 0,
-        Rule::Delete(d) => d.count as usize,
+        Rule::Delete(d) => usize::from(d.count),
     }
 }
 
-// The larger of two numbers.
-fn larger(a: usize, b: usize) -> usize {
-    if a < b { b } else { a }
-}
-
-// The sum of C(n, k) over all entries, from the row of n.
-fn over_entries(s: Scheme, row: [usize; ROW]) -> usize {
-    let mut total: usize = 0;
-    let mut i: usize = 0;
-    while i < ENTRIES {
-        if s.count <= i {
-            return total;
-        }
-        let e = s.entries[i];
-        let more = sum(total, binomial(row, e.length));
-        total = more;
-        i += 1;
-    }
-    total
+// The sum of C(n, k) over all entries, from the row of n. There is none of C(n, k) behind the row.
+fn over_entries(s: &Scheme, row: &[usize; ROW]) -> usize {
+    let binomials = s.as_slice().iter().filter_map(|e| row.get(e.length));
+    binomials.fold(0, |total: usize, x| total.wrapping_add(*x))
 }
 
 // C(n, 0) to C(n, 6): n times the next row after that of 0.
 fn row_of(n: usize) -> [usize; ROW] {
     let mut row = [1usize, 0, 0, 0, 0, 0, 0];
-    let mut i: usize = 0;
-    while i < n {
-        let next = row_after(row);
-        row = next;
-        i += 1;
+    for _ in 0..n {
+        step(&mut row);
     }
     row
 }
 
 // The next row of Pascal's triangle: each entry is the sum of the two above it.
-fn row_after(row: [usize; ROW]) -> [usize; ROW] {
-    [
-        1,
-        sum(row[0], row[1]),
-        sum(row[1], row[2]),
-        sum(row[2], row[3]),
-        sum(row[3], row[4]),
-        sum(row[4], row[5]),
-        sum(row[5], row[6]),
-    ]
-}
-
-// The binomial of the row for k, and 0 behind the row.
-fn binomial(row: [usize; ROW], k: usize) -> usize {
-    if k < ROW { row[k] } else { 0 }
-}
-
-// a + b. No sum here comes near the largest number.
-fn sum(a: usize, b: usize) -> usize {
-    a.wrapping_add(b)
+fn step(row: &mut [usize; ROW]) {
+    for k in (1..ROW).rev() {
+        row[k] = row[k].wrapping_add(row[k - 1]);
+    }
 }

@@ -28,12 +28,9 @@ pub fn count(n: usize) -> usize
 pub fn permutation(n: usize, number: usize) -> [u8; LONGEST] {
     let mut a = [1u8, 2, 3, 4, 5, 6, 7, 8];
     let mut rest = number;
-    let mut i: usize = 1;
-    while i < n {
-        let b = swapped(a, i, rest % (i + 1));
-        a = b;
-        i += 1;
-        rest /= i;
+    for i in 1..n.min(LONGEST) {
+        a.swap(i, rest % (i + 1));
+        rest /= i + 1;
     }
     a
 }
@@ -45,35 +42,11 @@ pub fn permutation(n: usize, number: usize) -> [u8; LONGEST] {
 pub fn ordered(n: usize, number: usize) -> [u8; LONGEST] {
     let mut a = [1u8, 2, 3, 4, 5, 6, 7, 8];
     let mut rest = number;
-    let mut i: usize = 0;
-    while i < n {
+    for i in 0..n.min(LONGEST) {
         let each = count(n - 1 - i);
-        let b = brought(a, i, i.wrapping_add(rest / each));
-        a = b;
+        let end = (i + 1).saturating_add(rest / each).min(LONGEST);
+        a[i..end].rotate_right(1);
         rest %= each;
-        i += 1;
     }
     a
-}
-
-// The entries with that at j brought to the index i, and those from there to it one place back.
-fn brought(a: [u8; LONGEST], i: usize, j: usize) -> [u8; LONGEST] {
-    let mut b = a;
-    let mut at = j;
-    while i < at {
-        let c = swapped(b, at - 1, at);
-        b = c;
-        at -= 1;
-    }
-    b
-}
-
-// The entries with those at i and j exchanged.
-fn swapped(a: [u8; LONGEST], i: usize, j: usize) -> [u8; LONGEST] {
-    let mut b = a;
-    if i < LONGEST && j < LONGEST {
-        b[i] = a[j];
-        b[j] = a[i];
-    }
-    b
 }

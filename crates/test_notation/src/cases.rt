@@ -3,22 +3,15 @@
 // of the three words.
 use crate::texts::Kind;
 use crate::{damage, line};
-use test_support::lines::{input, line_after, line_at};
+use test_support::lines::{input, lines_of};
 use test_support::parts::{before, behind, byte_at, prefix};
 
 // A line for each line of the input.
 pub fn lines() {
     let mut buffer = io::large_buffer();
     let n = input(&mut buffer);
-    each(prefix(&buffer, n));
-}
-
-// A line for each line of a text.
-fn each(text: &[u8]) {
-    let mut at: usize = 0;
-    while at < text.len() {
-        one(line_at(text, at));
-        at = line_after(text, at);
+    for case in lines_of(prefix(&buffer, n)) {
+        one(case);
     }
 }
 

@@ -1,6 +1,7 @@
 // Texts that a line of the input does not hold: with other bytes than its characters have, cut
 // inside a mark, or of the greatest length.
-use crate::line::{of_patterns, of_scheme};
+use crate::line::of;
+use crate::texts::Kind;
 use test_support::parts::prefix;
 use test_support::print;
 use word::limits::{PATTERN_TEXT, SCHEME_TEXT};
@@ -26,50 +27,79 @@ pub fn lines() {
 
 // Bytes that are no characters, or end a line.
 fn other_bytes() {
-    of_patterns(b"patterns-line-end-behind", b"{12}\n");
-    of_patterns(b"patterns-byte-0-behind", b"{12}\x00");
-    of_patterns(b"patterns-byte-255-within", b"{1\xFF2}");
-    of_scheme(b"scheme-empty-mark-line-end-behind", b"\xE2\x88\x85\n");
-    of_scheme(b"scheme-empty-mark-byte-0-behind", b"\xE2\x88\x85\x00");
+    of(Kind::Patterns, b"patterns-line-end-behind", b"{12}\n");
+    of(Kind::Patterns, b"patterns-byte-0-behind", b"{12}\x00");
+    of(Kind::Patterns, b"patterns-byte-255-within", b"{1\xFF2}");
+    of(
+        Kind::Scheme,
+        b"scheme-empty-mark-line-end-behind",
+        b"\xE2\x88\x85\n",
+    );
+    of(
+        Kind::Scheme,
+        b"scheme-empty-mark-byte-0-behind",
+        b"\xE2\x88\x85\x00",
+    );
 }
 
 // Texts that end inside a mark. The bytes that the mark lacks stand behind the end.
 fn cut_marks() {
     let mark = *b"\xE2\x88\x85";
-    of_patterns(b"patterns-empty-mark-after-1-byte", prefix(&mark, 1));
-    of_patterns(b"patterns-empty-mark-after-2-bytes", prefix(&mark, 2));
-    of_patterns(b"patterns-epsilon-after-1-byte", prefix(b"{\xCE\xB5}", 2));
-    of_scheme(b"scheme-empty-mark-after-1-byte", prefix(&mark, 1));
-    of_scheme(b"scheme-empty-mark-after-2-bytes", prefix(&mark, 2));
+    of(
+        Kind::Patterns,
+        b"patterns-empty-mark-after-1-byte",
+        prefix(&mark, 1),
+    );
+    of(
+        Kind::Patterns,
+        b"patterns-empty-mark-after-2-bytes",
+        prefix(&mark, 2),
+    );
+    of(
+        Kind::Patterns,
+        b"patterns-epsilon-after-1-byte",
+        prefix(b"{\xCE\xB5}", 2),
+    );
+    of(
+        Kind::Scheme,
+        b"scheme-empty-mark-after-1-byte",
+        prefix(&mark, 1),
+    );
+    of(
+        Kind::Scheme,
+        b"scheme-empty-mark-after-2-bytes",
+        prefix(&mark, 2),
+    );
 }
 
 // The short scheme cut after each number of bytes: ε after 3, ⟨ after 7 and 8, ⟩ after 11 and 12, ∅
 // after 16 and 17. The rest stands behind the end.
 fn cuts() {
-    let mut n: usize = 0;
-    while n <= BYTES {
-        cut_after(n);
-        n += 1;
+    for n in 0..=BYTES {
+        print::text(b"scheme-cut-after");
+        print::next_number(n as u64);
+        of(Kind::Scheme, b"", prefix(&SHORT, n));
     }
-}
-
-// The short scheme cut after n bytes.
-fn cut_after(n: usize) {
-    print::text(b"scheme-cut-after");
-    print::next_number(n as u64);
-    of_scheme(b"", prefix(&SHORT, n));
 }
 
 // The mark ∅ among spaces, and spaces alone.
 fn long_patterns() {
     let mut page = [b' '; BEYOND_SET];
-    of_patterns(b"patterns-1024-spaces", prefix(&page, PATTERN_TEXT));
-    of_patterns(b"patterns-1025-spaces", &page);
+    of(
+        Kind::Patterns,
+        b"patterns-1024-spaces",
+        prefix(&page, PATTERN_TEXT),
+    );
+    of(Kind::Patterns, b"patterns-1025-spaces", &page);
     page[500] = 0xE2;
     page[501] = 0x88;
     page[502] = 0x85;
-    of_patterns(b"patterns-in-1024-bytes", prefix(&page, PATTERN_TEXT));
-    of_patterns(b"patterns-in-1025-bytes", &page);
+    of(
+        Kind::Patterns,
+        b"patterns-in-1024-bytes",
+        prefix(&page, PATTERN_TEXT),
+    );
+    of(Kind::Patterns, b"patterns-in-1025-bytes", &page);
 }
 
 // The short scheme with spaces behind it, and spaces alone.
@@ -77,8 +107,16 @@ fn long_schemes() {
     let spaces = [b' '; BEYOND_SCHEME];
     let mut padded = spaces;
     padded[..SHORT.len()].copy_from_slice(&SHORT);
-    of_scheme(b"scheme-in-32768-bytes", prefix(&padded, SCHEME_TEXT));
-    of_scheme(b"scheme-in-32769-bytes", &padded);
-    of_scheme(b"scheme-32768-spaces", prefix(&spaces, SCHEME_TEXT));
-    of_scheme(b"scheme-32769-spaces", &spaces);
+    of(
+        Kind::Scheme,
+        b"scheme-in-32768-bytes",
+        prefix(&padded, SCHEME_TEXT),
+    );
+    of(Kind::Scheme, b"scheme-in-32769-bytes", &padded);
+    of(
+        Kind::Scheme,
+        b"scheme-32768-spaces",
+        prefix(&spaces, SCHEME_TEXT),
+    );
+    of(Kind::Scheme, b"scheme-32769-spaces", &spaces);
 }

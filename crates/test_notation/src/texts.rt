@@ -1,12 +1,10 @@
 // Texts with one byte damaged.
 use test_automaton::flat::ROOM;
-use test_support::parts::byte_at;
+use test_support::parts::{byte_at, prefix, suffix};
 
-// how many ways there are to damage a text at a byte: it is dropped, doubled, the text is cut
-// there, or the byte is changed to one of CHANGES
-pub const WAYS: usize = 20;
-// a space, digits, marks, bytes of marks, and a byte that the notation does not have
-const CHANGES: [u8; 17] = *b" 012{},()\xCE\xE2\x88\x85\x9F\xA8\xA9\xFF";
+// the bytes that another byte is changed to: a space, digits, marks, bytes of marks, and a byte
+// that the notation does not have
+pub const CHANGES: [u8; 17] = *b" 012{},()\xCE\xE2\x88\x85\x9F\xA8\xA9\xFF";
 
 // What a text is to spell.
 #[derive(Clone, Copy)]
@@ -15,73 +13,57 @@ pub enum Kind {
     Scheme,
 }
 
+// How a text is damaged at a byte.
+#[derive(Clone, Copy)]
+pub enum Damage {
+    // the byte is dropped
+    Dropped,
+    // the byte is doubled
+    Doubled,
+    // the text is cut there
+    Cut,
+    // the byte is changed to this one
+    Changed(u8),
+}
+
 // The first `length` bytes of an array.
 #[derive(Clone, Copy)]
 pub struct Text {
-    pub bytes: [u8; ROOM],
-    pub length: usize,
+    bytes: [u8; ROOM],
+    length: usize,
 }
 
-// Whether there is a text in which the byte x is damaged in this way: a byte is not changed to
-// itself.
-pub fn is_damage(x: u8, way: usize) -> bool {
-    if way < 3 {
-        return true;
+impl Text {
+    // The bytes of the text.
+    pub fn as_slice(&self) -> &[u8] {
+        prefix(&self.bytes, self.length)
     }
-    change(way) != x
-}
 
-// The text with its byte at the index `at` damaged in one way.
-pub fn damaged(text: &[u8], at: usize, way: usize) -> Text {
-    let mut bytes = [0u8; ROOM];
-    let mut i: usize = 0;
-    while i < ROOM {
-        bytes[i] = damaged_byte(text, at, way, i);
-        i += 1;
-    }
-    Text {
-        bytes,
-        length: damaged_length(text.len(), at, way),
+    // The bytes behind the text, as far as there is room.
+    fn push(&mut self, bytes: &[u8]) {
+        for x in bytes {
+            if let Some(place) = self.bytes.get_mut(self.length) {
+                *place = *x;
+                self.length = self.length.saturating_add(1);
+            }
+        }
     }
 }
 
-// How long a text of n bytes is with the byte at the index `at` damaged.
-fn damaged_length(n: usize, at: usize, way: usize) -> usize {
-    match way {
-        0 => n.wrapping_sub(1),
-        1 => n.wrapping_add(1),
-        2 => at,
-        _ => n,
+// The text with its byte at the index `at` damaged.
+pub fn damaged(text: &[u8], at: usize, damage: Damage) -> Text {
+    let x = byte_at(text, at);
+    let mut all = Text {
+        bytes: [0; ROOM],
+        length: 0,
+    };
+    all.push(prefix(text, at));
+    match damage {
+        Damage::Dropped => {}
+        Damage::Doubled => all.push(&[x, x]),
+        Damage::Cut => return all,
+        Damage::Changed(y) => all.push(&[y]),
     }
-}
-
-// The byte of the damaged text at the index i. Behind the damage each stands one place further
-// where the byte is doubled, and one place before where it is dropped.
-fn damaged_byte(text: &[u8], at: usize, way: usize, i: usize) -> u8 {
-    if i < at {
-        return byte_at(text, i);
-    }
-    if way == 0 {
-        return byte_at(text, i.wrapping_add(1));
-    }
-    if i == at {
-        return damage(byte_at(text, i), way);
-    }
-    if way == 1 {
-        return byte_at(text, i - 1);
-    }
-    byte_at(text, i)
-}
-
-// The byte in the place of x.
-fn damage(x: u8, way: usize) -> u8 {
-    if way < 3 { x } else { change(way) }
-}
-
-// The byte to which a way changes.
-fn change(way: usize) -> u8 {
-    if way < 3 {
-        return 0;
-    }
-    byte_at(&CHANGES, way - 3)
+    all.push(suffix(text, at.saturating_add(1)));
+    all
 }

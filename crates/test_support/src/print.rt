@@ -1,5 +1,4 @@
 // Writes words, numbers, refusals and line ends to standard output.
-use crate::counts::wide;
 
 // The descriptor of standard output.
 const STANDARD_OUTPUT: i32 = 1;
@@ -20,6 +19,21 @@ pub fn next_number(n: u64) {
     number(n);
 }
 
+// Writes the number at an index of a list, behind a comma if it is not the first.
+pub fn item(i: usize, n: u64) {
+    if 0 < i {
+        text(b",");
+    }
+    number(n);
+}
+
+// Writes numbers with commas between them.
+pub fn list(numbers: &[u8]) {
+    for (i, x) in numbers.iter().enumerate() {
+        item(i, u64::from(*x));
+    }
+}
+
 // Writes one of two words.
 pub fn either(so: bool, yes: &[u8], no: &[u8]) {
     if so {
@@ -32,7 +46,7 @@ pub fn either(so: bool, yes: &[u8], no: &[u8]) {
 // Writes a refusal: its number and its index.
 pub fn refused(number: u8, index: usize) {
     text(b"refused");
-    next_number(wide(number));
+    next_number(u64::from(number));
     next_number(index as u64);
 }
 

@@ -1,9 +1,6 @@
--- The invariant and the measure of the loop of `test_support::parts::find`.
-use Rattle.std.proofs.Common.{ℕ, ◌≡◌, length, get_or, ◌-◌, ◌≤◌, ◌<◌}
+-- The invariant of the loop of `test_support::parts::find`.
+use Rattle.std.proofs.Common.{ℕ, ◌≡◌, get_or, ◌≤◌, ◌<◌}
 use Rattle.test_support.proofs.parts.find.Given as goal
 
 abbrev pub invariant-loop-i : goal.invariant-loop-i
-invariant-loop-i l = (l.from ≤ l.i) × ((k : ℕ) → l.from ≤ k → k < l.i → get_or l.a k 0 ≡ l.x → ⊥)
-
-abbrev pub decreases-loop-i : goal.decreases-loop-i
-decreases-loop-i l = length l.a - l.i
+invariant-loop-i l = (k : ℕ) → l.from ≤ k → k < l.i → get_or l.a k 0 ≡ l.x → ⊥

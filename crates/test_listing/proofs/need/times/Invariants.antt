@@ -1,6 +1,0 @@
--- The invariant and the measure of the loop of `test_listing::need::times`.
-use Rattle.std.proofs.Common.{◌-◌}
-use Rattle.test_listing.proofs.need.times.Given as goal
-
-abbrev pub decreases-loop-i : goal.decreases-loop-i
-decreases-loop-i l = l.n - l.i
