@@ -78,7 +78,9 @@ impl Cursor {
     }
 }
 
-// The place behind the digits that stand from `from` on.
+// The place behind the digits that stand from `from` on. A function of its own in the code too:
+// with its loop inside the readers' a run of digits takes twice as long.
+#[inline(never)]
 fn past_digits(s: &[u8], from: usize) -> usize
     ensures { result ≡ from + length (run (drop from s.now)) }
 {
