@@ -11,7 +11,7 @@ ghost use Rattle.appending.specs.Appending.{Shortest, RuledOut};
 ghost use Rattle.appending.specs.Pairs.{pair_allowed, all_pairs};
 
 use arrangement::exchange::exchanged;
-use arrangement::searched::{Searched, one_less};
+use arrangement::searched::{Searched, is_spent, one_less};
 use completion::all_allowed;
 use containment::any_in;
 use crowding::is_crowded;
@@ -58,7 +58,7 @@ fn append(patterns: &[Pattern], word: [u8; WORD], len: usize, limits: Limits) ->
     if len == limits.n {
         return Searched::Completed(word);
     }
-    if let Some(0) = limits.budget {
+    if is_spent(limits.budget) {
         return Searched::Undecided;
     }
     let mut left = one_less(limits.budget);

@@ -1,4 +1,5 @@
 -- The definitions of the crate arrangement, and then its laws.
+pub mod Budget
 pub mod Exchange
 pub mod Said
 pub mod Searching

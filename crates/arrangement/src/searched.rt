@@ -1,6 +1,7 @@
 // What a search for a completion says, and how many words it may still try.
 ghost use Rattle.std.specs.Prelude.{◌≡◌, ◌||◌, is_none};
 ghost use Rattle.arrangement.specs.Said.{said_yes, said_no};
+ghost use Rattle.arrangement.specs.Budget.{less_one, spent};
 
 use word::limits::WORD;
 
@@ -28,7 +29,18 @@ impl Searched {
 
 // A budget with one word less.
 pub fn one_less(budget: Option<usize>) -> Option<usize>
-    ensures { is_none result ≡ is_none budget }
+    ensures value { result ≡ less_one budget }
+    ensures endless { is_none result ≡ is_none budget }
 {
     budget.map(|words| words.saturating_sub(1))
+}
+
+// Whether no word may be tried any more.
+pub fn is_spent(budget: Option<usize>) -> bool
+    ensures { result ≡ spent budget }
+{
+    match budget {
+        Some(words) => words == 0,
+        None => false,
+    }
 }

@@ -11,7 +11,7 @@ ghost use Rattle.arrangement.specs.Searching.{Searches};
 ghost use Rattle.insertion.specs.Insertion.{PutsIn};
 
 use arrangement::exchange::exchanged;
-use arrangement::searched::{Searched, one_less};
+use arrangement::searched::{Searched, is_spent, one_less};
 use containment::any_in;
 use forms::memory::Pattern;
 use word::limits::WORD;
@@ -47,7 +47,7 @@ fn put_in(patterns: &[Pattern], word: [u8; WORD], len: usize, span: Span) -> Sea
     if len == span.n {
         return Searched::Completed(word);
     }
-    if let Some(0) = span.budget {
+    if is_spent(span.budget) {
         return Searched::Undecided;
     }
     let mut w = word;

@@ -50,14 +50,14 @@ granted : (t : ℕ) (c : After-append t) →
     (take (c.args.len + 1) (exchange c.args.len c.loop-j.j c.loop-j.w)) c.append.result
 granted t c = rw c.exchanged-next.ensures at c.append.ensures
 
-pub returns-in_default-append : goal.returns-in_default-append
-returns-in_default-append t c =
+pub returns-in_default : goal.returns-in_default
+returns-in_default t c =
     let a = c.args in
     let l = c.loop-j in
     let long : length a.word ≡ 20 = search rules in
     tries_passed (held_in a.patterns.now) a.limits.n a.word a.len (omega arith) (omega arith)
     c.requires.2 l.j l.w l.invariant (omega arith) c.append.result
-    c.in_default-append.not-Impossible (granted t (goal.at.returns-in_default-append t c).After-append)
+    c.in_default.not-Impossible (granted t (goal.at.returns-in_default t c).After-append)
 
 pub loop-j-preserved : goal.loop-j-preserved
 loop-j-preserved t c =

@@ -35,7 +35,7 @@ places-init t c =
     let a = c.args in
     let long : length a.word ≡ 20 = search rules in
     let start = turns_start (held_in a.patterns.now) a.span.n a.span.fixed a.word a.len (omega arith) (omega arith) (omega arith) in
-    (start, c.one_less-left.ensures)
+    (start, c.one_less-left.ensures.endless)
 
 pub put_in-requires : goal.put_in-requires
 put_in-requires t c =
@@ -49,13 +49,13 @@ granted : (t : ℕ) (c : After-put_in t) →
     (is_none c.args.span.budget) c.put_in.result
 granted t c = rw c.places.invariant.1 at c.put_in.ensures
 
-pub returns-in_default-put_in : goal.returns-in_default-put_in
-returns-in_default-put_in t c =
+pub returns-in_default : goal.returns-in_default
+returns-in_default t c =
     let a = c.args in
     let l = c.places in
     passed_on (held_in a.patterns.now) a.span.n a.span.fixed a.word a.len l.place l.w (is_none a.span.budget) c.put_in.result
-    (omega arith) l.invariant.0 c.in_default-put_in.not-Impossible
-    (granted t (goal.at.returns-in_default-put_in t c).After-put_in)
+    (omega arith) l.invariant.0 c.in_default.not-Impossible
+    (granted t (goal.at.returns-in_default t c).After-put_in)
 
 pub returns-then-place-fixed : goal.returns-then-place-fixed
 returns-then-place-fixed t c =
