@@ -7,7 +7,7 @@ ghost use Rattle.std.specs.Result.{ForOk};
 ghost use Rattle.std.specs.IoError.{raw_os_error};
 ghost use Rattle.table_reading.specs.declared.State.TheVariants.{End};
 ghost use Rattle.table_lines.specs.Kept.{memory_of, kept_of};
-ghost use Rattle.table_reading.specs.Reads.{state_after, after_of, taken_of, ReadsSome, ReadsAll};
+ghost use Rattle.table_reading.specs.Reads.{state_after, after_of, taken_of, has_more, ReadsSome, ReadsAll};
 
 use std::io::{Read, Result, Stdin};
 use table_lines::input::{Lines, keep, nothing};
@@ -21,6 +21,15 @@ pub enum State {
     More,
     End,
     Failed,
+}
+
+impl State {
+    // Whether there may be more of the input.
+    fn has_more(self) -> bool
+        ensures { result ≡ has_more self }
+    {
+        self == State::More
+    }
 }
 
 // What was kept of the input so far, beside the two buffers, and the number of the error of the
@@ -49,7 +58,7 @@ pub fn read_all(input: Stdin, set: &mut [u8], scheme: &mut [u8]) -> Reading
     for _ in 0..u64::MAX {
         let next = read_some(input, reading.lines, set, scheme, &mut chunk);
         reading = next;
-        if next.state != State::More {
+        if !next.state.has_more() {
             break;
         }
     }

@@ -48,20 +48,20 @@ shape_of-scheme-after-loop c = c.loop.invariant.scheme_size
 pub returns-after-loop : goal.returns-after-loop
 returns-after-loop c = record { kept = c.loop.invariant.reads; error = c.loop.invariant.clean }
 
-pub shape_of-set-then-ne : goal.shape_of-set-then-ne
-shape_of-set-then-ne c =
+pub shape_of-set-then-not-has_more : goal.shape_of-set-then-not-has_more
+shape_of-set-then-not-has_more c =
     let l = c.loop in
     let k = l.invariant.set_size in
     search rules
 
-pub shape_of-scheme-then-ne : goal.shape_of-scheme-then-ne
-shape_of-scheme-then-ne c =
+pub shape_of-scheme-then-not-has_more : goal.shape_of-scheme-then-not-has_more
+shape_of-scheme-then-not-has_more c =
     let l = c.loop in
     let k = l.invariant.scheme_size in
     search rules
 
-pub returns-then-ne : goal.returns-then-ne
-returns-then-ne c =
+pub returns-then-not-has_more : goal.returns-then-not-has_more
+returns-then-not-has_more c =
     let r = c.read_some-next in
     let l = c.loop in
     record { kept = reads_on _ _ l.invariant.reads r.ensures.kept; error = r.ensures.error }
