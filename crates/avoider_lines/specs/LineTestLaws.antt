@@ -25,9 +25,10 @@ use Rattle.table_lines.specs.Lines.{number_in}
 use Rattle.table_lines.specs.Kept.{set_room, Memory, kept_of, as_number}
 use Rattle.avoider_lines.specs.TwoLines.{Two, two_lines, is_two, held_two, two_in}
 use Rattle.avoider_lines.specs.TwoLineLaws.{fronts_if, kept_two}
-use Rattle.avoider_lines.specs.LineTests.{set_found, length_found, value_of, patterns_or, line_tests, set_asked, length_asked}
-use Rattle.avoider_lines.specs.LineTests.{Asks, AsksFor, AsksBy}
+use Rattle.avoider_lines.specs.LineTests.{set_found, length_found, value_of, patterns_or}
+use Rattle.avoider_lines.specs.LineTests.{fault_in, Asks, AsksFor, AsksBy}
 use Rattle.avoider_lines.specs.declared.judging.Asked.{Asked}
+use Rattle.avoider_lines.specs.declared.judging.Wrong.{Wrong}
 
 -- the fault in the answer to a text is what the tests of the first line find
 pub set_found_lem : (s : List ℕ) → read_fault (patterns_answer s) ≡ fault_of (set_found s)
@@ -69,42 +70,29 @@ found_cut s =
     found_answer (take set_room s) ∙ answer_cut fault (λ (P : List (List ℕ)). first_fault (pattern_tests P)) PATTERN_TEXT read_patterns s ∙
     sym (found_answer s)
 
-asks_fronts : (o : Maybe Two) (r : Result Asked Refused) → Asks (fronts_if o) r → Asks o r
+asks_fronts : (o : Maybe Two) (r : Result Asked Wrong) → Asks (fronts_if o) r → Asks o r
 asks_fronts none r a = a
-asks_fronts (some t) r a = by r a.fault a.patterns a.length
-  where
-    number : as_number (number_in (take (suc (suc (suc 32766))) t.last)) ≡ as_number (number_in t.last)
-    number = ap as_number (number_cut 32766 t.last)
+asks_fronts (some t) r a =
+    let number = ap as_number (number_cut 32766 t.last) in
+    record {
+      fault = a.fault ∙
+          ap₂ (λ (x : Finding) (m : Option ℕ). fault_of (first_fault (x ∷ length_found m ∷ []))) (found_cut t.set) number;
+      patterns = a.patterns ∙ ap patterns_or (set_cut t.set);
+      length = a.length ∙ ap value_of number;
+    }
 
-    same : (f : Fault) → f ≡ fault_of (first_fault (set_found (take set_room t.set) ∷ length_found
-        (as_number (number_in (take (suc (suc (suc 32766))) t.last))) ∷ []))
-        → f ≡ fault_of (first_fault (set_found t.set ∷ length_found (as_number (number_in t.last)) ∷ []))
-    same f e = e ∙ ap₂ (λ (x : Finding) (m : Option ℕ). fault_of (first_fault (x ∷ length_found m ∷ []))) (found_cut t.set) number
-
-    by : (q : Result Asked Refused) → read_fault q ≡ fault_of (first_fault (line_tests (fronts_if (some t))))
-        → IfOk q (λ x. x.patterns ≡ set_asked (fronts_if (some t))) → IfOk q (λ x. x.length ≡ length_asked (fronts_if (some t)))
-        → Asks (some t) q
-    by (Ok x) e f g =
-        record { fault = same _ e; patterns = f ∙ ap patterns_or (set_cut t.set); length = g ∙ ap value_of number }
-    by (Err x) e f g = record { fault = same _ e; patterns = tt; length = tt }
-
-asks_lines : (t : Two) (r : Result Asked Refused) → AsksBy (patterns_answer t.set) (as_number (number_in t.last)) r → Asks (some t) r
-asks_lines t r a = by r a
-  where
-    m : Option ℕ
-    m = as_number (number_in t.last)
-
-    same : (f : Fault) → f ≡ or_else (read_fault (patterns_answer t.set)) (fault_of (length_found m))
-        → f ≡ fault_of (first_fault (set_found t.set ∷ length_found m ∷ []))
-    same f e = e ∙ ap (λ (g : Fault). or_else g (fault_of (length_found m))) (set_found_lem t.set) ∙
-        sym (two_faults (set_found t.set) (length_found m))
-
-    by : (q : Result Asked Refused) → AsksBy (patterns_answer t.set) m q → Asks (some t) q
-    by (Ok x) b = record { fault = same _ b.0; patterns = b.1.0; length = b.1.1 }
-    by (Err x) b = record { fault = same _ b.0; patterns = tt; length = tt }
+asks_lines : (t : Two) (r : Result Asked Wrong) → AsksBy (patterns_answer t.set) (as_number (number_in t.last)) r → Asks (some t) r
+asks_lines t r a =
+    let m = as_number (number_in t.last) in
+    record {
+      fault = a.0 ∙ ap (λ (f : Fault). or_else f (fault_of (length_found m))) (set_found_lem t.set) ∙
+          sym (two_faults (set_found t.set) (length_found m));
+      patterns = a.1;
+      length = a.2;
+    }
 
 -- what is asked for by the lines in memory is asked for by those of the input
-held_kept : (memory : Memory) (r : Result Asked Refused) → Asks (two_in memory) r → (input : List ℕ) → memory ≡ kept_of input →
+held_kept : (memory : Memory) (r : Result Asked Wrong) → Asks (two_in memory) r → (input : List ℕ) → memory ≡ kept_of input →
     Asks (two_lines input) r
 held_kept memory r a input e =
     asks_fronts (two_lines input) r (subst (λ (o : Maybe Two). Asks o r) (ap two_in e ∙ kept_two input) a)
@@ -129,23 +117,24 @@ read_same : (p : PatternsRead) → read_fault p ≡ Ok tt → read_list patterns
 read_same (Ok m) e = refl
 read_same (Err x) e = absurd (err_ne_ok x e)
 
-module _ (memory : Memory) where
+module _ (memory : Memory) (r : Result Asked Wrong) where
   -- a line is missing, or there is a third
-  pub asks_missing : is_two memory.lines ≡ false → (x : Refused) → x ≡ refused_at Misspelt 0 → AsksFor memory (Err x)
-  asks_missing e x f =
-      let none_asked : Asks none (Err x) = record { fault = ap refusal f; patterns = tt; length = tt } in
-      let held : Asks (two_in memory) (Err x) =
-      subst (λ (b : Bool). Asks (cond b (some (held_two memory)) none) (Err x)) (sym e) none_asked in
-      record { held = held; kept = held_kept memory (Err x) held; passes = tt }
+  pub asks_missing : is_two memory.lines ≡ false → Asks none r → AsksFor memory r
+  asks_missing e a =
+      let held : Asks (two_in memory) r =
+      subst (λ (b : Bool). Asks (cond b (some (held_two memory)) none) r) (sym e) a in
+      record { held = held; kept = held_kept memory r held; passes = by r a.fault }
     where
-      refusal : Refused → Fault
-      refusal y = Err y
+      by : (q : Result Asked Wrong) → fault_in q ≡ Err (refused_at Misspelt 0)
+          → IfOk q (λ x. (first_fault (pattern_tests (patterns_in x.patterns)) ≡ clean) × (x.length ≤ WORD))
+      by (Ok x) f = absurd (err_ne_ok (refused_at Misspelt 0) (sym f))
+      by (Err w) f = tt
 
   -- both lines are there
   pub asks_both : is_two memory.lines ≡ true → (p : PatternsRead) →
       p ≡ patterns_answer (held_two memory).set → (m : Option ℕ) → m ≡ as_number (number_in (held_two memory).last) →
-      (r : Result Asked Refused) → AsksBy p m r → AsksFor memory r
-  asks_both e p answers m number r a =
+      AsksBy p m r → AsksFor memory r
+  asks_both e p answers m number a =
       record { held = held; kept = held_kept memory r held; passes = by r a }
     where
       t : Two
@@ -158,15 +147,15 @@ module _ (memory : Memory) where
       held : Asks (two_in memory) r
       held = subst (λ (b : Bool). Asks (cond b (some t) none) r) (sym e) lines
 
-      by : (q : Result Asked Refused) → AsksBy p m q
+      by : (q : Result Asked Wrong) → AsksBy p m q
           → IfOk q (λ x. (first_fault (pattern_tests (patterns_in x.patterns)) ≡ clean) × (x.length ≤ WORD))
-      by (Err x) b = tt
+      by (Err w) b = tt
       by (Ok x) b =
           let both = both_clean (read_fault p) (fault_of (length_found m)) (sym b.0) in (
-            ap (λ (q : Patterns). first_fault (pattern_tests (patterns_in q))) b.1.0
+            ap (λ (q : Patterns). first_fault (pattern_tests (patterns_in q))) b.1
                 ∙ sym (ap (λ (l : List (List ℕ)). first_fault (pattern_tests l)) (read_same p both.0))
                 ∙ (answered t.set p answers).1.passes both.0,
-            subst (λ (k : ℕ). k ≤ WORD) (sym b.1.1) (length_within m both.1),
+            subst (λ (k : ℕ). k ≤ WORD) (sym b.2) (length_within m both.1),
           )
 
 -- the length, as the code tests it

@@ -6,7 +6,7 @@ use Rattle.word.specs.Ceilings.{PATTERN_TEXT, WORD}
 use Rattle.word.specs.Finding.{Finding, clean, fault, test, first_fault}
 use Rattle.word.specs.declared.refusal.Refusal.TheVariants.{Misspelt, Oversize}
 use Rattle.scheme.specs.WellFormed.{pattern_tests}
-use Rattle.forms.specs.SchemeMemory.{patterns_in, fault_of, or_else}
+use Rattle.forms.specs.SchemeMemory.{Fault, patterns_in, fault_of, or_else}
 use Rattle.forms.specs.declared.memory.Patterns.{Patterns}
 use Rattle.word.specs.declared.refusal.Refused.{Refused}
 use Rattle.text_grammar.specs.Grammar.{read_patterns}
@@ -17,6 +17,7 @@ use Rattle.table_lines.specs.Lines.{number_in}
 use Rattle.table_lines.specs.Kept.{Memory, kept_of, as_number}
 use Rattle.avoider_lines.specs.TwoLines.{Two, two_lines, two_in}
 use Rattle.avoider_lines.specs.declared.judging.Asked.{Asked}
+use Rattle.avoider_lines.specs.declared.judging.Wrong.{Wrong}
 
 -- the first line: the tests 1 to 4 of a set, with their index
 abbrev pub set_found : List ℕ → Finding
@@ -51,14 +52,23 @@ abbrev pub length_asked : Maybe Two → ℕ
 length_asked none = 0
 length_asked (some t) = value_of (as_number (number_in t.last))
 
+-- the finding in an answer, and what is asked for, which stands beside a refusal too
+abbrev pub fault_in : Result Asked Wrong → Fault
+fault_in (Ok a) = Ok tt
+fault_in (Err w) = Err w.refused
+
+abbrev pub asked_in : Result Asked Wrong → Asked
+asked_in (Ok a) = a
+asked_in (Err w) = w.asked
+
 -- r is what the two lines ask for, or what is wrong with them
-pub record Asks (lines : Maybe Two) (r : Result Asked Refused) : Type 0 where
-  pub fault : read_fault r ≡ fault_of (first_fault (line_tests lines))
-  pub patterns : IfOk r (λ a. a.patterns ≡ set_asked lines)
-  pub length : IfOk r (λ a. a.length ≡ length_asked lines)
+pub record Asks (lines : Maybe Two) (r : Result Asked Wrong) : Type 0 where
+  pub fault : fault_in r ≡ fault_of (first_fault (line_tests lines))
+  pub patterns : (asked_in r).patterns ≡ set_asked lines
+  pub length : (asked_in r).length ≡ length_asked lines
 
 -- r is what the lines in memory ask for
-pub record AsksFor (memory : Memory) (r : Result Asked Refused) : Type 0 where
+pub record AsksFor (memory : Memory) (r : Result Asked Wrong) : Type 0 where
   pub held : Asks (two_in memory) r
   -- where they were kept of an input, it is what the lines of that input ask for
   pub kept : (input : List ℕ) → memory ≡ kept_of input → Asks (two_lines input) r
@@ -66,9 +76,9 @@ pub record AsksFor (memory : Memory) (r : Result Asked Refused) : Type 0 where
   pub passes : IfOk r (λ a. (first_fault (pattern_tests (patterns_in a.patterns)) ≡ clean) × (a.length ≤ WORD))
 
 -- r is what a set that was read and a number ask for
-abbrev pub AsksBy : PatternsRead → Option ℕ → Result Asked Refused → Type 0
-AsksBy p m r = (read_fault r ≡ or_else (read_fault p) (fault_of (length_found m))) ×
-    IfOk r (λ a. (a.patterns ≡ patterns_or p) × (a.length ≡ value_of m))
+abbrev pub AsksBy : PatternsRead → Option ℕ → Result Asked Wrong → Type 0
+AsksBy p m r = (fault_in r ≡ or_else (read_fault p) (fault_of (length_found m))) × ((asked_in r).patterns ≡ patterns_or p) ×
+    ((asked_in r).length ≡ value_of m)
 
 -- r is the length that a number asks for
 abbrev pub LengthBy : Option ℕ → Result ℕ Refused → Type 0

@@ -36,7 +36,7 @@ fn read_failed(rt: HostRuntime, error: i32) -> std::io::Result<()> {
 fn answer(rt: HostRuntime, lines: Lines, set: &[u8], second: &[u8]) -> std::io::Result<()> {
     match asked_for(lines, set, second) {
         Ok(asked) => print_avoiders(rt, asked.patterns, asked.length),
-        Err(refused) => print_refusal(rt, refused),
+        Err(wrong) => print_refusal(rt, wrong.refused),
     }
 }
 
