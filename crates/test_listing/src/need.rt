@@ -14,8 +14,9 @@ pub fn need(s: &Scheme, n: usize) -> usize {
 
 // How many positions the entry deletes that deletes the most.
 fn largest(s: &Scheme) -> usize {
-    s.as_slice()
+    s.entries
         .iter()
+        .take(s.count)
         .map(|e| deleted_by(e.rule))
         .max()
         .unwrap_or(0)
@@ -31,7 +32,8 @@ fn deleted_by(rule: Rule) -> usize {
 
 // The sum of C(n, k) over all entries, from the row of n. There is none of C(n, k) behind the row.
 fn over_entries(s: &Scheme, row: &[usize; ROW]) -> usize {
-    let binomials = s.as_slice().iter().filter_map(|e| row.get(e.length));
+    let entries = s.entries.iter().take(s.count);
+    let binomials = entries.filter_map(|e| row.get(e.length));
     binomials.fold(0, |total: usize, x| total.wrapping_add(*x))
 }
 
