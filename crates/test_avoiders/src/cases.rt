@@ -5,7 +5,7 @@ use forms::memory::Patterns;
 use test_support::parts::{before, behind, byte_at, prefix};
 use test_support::print;
 use test_support::spelt::{decimal, entries};
-use text_patterns::pattern_reader::load_patterns;
+use text_patterns::pattern_reader::{load_patterns, no_patterns};
 
 // the first of the bytes that ε is
 const EPSILON: u8 = 0xCE;
@@ -35,10 +35,9 @@ fn line<F: Fn(&Patterns) -> Left>(words: &[u8], n: usize, call: F)
     requires { F.IsAlwaysCallable call }
 {
     print::text(before(words, b' '));
-    match load_patterns(before(behind(words, b' '), b' ')) {
-        Some(patterns) => call(&patterns).print(n),
-        None => print::text(b" unread"),
-    }
+    // a text that spells no set stands for a set of none
+    let patterns = load_patterns(before(behind(words, b' '), b' ')).unwrap_or(no_patterns());
+    call(&patterns).print(n);
     print::end();
 }
 

@@ -8,6 +8,7 @@ use test_listing::sets::avoids;
 use test_listing::words::is_permutation;
 use test_support::counts::count_if;
 use test_support::print;
+use text_patterns::pattern_reader::no_patterns;
 
 // the length of the avoiders
 const LENGTH: usize = 20;
@@ -22,13 +23,13 @@ struct Way {
     goes_on: bool,
 }
 
-// Prints the line of a set.
+// Prints the line of a set. It says where the text is refused, and goes on with a set of none.
 pub fn line(set: &[u8]) {
     print::text(set);
-    match read_patterns(set) {
-        Ok(patterns) => of_first(&patterns, &first(&patterns, LENGTH, PAGE)),
-        Err(_) => print::text(b" unread"),
-    }
+    let read = read_patterns(set);
+    print::either(read.is_err(), b" unread", b"");
+    let patterns = read.unwrap_or(no_patterns());
+    of_first(&patterns, &first(&patterns, LENGTH, PAGE));
     print::end();
 }
 
