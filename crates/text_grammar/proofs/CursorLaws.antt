@@ -11,7 +11,7 @@ use mathlib.Core.List.{List, [], ◌∷◌}
 use lib.ListN.{length, get_or, take, drop, length-drop, length-map, drop_of_length-le}
 use lib.Seq.{drop-cons, drop-drop, take_all}
 use lib.Dec.{eqb}
-use borrow.Author.Tests.{eq-eqb, eqb-true}
+use borrow.Author.Tests.{eq-eqb, eqb-true, ne_eqb}
 use Rattle.std.specs.List.{starts_with}
 use Rattle.word.specs.ListLaws.{and_right, below_or_not, same_test}
 use Rattle.text_grammar.specs.Spelling.{Token, digits, epsilon, empty, left, right, byte, bytes_of}
@@ -66,6 +66,18 @@ module _ (x : ℕ) (t : List ℕ) where
         pub is_byte_lem : begins (bytes_of right) t ≡ false → mark_of x t ≡ Byte x
         unfolding mark_of
         is_byte_lem d = rw (a, b, c, d)
+
+-- a byte below 0x80 is no first byte of a mark
+pub plain : (x : ℕ) (s : List ℕ) → 0 < length s → get_or s 0 0 < 0x80 → mark_of x s ≡ Byte x
+plain x [] h l = absurd (omega arith)
+plain x (b ∷ s) h l =
+    is_byte_lem x (b ∷ s) (other (bytes_of epsilon) 0xCE (0xB5 ∷ []) refl (omega arith))
+    (other (bytes_of empty) 0xE2 (0x88 ∷ 0x85 ∷ []) refl (omega arith))
+    (other (bytes_of left) 0xE2 (0x9F ∷ 0xA8 ∷ []) refl (omega arith))
+    (other (bytes_of right) 0xE2 (0x9F ∷ 0xA9 ∷ []) refl (omega arith))
+  where
+    other : (m : List ℕ) (a : ℕ) (r : List ℕ) → m ≡ a ∷ r → (b ≡ a → ⊥) → begins m (b ∷ s) ≡ false
+    other m a r e n = rw (e, ne_eqb b a n) refl
 
 -- spaces
 
